@@ -1,0 +1,5 @@
+-- Small definitions that the other crates' definitions are written with.
+pub mod Backward
+pub mod Choose
+pub mod Lists
+pub mod Signed

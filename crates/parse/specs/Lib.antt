@@ -1,0 +1,3 @@
+-- Big-endian numbers in a table.
+pub mod Reads
+pub mod Use
