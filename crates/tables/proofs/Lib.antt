@@ -1,0 +1,6 @@
+-- Laws behind the functions' proofs and the theorems.
+mod Halving
+mod Scanning
+pub mod Surveys
+pub mod Finding
+pub mod ManualLookup

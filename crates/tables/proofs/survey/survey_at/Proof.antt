@@ -1,0 +1,71 @@
+use mathlib.Core.Path.{sym, _∙_}
+use Rattle.tables.specs.Survey.{surveyIn, surveyAt}
+use borrow.Author.Needs.{needs}
+use Rattle.tables.proofs.survey.survey_at.Statement.{statement}
+use Rattle.tables.proofs.survey.survey_at.Tie as tie
+
+read-u16-requires : tie.Need-read-u16-requires
+read-u16-requires c κs = search needs
+
+enum-known-number : tie.Need-enum-known-number
+enum-known-number c = search needs
+
+enum-told : tie.Need-enum-told
+enum-told c = search needs
+
+returns : tie.Need-returns
+unfolding surveyAt surveyIn
+returns c = rw (sym (c .before .before .read-u16 .ensures) ∙ c .enum-told .given .1, surveyAt)
+
+format-of-requires : tie.Need-format-of-requires
+format-of-requires c κs = search needs
+
+enum-known-format : tie.Need-enum-known-format
+enum-known-format c = search needs
+
+survey-counted-requires : tie.Need-survey-counted-requires
+survey-counted-requires c κs = search needs
+
+enum-told-2 : tie.Need-enum-told-2
+enum-told-2 c = search needs
+
+enum-told-3 : tie.Need-enum-told-3
+enum-told-3 c = search needs
+
+enum-told-4 : tie.Need-enum-told-4
+enum-told-4 c = search needs
+
+returns-2 : tie.Need-returns-2
+unfolding surveyAt surveyIn
+returns-2 c = rw (sym (c .before .before .before .before .before .before .before .before .read-u16 .ensures) ∙ c .before .before .before .before .before .before .number .given .1, sym (c .before .before .before .before .format-of .ensures) ∙ c .before .before .format .given .1, c .survey-counted .ensures, surveyAt)
+
+returns-3 : tie.Need-returns-3
+unfolding surveyAt surveyIn
+returns-3 c = rw (sym (c .before .before .before .before .before .before .read-u16 .ensures) ∙ c .before .before .before .before .number .given .1, sym (c .before .before .format-of .ensures) ∙ c .enum-told2 .given .1, surveyAt)
+
+returns-4 : tie.Need-returns-4
+unfolding surveyAt surveyIn
+returns-4 c = rw (sym (c .before .before .before .before .before .before .read-u16 .ensures) ∙ c .before .before .before .before .number .given .1, sym (c .before .before .format-of .ensures) ∙ c .enum-told3 .given .1, surveyAt)
+
+returns-5 : tie.Need-returns-5
+unfolding surveyAt surveyIn
+returns-5 c = rw (sym (c .before .before .before .before .before .before .read-u16 .ensures) ∙ c .before .before .before .before .number .given .1, sym (c .before .before .format-of .ensures) ∙ c .enum-told4 .given .1, surveyAt)
+
+pub survey-at-spec : {M : Type 1} → statement M
+survey-at-spec =
+    tie.close
+    (tie.spec
+    read-u16-requires
+    enum-known-number
+    enum-told
+    returns
+    format-of-requires
+    enum-known-format
+    survey-counted-requires
+    enum-told-2
+    enum-told-3
+    enum-told-4
+    returns-2
+    returns-3
+    returns-4
+    returns-5)

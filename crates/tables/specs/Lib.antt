@@ -1,0 +1,7 @@
+-- Lookup tables: the crate's reading of them, and the manual's.
+pub mod Records
+pub mod Search
+pub mod Lookup
+pub mod Survey
+pub mod Order
+pub mod ManualLookup
