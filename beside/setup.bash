@@ -1,0 +1,66 @@
+# What run and bench share: where things lie, a Rust compiler, and the archive of the proved entries.
+# BESIDE_ARCHIVE names another archive, to see that wrong entries are caught.
+set -euo pipefail
+
+top=$(cd "$(dirname "${BASH_SOURCE[0]}")/.." && pwd)
+built=$top/target/beside
+archive=${BESIDE_ARCHIVE:-$top/target/staticlib/libfirmware.a}
+mkdir -p "$built"
+
+give_up() { # STATUS WORDS..
+    echo "${*:2}" >&2
+    exit "$1"
+}
+
+# Runs a command and shows what it says only if it fails.
+quietly() {
+    "$@" >"$built/log" 2>&1 || { cat "$built/log" >&2; return 2; }
+}
+
+as_root() {
+    if [ "$(id -u)" = 0 ]; then "$@"; else sudo -n "$@"; fi
+}
+
+install_rustc() {
+    export DEBIAN_FRONTEND=noninteractive
+    as_root apt-get install -y rustc || { as_root apt-get update && as_root apt-get install -y rustc; }
+}
+
+is_new_enough() { # RUSTC
+    local version
+    version=$("$1" --version 2>/dev/null | cut -d ' ' -f 2) || return 1
+    [ "$(printf '%s\n' 1.63 "$version" | sort -V | head -n 1)" = 1.63 ]
+}
+
+choose_rustc() {
+    for rustc in rustc "${HOME:-}/.cargo/bin/rustc" /usr/bin/rustc; do
+        if is_new_enough "$rustc"; then return; fi
+    done
+    return 1
+}
+
+find_rustc() {
+    choose_rustc && return
+    echo "installing rustc" >&2
+    install_rustc >"$built/log" 2>&1 || true
+    choose_rustc || give_up 77 "there is no rustc 1.63 or newer and none could be installed, so nothing was compared"
+}
+
+find_kit() {
+    local rt
+    rt=$(command -v rt) || give_up 2 "rt is not in the path"
+    kit=${RATTLE_HOME:-$(dirname "$(dirname "$(readlink -f "$rt")")")}
+    tools=$kit/on/$(uname -m)
+}
+
+# Whether a file is missing or older than one of its sources.
+is_stale() { # FILE SOURCE..
+    [ ! -e "$1" ] || [ -n "$(find "${@:2}" -newer "$1" -print -quit)" ]
+}
+
+find_archive() {
+    if [ -n "${BESIDE_ARCHIVE:-}" ]; then return; fi
+    if is_stale "$archive" "$top/crates.txt" "$top"/crates/*/{src,specs,proofs}; then
+        (cd "$top" && rt staticlib firmware) >&2 || give_up 2 "there is no archive to compare"
+    fi
+}

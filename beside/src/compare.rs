@@ -1,0 +1,181 @@
+//! Questions to both sides, their answers compared, and what is said of a difference.
+
+use crate::oracle::Fault;
+use crate::pipe::{lend_table, TheBox};
+use crate::progress::Progress;
+use std::rc::Rc;
+
+/// One call of an exported entry, and what is right for it.
+///
+/// `held` is a number that changes from question to question. A question lends parts of it where
+/// the entry may write, so that what a call left alone can be told from what it wrote.
+pub trait Question {
+    /// The entry's number on the pipe and in the sample.
+    fn entry(&self) -> u8;
+    /// Adds the call's arguments.
+    fn arguments(&self, held: u64, call: &mut Vec<u8>);
+    /// Adds the reply that the crate's answer asks for.
+    fn reply(&self, table: &[u8], held: u64, reply: &mut Vec<u8>) -> Result<(), Fault>;
+    /// Adds the question and its answer as the sample has them, after the table.
+    fn sample(&self, table: &[u8], sample: &mut Vec<u8>) -> Result<(), Fault>;
+    /// The question in words, with what it lends.
+    fn describe(&self, held: u64) -> String;
+    /// A reply to it in words.
+    fn describe_reply(&self, reply: &[u8]) -> String;
+}
+
+/// Whoever the questions are put to.
+pub trait Ask {
+    /// Takes a question about a table.
+    fn ask(&mut self, table: &Rc<[u8]>, question: Box<dyn Question>);
+}
+
+/// Counts the questions and asks nobody.
+#[derive(Default)]
+pub struct Count(pub u64);
+
+impl Ask for Count {
+    fn ask(&mut self, _table: &Rc<[u8]>, _question: Box<dyn Question>) {
+        self.0 += 1;
+    }
+}
+
+/// How the comparison went.
+#[derive(Default)]
+pub struct Totals {
+    pub cases: u64,
+    pub differences: u64,
+    /// Those of the differences where the crate panicked.
+    pub panics: u64,
+}
+
+/// Puts each question to the crate and to the box, a batch at a time.
+pub struct Comparison {
+    the_box: TheBox,
+    progress: Progress,
+    totals: Totals,
+    lent: Option<Rc<[u8]>>,
+    calls: Vec<u8>,
+    expected: Vec<u8>,
+    waiting: Vec<Waiting>,
+}
+
+/// A question that the box has not answered yet.
+struct Waiting {
+    table: Rc<[u8]>,
+    question: Box<dyn Question>,
+    held: u64,
+    reply_ends: usize,
+}
+
+const BATCH_BYTES: usize = 1 << 18;
+const DIFFERENCES_SHOWN: u64 = 10;
+const BYTES_SHOWN: usize = 200;
+
+impl Ask for Comparison {
+    fn ask(&mut self, table: &Rc<[u8]>, question: Box<dyn Question>) {
+        self.totals.cases += 1;
+        let held = self.totals.cases.wrapping_mul(0x9E37_79B9_7F4A_7C15).rotate_left(32);
+        match question.reply(table, held, &mut self.expected) {
+            Ok(()) => self.call(table, question, held),
+            Err(fault) => self.count_fault(table, &*question, held, fault),
+        }
+        if self.calls.len() + self.expected.len() >= BATCH_BYTES {
+            self.compare_batch();
+        }
+    }
+}
+
+impl Comparison {
+    /// A comparison with this box.
+    pub fn new(the_box: TheBox, progress: Progress) -> Self {
+        Comparison {
+            the_box,
+            progress,
+            totals: Totals::default(),
+            lent: None,
+            calls: Vec::new(),
+            expected: Vec::new(),
+            waiting: Vec::new(),
+        }
+    }
+
+    /// Compares what is left and ends the box.
+    pub fn finish(mut self) -> Totals {
+        self.compare_batch();
+        match self.the_box.end() {
+            Ok(true) => self.totals,
+            Ok(false) => give_up("it did not end as it should"),
+            Err(error) => give_up(error),
+        }
+    }
+
+    fn call(&mut self, table: &Rc<[u8]>, question: Box<dyn Question>, held: u64) {
+        if !self.lent.as_ref().map_or(false, |lent| Rc::ptr_eq(lent, table)) {
+            lend_table(table, &mut self.calls);
+            self.lent = Some(table.clone());
+        }
+        self.calls.push(question.entry());
+        question.arguments(held, &mut self.calls);
+        self.waiting.push(Waiting { table: table.clone(), question, held, reply_ends: self.expected.len() });
+    }
+
+    fn compare_batch(&mut self) {
+        let replies = match self.the_box.exchange(&self.calls, self.expected.len()) {
+            Ok(replies) => replies,
+            Err(error) => {
+                let (last, cases) = (self.waiting.len(), self.totals.cases);
+                give_up(format!("it broke off in the last {} of {} cases: {}", last, cases, error))
+            }
+        };
+        if replies != self.expected {
+            self.count_differences(&replies);
+        }
+        self.calls.clear();
+        self.expected.clear();
+        self.waiting.clear();
+        self.progress.show(self.totals.cases);
+    }
+
+    fn count_differences(&mut self, replies: &[u8]) {
+        let mut begins = 0;
+        for asked in &self.waiting {
+            let (right, given) = (&self.expected[begins..asked.reply_ends], &replies[begins..asked.reply_ends]);
+            begins = asked.reply_ends;
+            if right == given {
+                continue;
+            }
+            self.totals.differences += 1;
+            if self.totals.differences <= DIFFERENCES_SHOWN {
+                print_case(&asked.table, &*asked.question, asked.held);
+                println!("  right: {}", asked.question.describe_reply(right));
+                println!("  box:   {}", asked.question.describe_reply(given));
+            }
+        }
+    }
+
+    fn count_fault(&mut self, table: &[u8], question: &dyn Question, held: u64, fault: Fault) {
+        self.totals.differences += 1;
+        self.totals.panics += u64::from(fault == Fault::Panic);
+        if self.totals.differences <= DIFFERENCES_SHOWN {
+            print_case(table, question, held);
+            println!("  {}", fault.describe());
+        }
+    }
+}
+
+fn print_case(table: &[u8], question: &dyn Question, held: u64) {
+    println!("difference: {}", question.describe(held));
+    let shown = &table[..table.len().min(BYTES_SHOWN)];
+    let more = if shown.len() < table.len() { ".." } else { "" };
+    println!("  table of {} bytes: {}{}", table.len(), hex(shown), more);
+}
+
+fn hex(bytes: &[u8]) -> String {
+    bytes.iter().map(|byte| format!("{:02x}", byte)).collect()
+}
+
+fn give_up(why: impl std::fmt::Display) -> ! {
+    eprintln!("the box: {}", why);
+    std::process::exit(2)
+}

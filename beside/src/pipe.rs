@@ -1,0 +1,50 @@
+//! The box's process, and the form of calls on its pipe; crates/firmware/box.c has the other end.
+
+use std::io::{self, Read, Write};
+use std::process::{Child, ChildStdin, ChildStdout, Command, Stdio};
+use std::thread;
+
+/// The box: the shipped entries in a process of their own.
+pub struct TheBox {
+    process: Child,
+    calls: ChildStdin,
+    replies: ChildStdout,
+}
+
+impl TheBox {
+    /// Starts the box by the words of a command.
+    pub fn start(command: &[String]) -> io::Result<Self> {
+        let mut process =
+            Command::new(&command[0]).args(&command[1..]).stdin(Stdio::piped()).stdout(Stdio::piped()).spawn()?;
+        let calls = process.stdin.take().expect("a piped input");
+        let replies = process.stdout.take().expect("a piped output");
+        Ok(TheBox { process, calls, replies })
+    }
+
+    /// Hands over a batch of calls, whose replies have `length` bytes together.
+    pub fn exchange(&mut self, batch: &[u8], length: usize) -> io::Result<Vec<u8>> {
+        let mut answered = vec![0; length];
+        let (calls, replies) = (&mut self.calls, &mut self.replies);
+        thread::scope(|both| {
+            let sent = both.spawn(move || calls.write_all(batch));
+            replies.read_exact(&mut answered)?;
+            sent.join().expect("the writer")
+        })?;
+        Ok(answered)
+    }
+
+    /// Ends the box: true when it has no more to say and ends well.
+    pub fn end(mut self) -> io::Result<bool> {
+        drop(self.calls);
+        let mut more = Vec::new();
+        self.replies.read_to_end(&mut more)?;
+        Ok(self.process.wait()?.success() && more.is_empty())
+    }
+}
+
+/// Adds the call that lends a table to the calls after it.
+pub fn lend_table(table: &[u8], batch: &mut Vec<u8>) {
+    batch.push(0);
+    batch.extend((table.len() as u32).to_le_bytes());
+    batch.extend(table);
+}

@@ -1,0 +1,2 @@
+-- What the exported entries leave in the numbers lent to them.
+pub mod Survey
