@@ -156,7 +156,8 @@ fn examples(asked: &mut dyn Ask) {
     let wide_records = [6, 8, 2, 16, 1, 0, 5, 70, 0, 0, 6, 90, 0, 0];
     let counted_sentinel = [6, 4, 1, 4, 0, 0, 0xFFFF, 0];
     let open_ended = [0, 1, 2, 0x1234];
-    let written: [(&[u16], u16, Answer<u16>); 10] = [
+    let unsorted = [6, 4, 2, 8, 1, 0, 6, 90, 5, 70];
+    let written: [(&[u16], u16, Answer<u16>); 12] = [
         (&trimmed, 5, Done(7)),
         (&trimmed, 6, Done(9)),
         (&trimmed, 4, Nothing),
@@ -167,6 +168,8 @@ fn examples(asked: &mut dyn Ask) {
         (&wide_records, 6, Nothing),
         (&counted_sentinel, 0xFFFF, Done(0)),
         (&open_ended, 2, Done(0x1234)),
+        (&unsorted, 5, Done(70)),
+        (&unsorted, 6, Nothing),
     ];
     for (numbers, glyph, answer) in written {
         let table = Rc::from(words(numbers));

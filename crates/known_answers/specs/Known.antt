@@ -1,0 +1,52 @@
+-- The answers that document 01 marks, in one table with a single statement, by computation.
+use Prim.Native.Nat.{ℕ}
+use mathlib.Core.Path.{_≡_, refl}
+use mathlib.Core.List.{List, [], _∷_, map}
+use Rattle.answers.specs.Limits.{tableLimit}
+use Rattle.answers.specs.Numbers.{numberOf, answerOf}
+use Rattle.answers.specs.Refuse.{refuse, tableTest}
+use Rattle.answers.specs.declared.Reply.{Reply}
+use Rattle.answers.specs.declared.Reply.the-variants.{Value, Nothing, Refused}
+use Rattle.parse.specs.Reads.{inside, readU16}
+use Rattle.tables.specs.Records.{formatOf}
+use Rattle.tables.specs.Lookup.{lookupReply, lookupAt, inFormat, trimmedAt, elementAt}
+
+-- what is asked: the element of a glyph in the lookup table that these bytes are
+pub data Asked : Type 0 where
+  lookup : List ℕ → ℕ → Asked
+
+-- an answer: its number, and the value where there is one
+pub record Given : Type 0 where
+  pub number : ℕ
+  pub values : List ℕ
+
+abbrev given : Reply → Given
+given (Value v) = record { number = 0; values = v ∷ [] }
+given Nothing = record { number = 1; values = [] }
+given (Refused why) = record { number = numberOf (answerOf (Refused why)); values = [] }
+
+unfoldable pub answerTo : Asked → Given
+answerTo (lookup bytes glyph) = given (lookupReply bytes 0 glyph)
+
+pub record Row : Type 0 where
+  pub asked : Asked
+  pub answer : Given
+
+abbrev row : Asked → ℕ → List ℕ → Row
+row asked number values = record { asked = asked; answer = record { number = number; values = values } }
+
+-- 0008 0005 0002 0007 0009
+abbrev trimmed : List ℕ
+trimmed = 0 ∷ 8 ∷ 0 ∷ 5 ∷ 0 ∷ 2 ∷ 0 ∷ 7 ∷ 0 ∷ 9 ∷ []
+
+unfoldable pub rows : List Row
+rows =
+    row (lookup trimmed 5) 0 (7 ∷ [])
+    ∷ row (lookup trimmed 6) 0 (9 ∷ [])
+    ∷ row (lookup trimmed 4) 1 []
+    ∷ row (lookup trimmed 7) 1 []
+    ∷ []
+
+pub known : map (λ (r : Row). answerTo (r .asked)) rows ≡ map (λ (r : Row). r .answer) rows
+unfolding rows answerTo tableLimit refuse tableTest inside readU16 formatOf lookupReply lookupAt inFormat trimmedAt elementAt
+known = refl

@@ -1,0 +1,2 @@
+-- Document 01's known answers.
+pub mod Known
