@@ -1,0 +1,3 @@
+-- Laws that the proofs of this crate and of those above cite.
+pub mod Laws
+mod Steps
