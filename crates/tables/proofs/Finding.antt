@@ -12,7 +12,7 @@ use Rattle.parse.specs.Reads.{readU16}
 use Rattle.parse.proofs.Laws.{readU16-got}
 use Rattle.tables.specs.Records.{recordPlace}
 use Rattle.tables.specs.Search.{against, sideOf, sideOfRange, sideOfArray, sideOfSingle, find, searched}
-use Rattle.tables.specs.Order.{Good, InOrder, Holds, Right, firstOf, lastOf}
+use Rattle.tables.specs.Order.{Good, InOrder, Holds, TheOne, firstOf, lastOf}
 use Rattle.tables.specs.declared.records.Kind.{Kind}
 use Rattle.tables.specs.declared.records.Kind.the-variants.{Ranges, Arrays, Singles}
 use Rattle.tables.specs.declared.records.Side.{Side}
@@ -58,10 +58,10 @@ module _ (bytes : List ℕ) (kind : Kind) (count glyph : ℕ) (all : InOrder byt
     ahead : (j : ℕ) → hi ≤ j → j < count → glyph < firstOf bytes kind j
 
   Fine : Spot → Type 0
-  Fine = Right bytes kind count glyph
+  Fine = TheOne bytes kind count glyph
 
   none : (lo hi : ℕ) → Between lo hi → hi ≤ lo → Fine Absent
-  unfolding Right Fine
+  unfolding TheOne Fine
   none lo hi b h j held =
       ⊎-elim
       (λ (p : j < lo). omega (arith, b .passed j p, held .below))
@@ -69,7 +69,7 @@ module _ (bytes : List ℕ) (kind : Kind) (count glyph : ℕ) (all : InOrder byt
       (lt-or-ge j lo)
 
   here : (i : ℕ) → i < count → firstOf bytes kind i ≤ glyph → glyph ≤ lastOf bytes kind i → Fine (At i)
-  unfolding Right Fine
+  unfolding TheOne Fine
   here i h a b = (
     record { counted = h; above = a; below = b },
     λ j held.
@@ -138,7 +138,7 @@ module _ (bytes : List ℕ) (kind : Kind) (count glyph : ℕ) (all : InOrder byt
       (λ (h : hi ≤ lo). subst⁻¹ Fine (find-done side (suc turns) lo hi h) (none lo hi b h))
       (lt-or-ge lo hi)
 
-  pub search-finds : Right bytes kind count glyph (searched bytes 12 kind count glyph)
+  pub search-finds : TheOne bytes kind count glyph (searched bytes 12 kind count glyph)
   unfolding searched side Fine
   search-finds =
       found count 0 count

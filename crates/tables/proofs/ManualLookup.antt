@@ -15,7 +15,7 @@ use Rattle.parse.proofs.Laws.{readU16-got, readU16-short}
 use Rattle.tables.specs.Records.{strideOf, recordPlace, firstAt, lastAt, formatOf}
 use Rattle.tables.specs.Search.{searched}
 use Rattle.tables.specs.Survey.{scanned, surveyIn, surveyAt}
-use Rattle.tables.specs.Order.{Good, InOrder, Holds, Right, firstOf, lastOf}
+use Rattle.tables.specs.Order.{Good, InOrder, Holds, TheOne, firstOf, lastOf}
 use Rattle.tables.specs.Lookup.{elementAt, elementOf, elementIn, inRecords, trimmedAt, inFormat, lookupAt}
 use Rattle.tables.specs.ManualLookup.{Layout, simpleArray, units, trimmedArray, extendedTrimmedArray, formatNumber, unitSize, unitCount, unitPlace, UnitHolds, elementPlace, Lies, Alike, AsManual}
 use Rattle.tables.specs.declared.records.Format.the-variants.{Simple, Records, Trimmed}
@@ -168,14 +168,14 @@ module _ (bytes : List ℕ) (glyphs glyph : ℕ) (kind : Kind) (e : lookupAt byt
     (sizes : unitSize bytes ≡ strideOf kind) (small : glyph < 65535) (count : readU16 bytes 4 ≡ Got (unitCount bytes))
     (all : InOrder bytes kind (unitCount bytes)) where
   units-as-manual : AsManual bytes glyphs glyph (units kind)
-  unfolding inRecords elementIn Lies Right
+  unfolding inRecords elementIn Lies TheOne
   units-as-manual = go (searched bytes 12 kind (unitCount bytes) glyph) refl
     where
       found-is : (s : Spot) → searched bytes 12 kind (unitCount bytes) glyph ≡ s → lookupAt bytes glyph ≡ elementIn bytes kind glyph s
       found-is s f = e ∙ rw (count, f, inRecords)
 
-      right : (s : Spot) → searched bytes 12 kind (unitCount bytes) glyph ≡ s → Right bytes kind (unitCount bytes) glyph s
-      right s f = subst (Right bytes kind (unitCount bytes) glyph) f (search-finds bytes kind (unitCount bytes) glyph all)
+      right : (s : Spot) → searched bytes 12 kind (unitCount bytes) glyph ≡ s → TheOne bytes kind (unitCount bytes) glyph s
+      right s f = subst (TheOne bytes kind (unitCount bytes) glyph) f (search-finds bytes kind (unitCount bytes) glyph all)
 
       go : (s : Spot) → searched bytes 12 kind (unitCount bytes) glyph ≡ s → AsManual bytes glyphs glyph (units kind)
       go Spot′.Cut f = absurd (right Spot′.Cut f)

@@ -38,7 +38,7 @@ pub record Holds (bytes : List ℕ) (kind : Kind) (count glyph i : ℕ) : Type 0
   pub below : glyph ≤ lastOf bytes kind i
 
 -- what a search is to find: the one record that holds the glyph, or that there is none
-unfoldable pub Right : List ℕ → Kind → ℕ → ℕ → Spot → Type 0
-Right bytes kind count glyph (At i) = Holds bytes kind count glyph i × ((j : ℕ) → Holds bytes kind count glyph j → j ≡ i)
-Right bytes kind count glyph Absent = (j : ℕ) → Holds bytes kind count glyph j → ⊥
-Right bytes kind count glyph Cut = ⊥
+unfoldable pub TheOne : List ℕ → Kind → ℕ → ℕ → Spot → Type 0
+TheOne bytes kind count glyph (At i) = Holds bytes kind count glyph i × ((j : ℕ) → Holds bytes kind count glyph j → j ≡ i)
+TheOne bytes kind count glyph Absent = (j : ℕ) → Holds bytes kind count glyph j → ⊥
+TheOne bytes kind count glyph Cut = ⊥
