@@ -1,0 +1,19 @@
+-- Laws of the line and its edits.
+pub mod Room
+pub mod Slices
+pub mod Once
+pub mod Pigeonhole
+pub mod Exact
+pub mod Seen
+pub mod Tests
+pub mod Joins
+pub mod Moves
+pub mod Histories
+pub mod Refusals
+pub mod FreshLaws
+pub mod VerbLaws
+pub mod Demand3
+pub mod Known
+pub mod Applied
+pub mod Loops
+pub mod Returns

@@ -1,0 +1,94 @@
+// The LINE test: one pass over the tags, with a bit for each that was met, and one over the homes.
+ghost use mathlib.Core.Path.{_≡_};
+ghost use Prim.Native.Nat.{_<_, _≤_};
+ghost use lib.ListN.{length};
+ghost use Rattle.answers.specs.Limits.{room};
+ghost use Rattle.line.specs.Line.{lineOf};
+ghost use Rattle.line.specs.Seen.{hasSeen, withTag};
+ghost use Rattle.line.specs.Test.{isOnceEach, areHoused, isLegal, isValid};
+use answers::ROOM;
+
+// Words of 64 bits that have a bit for each tag.
+const WORDS: usize = ROOM / 64;
+
+// Whether the tag was met.
+fn has_seen(seen: &[u64; WORDS], tag: u16) -> bool
+    requires { ⌜ tag < room ⌝ }
+    ensures { λ r. ⌜ r ≡ hasSeen (now (seen .entry)) tag ⌝ }
+{
+    (seen[(tag / 64) as usize] >> (tag % 64)) % 2 == 1
+}
+
+// The tag is met.
+fn mark(seen: &mut [u64; WORDS], tag: u16)
+    requires { ⌜ tag < room ⌝ }
+    ensures { λ _. ⌜ now (seen .exit) ≡ withTag (now (seen .entry)) tag ⌝ }
+{
+    let word = (tag / 64) as usize;
+    seen[word] = seen[word] | (1 << (tag % 64));
+}
+
+// Whether the used tags are 0 to `used` - 1 once each.
+fn once_each(tags: &[u16], used: usize) -> bool
+    requires { ⌜ (used ≤ length (now tags)) × (used ≤ room) ⌝ }
+    ensures { λ r. ⌜ r ≡ isOnceEach (now (tags .entry)) used ⌝ }
+{
+    let mut seen = [0u64; WORDS];
+    let mut p = 0;
+    while p < used {
+        let tag = tags[p];
+        if used <= tag as usize {
+            return false;
+        }
+        if has_seen(&seen, tag) {
+            return false;
+        }
+        mark(&mut seen, tag);
+        p += 1;
+    }
+    true
+}
+
+// Whether every home is below the used length.
+fn housed(homes: &[u16], used: usize) -> bool
+    ensures { λ r. ⌜ r ≡ areHoused (now (homes .entry)) used ⌝ }
+{
+    let mut c = 0;
+    while c < homes.len() {
+        if used <= homes[c] as usize {
+            return false;
+        }
+        c += 1;
+    }
+    true
+}
+
+// Whether tags and homes are those of a line of `used` places.
+pub fn legal(tags: &[u16], homes: &[u16], used: usize) -> bool
+    requires { ⌜ (used ≤ length (now tags)) × (used ≤ room) ⌝ }
+    ensures { λ r. ⌜ r ≡ isLegal (now (tags .entry)) (now (homes .entry)) used ⌝ }
+{
+    if used < homes.len() {
+        return false;
+    }
+    if !housed(homes, used) {
+        return false;
+    }
+    once_each(tags, used)
+}
+
+// Whether the lent line is one that LINE does not refuse.
+pub fn takes(glyphs: &[u16], tags: &[u16], homes: &[u16], used: usize) -> bool
+    ensures { λ r. ⌜ r ≡ isValid (lineOf (now (glyphs .entry)) (now (tags .entry)) (now (homes .entry)) used) ⌝ }
+{
+    if tags.len() != glyphs.len() {
+        return false;
+    }
+    if ROOM < glyphs.len() {
+        return false;
+    }
+    if glyphs.len() < used {
+        return false;
+    }
+    legal(tags, homes, used)
+}
