@@ -1,10 +1,13 @@
 // Every entry that the box's C firmware calls, thin over the proved crates; aat.h declares them.
 use answers::Reply;
+use line::FreshLine;
 use tables::survey::Surveyed;
 ghost use mathlib.Core.Path.{_≡_};
 ghost use Rattle.answers.specs.Numbers.{numberOf, answerOf, valueOf};
 ghost use Rattle.tables.specs.Lookup.{lookupReply};
 ghost use Rattle.tables.specs.Survey.{surveyed};
+ghost use Rattle.line.specs.Line.{lineOf};
+ghost use Rattle.line.specs.Entries.{freshCall, freshAnswer, freshUsed, verbCall};
 ghost use Rattle.firmware.specs.Survey.{surveyAnswer, verdictOf, badRecord};
 
 // Puts the value of a reply where it was lent, and answers with its number.
@@ -56,4 +59,45 @@ pub extern "C" fn aat_survey(table: &[u8], start: usize, verdict: &mut u32, bad:
         Surveyed::Nothing => 1,
         Surveyed::Refused(why) => answers::refusal_number(why),
     }
+}
+
+// Starts a line of as many characters as there are homes.
+#[no_mangle]
+pub extern "C" fn aat_fresh(
+    glyphs: &[u16],
+    tags: &mut [u16],
+    homes: &mut [u16],
+    used: &mut usize,
+) -> u32
+    ensures answer { λ r. ⌜ r ≡ numberOf (freshAnswer (freshCall (now (glyphs .entry)) (now (tags .entry)) (now (homes .entry)) .reply)) ⌝ }
+    ensures tags { λ r. ⌜ now (tags .exit) ≡ freshCall (now (glyphs .entry)) (now (tags .entry)) (now (homes .entry)) .tags ⌝ }
+    ensures homes { λ r. ⌜ now (homes .exit) ≡ freshCall (now (glyphs .entry)) (now (tags .entry)) (now (homes .entry)) .homes ⌝ }
+    ensures used { λ r. ⌜ now (used .exit) ≡ freshUsed (freshCall (now (glyphs .entry)) (now (tags .entry)) (now (homes .entry)) .reply) (now (used .entry)) ⌝ }
+{
+    let reply = line::fresh(glyphs, tags, homes);
+    match reply {
+        FreshLine::Used(count) => {
+            *used = count;
+            0
+        }
+        FreshLine::Refused(why) => answers::refusal_number(why),
+    }
+}
+
+// Rearranges the window from `start` to `end` of a line by a verb.
+#[no_mangle]
+pub extern "C" fn aat_verb(
+    glyphs: &mut [u16],
+    tags: &mut [u16],
+    homes: &[u16],
+    used: usize,
+    verb: u16,
+    start: usize,
+    end: usize,
+) -> u32
+    ensures answer { λ r. ⌜ r ≡ numberOf (verbCall (lineOf (now (glyphs .entry)) (now (tags .entry)) (now (homes .entry)) used) verb start end .answer) ⌝ }
+    ensures glyphs { λ r. ⌜ now (glyphs .exit) ≡ verbCall (lineOf (now (glyphs .entry)) (now (tags .entry)) (now (homes .entry)) used) verb start end .line .glyphs ⌝ }
+    ensures tags { λ r. ⌜ now (tags .exit) ≡ verbCall (lineOf (now (glyphs .entry)) (now (tags .entry)) (now (homes .entry)) used) verb start end .line .tags ⌝ }
+{
+    answers::number(line::lone_verb(glyphs, tags, homes, used, verb, start, end))
 }

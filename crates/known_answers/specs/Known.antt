@@ -2,18 +2,26 @@
 use Prim.Native.Nat.{ℕ}
 use mathlib.Core.Path.{_≡_, refl}
 use mathlib.Core.List.{List, [], _∷_, map}
-use Rattle.answers.specs.Limits.{tableLimit}
+use Rattle.answers.specs.Limits.{tableLimit, room}
 use Rattle.answers.specs.Numbers.{numberOf, answerOf}
 use Rattle.answers.specs.Refuse.{refuse, tableTest}
 use Rattle.answers.specs.declared.Reply.{Reply}
 use Rattle.answers.specs.declared.Reply.the-variants.{Value, Nothing, Refused}
+use Rattle.laws.specs.Lists.{tab, every}
+use Rattle.verbs.specs.Verbs.{groupsOf, across, moved, fromOf, rearranged}
+use Rattle.line.specs.Line.{Line}
+use Rattle.line.specs.Test.{lineTest, isValid, isLegal, areHoused, isOnceEach, isNew}
+use Rattle.line.specs.Edits.{widthOf}
+use Rattle.line.specs.Changes.{numbersFrom, windowed, apply, applyAll}
+use Rattle.line.specs.Entries.{Left, freshOf, verbTests, verbMakes, madeBy, answerBy, verbChanges, verbCall}
 use Rattle.parse.specs.Reads.{inside, readU16}
 use Rattle.tables.specs.Records.{formatOf}
 use Rattle.tables.specs.Lookup.{lookupReply, lookupAt, inFormat, trimmedAt, elementAt}
 
--- what is asked: the element of a glyph in the lookup table that these bytes are
+-- what is asked: the element of a glyph in the lookup table that these bytes are; the glyphs of the line 10 to 14 after a verb on a window
 pub data Asked : Type 0 where
   lookup : List ℕ → ℕ → Asked
+  verb : (number start end : ℕ) → Asked
 
 -- an answer: its number, and the value where there is one
 pub record Given : Type 0 where
@@ -25,8 +33,16 @@ given (Value v) = record { number = 0; values = v ∷ [] }
 given Nothing = record { number = 1; values = [] }
 given (Refused why) = record { number = numberOf (answerOf (Refused why)); values = [] }
 
+-- a fresh line of five characters
+abbrev line : Line
+line = freshOf (10 ∷ 11 ∷ 12 ∷ 13 ∷ 14 ∷ []) (0 ∷ 0 ∷ 0 ∷ 0 ∷ 0 ∷ []) (0 ∷ 0 ∷ 0 ∷ 0 ∷ 0 ∷ [])
+
+abbrev left : Left → Given
+left l = record { number = numberOf (l .answer); values = l .line .glyphs }
+
 unfoldable pub answerTo : Asked → Given
 answerTo (lookup bytes glyph) = given (lookupReply bytes 0 glyph)
+answerTo (verb number start end) = left (verbCall line number start end)
 
 pub record Row : Type 0 where
   pub asked : Asked
@@ -41,12 +57,17 @@ trimmed = 0 ∷ 8 ∷ 0 ∷ 5 ∷ 0 ∷ 2 ∷ 0 ∷ 7 ∷ 0 ∷ 9 ∷ []
 
 unfoldable pub rows : List Row
 rows =
-    row (lookup trimmed 5) 0 (7 ∷ [])
+    row (verb 1 0 4) 0 (11 ∷ 12 ∷ 13 ∷ 14 ∷ 10 ∷ [])
+    ∷ row (verb 13 0 4) 0 (13 ∷ 14 ∷ 12 ∷ 11 ∷ 10 ∷ [])
+    ∷ row (verb 12 1 4) 0 (10 ∷ 13 ∷ 14 ∷ 11 ∷ 12 ∷ [])
+    ∷ row (verb 12 0 2) 0 (10 ∷ 11 ∷ 12 ∷ 13 ∷ 14 ∷ [])
+    ∷ row (verb 2 3 9) 0 (10 ∷ 11 ∷ 12 ∷ 14 ∷ 13 ∷ [])
+    ∷ row (lookup trimmed 5) 0 (7 ∷ [])
     ∷ row (lookup trimmed 6) 0 (9 ∷ [])
     ∷ row (lookup trimmed 4) 1 []
     ∷ row (lookup trimmed 7) 1 []
     ∷ []
 
 pub known : map (λ (r : Row). answerTo (r .asked)) rows ≡ map (λ (r : Row). r .answer) rows
-unfolding rows answerTo tableLimit refuse tableTest inside readU16 formatOf lookupReply lookupAt inFormat trimmedAt elementAt
+unfolding rows answerTo tab every groupsOf across moved fromOf rearranged room lineTest isValid isLegal areHoused isOnceEach isNew freshOf numbersFrom verbTests verbMakes madeBy answerBy verbChanges verbCall widthOf windowed apply applyAll tableLimit refuse tableTest inside readU16 formatOf lookupReply lookupAt inFormat trimmedAt elementAt
 known = refl

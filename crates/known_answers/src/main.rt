@@ -29,7 +29,40 @@ fn print_lookup(glyph: u16) {
     print_reply(tables::lookup::lookup(&TRIMMED, 0, glyph));
 }
 
+fn print_glyph(glyph: u16) {
+    print_number(b" ", glyph as u64);
+}
+
+fn print_glyphs(glyphs: &[u16]) {
+    let mut place = 0;
+    while place < glyphs.len() {
+        print_glyph(glyphs[place]);
+        place += 1;
+    }
+}
+
+// The line 10 to 14 after a verb on a window.
+fn print_verb(verb: u16, start: usize, end: usize) {
+    let mut glyphs: [u16; 5] = [10, 11, 12, 13, 14];
+    let mut tags: [u16; 5] = [0; 5];
+    let mut homes: [u16; 5] = [0; 5];
+    line::fresh(&glyphs, &mut tags, &mut homes);
+    let answer = line::lone_verb(&mut glyphs, &mut tags, &homes, 5, verb, start, end);
+    print_number(b"verb ", verb as u64);
+    print_number(b" from ", start as u64);
+    print_number(b" to ", end as u64);
+    print_number(b": answer ", answers::number(answer) as u64);
+    io::write_all(OUT, b" glyphs");
+    print_glyphs(&glyphs);
+    io::write_all(OUT, b"\n");
+}
+
 fn main() {
+    print_verb(1, 0, 4);
+    print_verb(13, 0, 4);
+    print_verb(12, 1, 4);
+    print_verb(12, 0, 2);
+    print_verb(2, 3, 9);
     print_lookup(5);
     print_lookup(6);
     print_lookup(4);
