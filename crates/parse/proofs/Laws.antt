@@ -138,3 +138,24 @@ module _ (table : List ℕ) (at size : ℕ) where
       go : (t : Bool) → inside table at size ≡ t → t ≡ true
       go true i = refl
       go false i = cc
+
+-- a read that gave a value: all its bytes lie in the table, and it is the value there
+module _ (table : List ℕ) (at : ℕ) where
+  pub u16-value : {n : ℕ} → readU16 table at ≡ U16.Got n → (at + 2 ≤ length table) × (n ≡ u16At table at)
+  u16-value {n} e = let h = u16-inside table at (sym e) refl in let f = readU16-got table at h in (h, cc)
+
+  pub u32-value : {n : ℕ} → readU32 table at ≡ U32.Got n → (at + 4 ≤ length table) × (n ≡ u32At table at)
+  unfolding readU32
+  u32-value {n} e = go (inside table at 4) refl
+    where
+      go : (t : Bool) → inside table at 4 ≡ t → (at + 4 ≤ length table) × (n ≡ u32At table at)
+      go true p = (inside-fits table at 4 p, cc)
+      go false p = let z : _≡_ {A = ℕ} 0 1 = cc in absurd (omega arith)
+
+  pub u8-value : {n : ℕ} → readU8 table at ≡ U8.Got n → (at < length table) × (n ≡ u8At table at)
+  unfolding readU8
+  u8-value {n} e = go (inside table at 1) refl
+    where
+      go : (t : Bool) → inside table at 1 ≡ t → (at < length table) × (n ≡ u8At table at)
+      go true p = (omega (arith, inside-fits table at 1 p), cc)
+      go false p = let z : _≡_ {A = ℕ} 0 1 = cc in absurd (omega arith)

@@ -1,0 +1,5 @@
+-- State tables: the crate's reading of them, and the manual's.
+pub mod States
+pub mod Classes
+pub mod Entries
+pub mod Manual
