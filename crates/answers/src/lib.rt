@@ -1,6 +1,8 @@
 // The ten answers of document 01 with their numbers, the limits, and the refusal that every public entry begins with.
 ghost use mathlib.Core.Path.{_≡_};
 ghost use mathlib.Core.List.{[], _∷_};
+ghost use lib.Dec.{ltb};
+ghost use Rattle.answers.specs.Limits.{room};
 ghost use Rattle.answers.specs.Numbers.{numberOf};
 ghost use Rattle.answers.specs.Refuse.{refuse, tableTest};
 
@@ -80,4 +82,11 @@ pub fn refuse_table(length: usize) -> Check
         return Check::Refused(Refusal::Table);
     }
     Check::Passed
+}
+
+// Whether a length is more than any line has room for.
+pub fn above_room(length: usize) -> bool
+    ensures { λ r. ⌜ r ≡ ltb room length ⌝ }
+{
+    ROOM < length
 }

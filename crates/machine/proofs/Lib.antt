@@ -1,0 +1,6 @@
+-- Laws that the machines' proofs cite.
+mod Heads
+pub mod Calls
+pub mod Passing
+pub mod Quiet
+pub mod Stalls

@@ -1,0 +1,25 @@
+-- The stall rule ends: each step advances, or comes one nearer to the one that must.
+use Prim.Native.Nat.{ℕ, _+_, _*_, _-_, _<_, _≤_}
+use mathlib.Core.Path.{_≡_}
+use mathlib.Core.Bool.{Bool, true, false}
+use mathlib.Core.Logic.{_⊎_, ⊎-elim}
+use native.Mathlib.Omega.{arith}
+use borrow.Author.Tests.{lt-ltb, le-ltb}
+use Rattle.laws.proofs.Numbers.{lt-or-ge}
+use Rattle.machine.specs.Stall.{stalled}
+use Rattle.machine.specs.declared.Stalled.{Stalled}
+
+-- what the rule keeps and what falls
+pub record Falls (cycles used i : ℕ) (to : Stalled) : Type 0 where
+  pub sound : to .cycles ≤ 17
+  pub within : i + to .advance ≤ used
+  pub less : (used - (i + to .advance)) * 18 + (18 - to .cycles) < (used - i) * 18 + (18 - cycles)
+
+pub stall-falls : (cycles used i : ℕ) (stays : Bool) → cycles ≤ 17 → i < used → Falls cycles used i (stalled cycles stays)
+unfolding stalled
+stall-falls cycles used i false h k = record { sound = omega arith; within = omega arith; less = omega arith }
+stall-falls cycles used i true h k =
+    ⊎-elim
+    (λ (p : 16 < cycles). rw (lt-ltb 16 cycles p, stalled) (record { sound = omega arith; within = omega arith; less = omega arith }))
+    (λ (p : cycles ≤ 16). rw (le-ltb 16 cycles p, stalled) (record { sound = omega arith; within = omega arith; less = omega arith }))
+    (lt-or-ge 16 cycles)

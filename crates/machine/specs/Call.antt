@@ -1,0 +1,47 @@
+-- A call of a pass on a morx subtable: its tests, and what it answers and changes.
+use Prim.Native.Nat.{ℕ}
+use mathlib.Core.Bool.{Bool, true, false, cond}
+use mathlib.Core.List.{List, [], _∷_}
+use Rattle.answers.specs.Refuse.{Test, refuse, tableTest}
+use Rattle.answers.specs.declared.Refusal.the-variants as Refusal′
+use Rattle.answers.specs.declared.Answer.the-variants as Answer′
+use Rattle.answers.specs.declared.Check.{Check}
+use Rattle.answers.specs.declared.Check.the-variants as Check′
+use Rattle.state_tables.specs.declared.States.{States}
+use Rattle.state_tables.specs.declared.Made.{Made}
+use Rattle.state_tables.specs.declared.Made.the-variants.{Ready, Short}
+use Rattle.state_tables.specs.States.{extendedAt}
+use Rattle.line.specs.Line.{Line}
+use Rattle.line.specs.Test.{lineTest}
+use Rattle.machine.specs.Head.{hasKind, bodyOf}
+use Rattle.machine.specs.Pass.{Passed}
+
+-- the state table of a subtable of this kind, where its head and the state table's own can be read
+unfoldable pub opened : List ℕ → (kind : ℕ) → Made
+opened bytes kind = cond (hasKind bytes kind) (extendedAt (bodyOf bytes)) Short
+
+abbrev pub isShort : Made → Bool
+isShort (Ready states) = false
+isShort Short = true
+
+-- HEAD: the head is cut short, of another kind, or the state table's can't be read
+unfoldable pub headTest : Made → Test
+headTest made = record { holds = isShort made; refusal = Refusal′.Head }
+
+-- TABLE, LINE, HEAD
+unfoldable pub passTests : (length : ℕ) → Line → Made → List Test
+passTests length l made = tableTest length ∷ lineTest l ∷ headTest made ∷ []
+
+-- a refused call answers so and changes nothing
+abbrev pub refusedCall : Check → Passed → Passed
+refusedCall Check′.Passed work = work
+refusedCall (Check′.Refused why) work = record { answer = Answer′.Refused why; changes = [] }
+
+-- the work on a state table; without one the call is refused by HEAD
+abbrev pub onMade : Made → (States → Passed) → Passed
+onMade (Ready states) work = work states
+onMade Short work = record { answer = Answer′.Refused Refusal′.Head; changes = [] }
+
+-- a call: its tests, then its work
+unfoldable pub called : (length : ℕ) → Line → Made → (States → Passed) → Passed
+called length l made work = refusedCall (refuse (passTests length l made)) (onMade made work)

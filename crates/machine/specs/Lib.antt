@@ -1,0 +1,6 @@
+-- What all machines share.
+pub mod Stall
+pub mod Head
+pub mod Pass
+pub mod Entry
+pub mod Call

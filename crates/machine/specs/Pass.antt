@@ -1,0 +1,73 @@
+-- A pass over the places of a line, for any machine.
+use Prim.Native.Nat.{ℕ, zero, suc, _+_}
+use mathlib.Core.Bool.{Bool, true, false}
+use mathlib.Core.List.{List, [], _++_}
+use lib.Dec.{ltb}
+use lib.ListN.{getD}
+use Rattle.answers.specs.declared.Answer.{Answer}
+use Rattle.answers.specs.declared.Answer.the-variants as Answer′
+use Rattle.answers.specs.declared.Refusal.{Refusal}
+use Rattle.line.specs.Line.{Line}
+use Rattle.line.specs.Changes.{Change, applyAll}
+
+-- the glyph number of the end call
+abbrev pub deleted : ℕ
+deleted = 0xFFFF
+
+-- what a step answers: DONE with the advance, or why the pass ends; the state it hands back and the changes it made, in any case
+pub record Stepped (S : Type 0) : Type 0 where
+  pub answer : Answer
+  pub state : S
+  pub advance : ℕ
+  pub changes : List Change
+
+-- a step from a state, on a line, at an index with a glyph, at end of text or not
+abbrev pub Machine : Type 0 → Type 0
+Machine S = S → Line → (index glyph : ℕ) → (ends : Bool) → Stepped S
+
+-- what a pass answers, and the changes it made
+pub record Passed : Type 0 where
+  pub answer : Answer
+  pub changes : List Change
+
+-- changes made before
+abbrev pub after : List Change → Passed → Passed
+after done rest = record { answer = rest .answer; changes = done ++ rest .changes }
+
+-- whether an answer is DONE
+abbrev pub isDone : Answer → Bool
+isDone Answer′.Done = true
+isDone Answer′.Nothing = false
+isDone Answer′.Full = false
+isDone Answer′.Ended = false
+isDone Answer′.Limit = false
+isDone (Answer′.Refused why) = false
+
+module _ {S : Type 0} (machine : Machine S) where
+  -- the step at a place of the line, with the glyph that stands there
+  abbrev pub stepAt : S → Line → ℕ → Stepped S
+  stepAt s l i = machine s l i (getD (l .glyphs) i 0) false
+
+  -- the end call: the index is the length, the glyph is 0xFFFF
+  abbrev pub endCall : S → Line → Stepped S
+  endCall s l = machine s l (l .used) deleted true
+
+  -- from place i on: the step at each place below the used length, as it is at that time, then the end call, whose advance is ignored;
+  -- a step that is not DONE ends the pass. `turns` bounds how many steps there are
+  unfoldable pub passFrom : (turns : ℕ) → S → Line → ℕ → Passed
+  passFrom zero s l i = record { answer = Answer′.Done; changes = [] }
+  passFrom (suc turns) s l i =
+      elim (ltb i (l .used)) [
+        | false ↦ record { answer = endCall s l .answer; changes = endCall s l .changes }
+        | true ↦
+            elim (isDone (stepAt s l i .answer)) [
+              | false ↦ record { answer = stepAt s l i .answer; changes = stepAt s l i .changes }
+              | true ↦
+                  after (stepAt s l i .changes)
+                  (passFrom turns (stepAt s l i .state) (applyAll (stepAt s l i .changes) l) (i + stepAt s l i .advance))
+            ]
+      ]
+
+-- a pass from its start, with a bound on its steps
+abbrev pub passOf : {S : Type 0} → Machine S → (turns : ℕ) → S → Line → Passed
+passOf machine turns s l = passFrom machine turns s l 0

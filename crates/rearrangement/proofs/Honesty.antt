@@ -1,0 +1,46 @@
+-- What passes add to the history: any sequence of them is covered by demand 3.
+use Prim.Native.Nat.{ℕ}
+use mathlib.Core.Path.{_≡_, refl}
+use mathlib.Core.Bool.{Bool}
+use mathlib.Core.List.{List}
+use lib.ListN.{length, drop}
+use Rattle.state_tables.specs.declared.States.{States}
+use Rattle.line.specs.Line.{Line}
+use Rattle.line.specs.Edits.{added, inserted}
+use Rattle.line.specs.Changes.{editsOf, historyOf}
+use Rattle.line.specs.History.{Honest}
+use Rattle.machine.specs.Head.{bodyOf}
+use Rattle.machine.specs.Call.{opened}
+use Rattle.machine.proofs.Quiet.{Quiet, quiet-none, quiet-fits, quiet-pass, quiet-call}
+use Rattle.rearrangement.specs.Rearrangement.{fresh, rest, next, changesOf, machine, passed, passCall, callLeaves}
+use Rattle.rearrangement.specs.Calls.{PassCall}
+use Rattle.rearrangement.specs.declared.RearrangementState.{RearrangementState}
+use Rattle.rearrangement.specs.declared.Window.{Window}
+use Rattle.rearrangement.specs.declared.Window.the-variants as Window′
+
+quiet-edit : (w : Window) → Quiet (changesOf w)
+unfolding historyOf editsOf inserted added
+quiet-edit Window′.None = refl
+quiet-edit (Window′.At first last verb) = refl
+
+quiet-step : (bytes : List ℕ) (states : States) (s : RearrangementState) (l : Line) (i g : ℕ) (e : Bool) → Quiet (machine bytes states s l i g e .changes)
+unfolding machine
+quiet-step bytes states s l i g e = quiet-edit (next bytes states s i g e .edit)
+
+quiet-passed : (bytes : List ℕ) (states : States) (l : Line) → Quiet (passed bytes states l .changes)
+unfolding passed
+quiet-passed bytes states l = quiet-pass (machine bytes states) (quiet-step bytes states) (rest fresh l 0) fresh l 0
+
+pub passes-honest : Honest
+    (λ (call : PassCall) l. callLeaves (call .table) (call .start) l)
+    (λ (call : PassCall) l. passCall (call .table) (call .start) l .changes)
+unfolding passCall callLeaves
+passes-honest =
+    record {
+      made = λ call l v. refl;
+      legal = λ call l v.
+          quiet-fits _ l v
+          (quiet-call (length (call .table)) l (opened (drop (call .start) (call .table)) 0)
+          (λ states. passed (bodyOf (drop (call .start) (call .table))) states l)
+          (λ states. quiet-passed (bodyOf (drop (call .start) (call .table))) states l));
+    }

@@ -1,0 +1,69 @@
+use mathlib.Core.Path.{sym, _∙_}
+use Rattle.rearrangement.specs.Rearrangement.{stepCall}
+use borrow.Author.Needs.{needs}
+use Rattle.rearrangement.proofs.RearrangementState.step.Statement.{statement}
+use Rattle.rearrangement.proofs.RearrangementState.step.Tie as tie
+
+from-requires : tie.Need-from-requires
+from-requires c κs = search needs
+
+open-requires : tie.Need-open-requires
+open-requires c κs = search needs
+
+refuse-requires : tie.Need-refuse-requires
+refuse-requires c κs = search needs
+
+enum-known-why : tie.Need-enum-known-why
+enum-known-why c = search needs
+
+unmoved-requires : tie.Need-unmoved-requires
+unmoved-requires c κs = search needs
+
+returns : tie.Need-returns
+unfolding stepCall
+returns c = rw (← (c .before .before .before .before .before .before .from .ensures), ← (c .before .before .before .before .before .«open» .ensures), sym (c .before .before .before .before .refuse .ensures) ∙ c .before .before .why .given .1, c .unmoved .ensures, stepCall)
+
+enum-told : tie.Need-enum-told
+enum-told c = search needs
+
+enum-known-made : tie.Need-enum-known-made
+enum-known-made c = search needs
+
+enum-told-2 : tie.Need-enum-told-2
+enum-told-2 c = search needs
+
+unmoved-requires-2 : tie.Need-unmoved-requires-2
+unmoved-requires-2 c κs = search needs
+
+returns-2 : tie.Need-returns-2
+unfolding stepCall
+returns-2 c = rw (← (c .before .before .before .before .before .before .before .from .ensures), ← (c .before .before .before .before .before .before .«open» .ensures), sym (c .before .before .before .before .before .refuse .ensures) ∙ c .before .before .before .enum-told .given .1, c .before .enum-told2 .given .1, c .unmoved2 .ensures, stepCall)
+
+from-requires-2 : tie.Need-from-requires-2
+from-requires-2 c κs = search needs
+
+next-requires : tie.Need-next-requires
+next-requires c κs = search needs
+
+returns-3 : tie.Need-returns-3
+unfolding stepCall
+returns-3 c = rw (← (c .before .before .before .before .before .before .before .before .before .from .ensures), ← (c .before .before .before .before .before .before .before .before .«open» .ensures), sym (c .before .before .before .before .before .before .before .refuse .ensures) ∙ c .before .before .before .before .before .enum-told .given .1, c .before .before .before .made .given .1, c .next .ensures, c .before .from2 .ensures, stepCall)
+
+pub step-spec : {M : Type 1} → statement M
+step-spec =
+    tie.close
+    (tie.spec
+    from-requires
+    open-requires
+    refuse-requires
+    enum-known-why
+    unmoved-requires
+    returns
+    enum-told
+    enum-known-made
+    enum-told-2
+    unmoved-requires-2
+    returns-2
+    from-requires-2
+    next-requires
+    returns-3)

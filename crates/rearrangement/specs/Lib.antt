@@ -1,0 +1,3 @@
+-- The rearrangement machine.
+pub mod Rearrangement
+pub mod Calls
