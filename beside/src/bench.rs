@@ -1,38 +1,50 @@
-//! Times the proved entries beside the crate: one process, the same tables and glyphs, turn by turn.
+//! Times the proved entries beside the crate: one process, the same tables, glyphs, names and lines, turn by turn.
 
+#[allow(dead_code)]
+mod language_tables;
 #[allow(dead_code)]
 mod lookup_tables;
 #[allow(dead_code)]
 mod oracle;
 #[allow(dead_code)]
 mod random;
+mod rearrange;
+mod sides;
+#[allow(dead_code)]
+mod state_tables;
 
+use language_tables::with_tags;
 use lookup_tables::{record_size, with_records, words, Record};
-use oracle::{aat, Bytes};
 use random::Random;
+use rearrange::rearrange;
+use sides::{ours, theirs, Line, PLACES};
+use state_tables::{classic, extended};
 use std::process::ExitCode;
+use std::rc::Rc;
 use std::time::Instant;
 
-extern "C" {
-    fn aat_lookup(table: *const u8, table_len: usize, start: usize, glyph: u16, value: *mut u32) -> u32;
+/// What both sides do: in a turn, each makes so many calls and gives a sum of what they found.
+struct Subject {
+    name: String,
+    calls: usize,
+    ours: Turn,
+    theirs: Turn,
 }
 
-/// A table and the glyphs that are looked up in it.
-struct Subject {
-    name: &'static str,
-    table: Vec<u8>,
-    glyphs: Vec<u16>,
-}
+type Turn = Box<dyn FnMut() -> u64>;
 
 /// A part is so many turns of each side, and gives one ratio.
 const TURNS: usize = 21;
 const PARTS: usize = 7;
 const GLYPHS: usize = 50_000;
+const NAMES: usize = 500;
+const VERBS: usize = 100;
 
 fn main() -> ExitCode {
-    println!("time of a lookup, ours to the crate's: median of {} parts (lowest to highest)", PARTS);
+    println!("time of a call, ours to the crate's: median of {} parts (lowest to highest)", PARTS);
     let mut random = Random::new(1);
-    let same: Vec<bool> = subjects(&mut random).iter().map(measure).collect();
+    let same: Vec<bool> = subjects(&mut random).into_iter().map(measure).collect();
+    measure_line_test(&mut random);
     if same.contains(&false) {
         println!("the two sides differ");
         return ExitCode::FAILURE;
@@ -41,21 +53,43 @@ fn main() -> ExitCode {
 }
 
 fn subjects(random: &mut Random) -> Vec<Subject> {
+    let mut subjects = lookups(random);
+    subjects.extend(classes(random));
+    subjects.push(languages(random));
+    subjects.extend([1, 3, 5, 6, 13].map(|verb| one_verb(random, verb)));
+    subjects
+}
+
+fn lookups(random: &mut Random) -> Vec<Subject> {
     let elements: Vec<u16> = (0..2_000).map(|_| random.word()).collect();
     let array = |head: &[u16]| words(&[head, &elements].concat());
     let tables = [
-        ("format 0, 2,000 elements", array(&[0]), 2_000),
-        ("format 2, 500 segments", records(2, 500, 60), 30_000),
-        ("format 4, 500 segments", records(4, 500, 60), 30_000),
-        ("format 6, 2,000 records", records(6, 2_000, 2), 4_000),
-        ("format 8, 2,000 elements", array(&[8, 500, 2_000]), 3_000),
-        ("format 10, 2,000 elements", array(&[10, 2, 500, 2_000]), 3_000),
+        ("lookup, format 0, 2,000 elements", array(&[0]), 2_000),
+        ("lookup, format 2, 500 segments", records(2, 500, 60), 30_000),
+        ("lookup, format 4, 500 segments", records(4, 500, 60), 30_000),
+        ("lookup, format 6, 2,000 records", records(6, 2_000, 2), 4_000),
+        ("lookup, format 8, 2,000 elements", array(&[8, 500, 2_000]), 3_000),
+        ("lookup, format 10, 2,000 elements", array(&[10, 2, 500, 2_000]), 3_000),
     ];
     let subject = |(name, table, highest)| {
-        let glyphs = (0..GLYPHS).map(|_| random.below(highest) as u16).collect();
-        Subject { name, table, glyphs }
+        Subject::of_items(name, table, any_glyphs(random, highest), ours::lookup, theirs::lookup)
     };
     tables.into_iter().map(subject).collect()
+}
+
+fn classes(random: &mut Random) -> [Subject; 2] {
+    let by_lookup = extended(&records(6, 2_000, 2));
+    let by_array = classic(500, 2_000, &random.bytes(2_000));
+    let [few, fewer] = [4_000, 3_000].map(|highest| any_glyphs(random, highest));
+    let name = "class, extended, format 6, 2,000 records";
+    let extended = Subject::of_items(name, by_lookup, few, ours::class_extended, theirs::class_extended);
+    let name = "class, classic, 2,000 glyphs";
+    let classic = Subject::of_items(name, by_array, fewer, ours::class_classic, theirs::class_classic);
+    [extended, classic]
+}
+
+fn any_glyphs(random: &mut Random, highest: usize) -> Vec<u16> {
+    (0..GLYPHS).map(|_| random.below(highest) as u16).collect()
 }
 
 /// Records for the first half of each stretch of glyphs; in format 4 all share their elements.
@@ -72,13 +106,63 @@ fn records(format: u16, count: u16, stretch: u16) -> Vec<u8> {
     table
 }
 
+/// 200 tags of three letters, and names that are mostly among them.
+fn languages(random: &mut Random) -> Subject {
+    let mut any_tag = || -> String { (0..3).map(|_| random.among(b"abcdefgh") as char).collect() };
+    let tags: Vec<String> = (0..200).map(|_| any_tag()).collect();
+    let table = with_tags(&tags.iter().map(|tag| tag.as_bytes()).collect::<Vec<_>>());
+    let mut any_name = || if random.once_in(10) { String::from("xyz") } else { tags[random.below(200)].clone() };
+    let names: Vec<&'static str> = (0..NAMES).map(|_| &*Box::leak(any_name().into_boxed_str())).collect();
+    Subject::of_items("language_index, 200 tags", table, names, ours::language_index, theirs::language_index)
+}
+
+/// A verb on the whole line, again and again; both sides begin with the same line.
+fn one_verb(random: &mut Random, verb: u16) -> Subject {
+    let mut our_line = Line::any(random);
+    let mut their_line = our_line.clone();
+    let rearrange = rearrange(verb, 0, PLACES - 1).expect("a verb that moves something");
+    let our_turn = move || {
+        (0..VERBS).for_each(|_| ours::verb(&mut our_line, verb));
+        our_line.glance()
+    };
+    let their_turn = move || {
+        (0..VERBS).for_each(|_| theirs::verb(&mut their_line, &rearrange));
+        their_line.glance()
+    };
+    let name = format!("verb {}, 4,096 places", verb);
+    Subject { name, calls: VERBS, ours: Box::new(our_turn), theirs: Box::new(their_turn) }
+}
+
+impl Subject {
+    /// A call for each glyph or name.
+    fn of_items<T: Copy + 'static>(
+        name: &str,
+        table: Vec<u8>,
+        items: Vec<T>,
+        ours: impl Fn(&[u8], T) -> Option<u32> + 'static,
+        theirs: impl Fn(&[u8], T) -> Option<u32> + 'static,
+    ) -> Self {
+        let calls = items.len();
+        let asked = Rc::new((table, items));
+        Subject { name: name.into(), calls, ours: turn(asked.clone(), ours), theirs: turn(asked, theirs) }
+    }
+}
+
+fn turn<T: Copy + 'static>(asked: Rc<(Vec<u8>, Vec<T>)>, call: impl Fn(&[u8], T) -> Option<u32> + 'static) -> Turn {
+    Box::new(move || {
+        let (table, items) = &*asked;
+        let found = items.iter().filter_map(|item| call(table, *item));
+        found.map(|value| u64::from(value) + 1).sum()
+    })
+}
+
 /// Prints how long the two sides take; true where they find the same.
-fn measure(subject: &Subject) -> bool {
-    let mut parts: Vec<Part> = (0..PARTS).map(|_| Part::measured(subject)).collect();
+fn measure(mut subject: Subject) -> bool {
+    let mut parts: Vec<Part> = (0..PARTS).map(|_| Part::measured(&mut subject)).collect();
     parts.sort_by(|one, other| one.ratio().total_cmp(&other.ratio()));
     let [lowest, middle, highest] = [0, PARTS / 2, PARTS - 1].map(|part| &parts[part]);
     println!(
-        "{:26} {:.2} ({:.2} to {:.2}): {:.1} ns to {:.1} ns",
+        "{:42} {:.2} ({:.2} to {:.2}): {:.1} ns to {:.1} ns",
         subject.name,
         middle.ratio(),
         lowest.ratio(),
@@ -89,6 +173,17 @@ fn measure(subject: &Subject) -> bool {
     parts.iter().all(|part| part.same)
 }
 
+/// Prints how long verb 0 takes, which tests the line and moves nothing; the crate has nothing like it.
+fn measure_line_test(random: &mut Random) {
+    let mut line = Line::any(random);
+    let mut turn: Turn = Box::new(move || {
+        (0..VERBS).for_each(|_| ours::verb(&mut line, 0));
+        0
+    });
+    let times = (0..PARTS * TURNS).map(|_| time(&mut turn, VERBS).0);
+    println!("{:42} {:.1} ns", "the test of a line (verb 0), 4,096 places", median(times));
+}
+
 /// The median times of some turns of both sides.
 struct Part {
     ours: f64,
@@ -97,8 +192,9 @@ struct Part {
 }
 
 impl Part {
-    fn measured(subject: &Subject) -> Self {
-        let turns: Vec<_> = (0..TURNS).map(|_| (time(subject, our_lookup), time(subject, their_lookup))).collect();
+    fn measured(subject: &mut Subject) -> Self {
+        let Subject { calls, ours, theirs, .. } = subject;
+        let turns: Vec<_> = (0..TURNS).map(|_| (time(ours, *calls), time(theirs, *calls))).collect();
         Part {
             ours: median(turns.iter().map(|(ours, _)| ours.0)),
             theirs: median(turns.iter().map(|(_, theirs)| theirs.0)),
@@ -111,25 +207,11 @@ impl Part {
     }
 }
 
-/// Nanoseconds for one lookup, and the sum of what was found.
-fn time(subject: &Subject, lookup: impl Fn(&[u8], u16) -> Option<u32>) -> (f64, u64) {
+/// Nanoseconds for one of a turn's calls, and the sum of what they found.
+fn time(turn: &mut Turn, calls: usize) -> (f64, u64) {
     let began = Instant::now();
-    let found = subject.glyphs.iter().filter_map(|glyph| lookup(&subject.table, *glyph));
-    let sum = found.map(|value| u64::from(value) + 1).sum();
-    (began.elapsed().as_nanos() as f64 / subject.glyphs.len() as f64, sum)
-}
-
-#[inline(always)]
-fn our_lookup(table: &[u8], glyph: u16) -> Option<u32> {
-    let mut value = 0;
-    let answer = unsafe { aat_lookup(table.as_ptr(), table.len(), 0, glyph, &mut value) };
-    (answer == 0).then(|| value)
-}
-
-/// The crate's lookup as a call, like ours, so that no part of it leaves the loop.
-#[inline(never)]
-fn their_lookup(table: &[u8], glyph: u16) -> Option<u32> {
-    aat::lookup::<u16>(&Bytes::new(table), 0, glyph).map(u32::from)
+    let sum = turn();
+    (began.elapsed().as_nanos() as f64 / calls as f64, sum)
 }
 
 fn median(numbers: impl Iterator<Item = f64>) -> f64 {

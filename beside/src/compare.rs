@@ -17,7 +17,9 @@ pub trait Question {
     /// Adds the reply that the crate's answer asks for.
     fn reply(&self, table: &[u8], held: u64, reply: &mut Vec<u8>) -> Result<(), Fault>;
     /// Adds the question and its answer as the sample has them, after the table.
-    fn sample(&self, table: &[u8], sample: &mut Vec<u8>) -> Result<(), Fault>;
+    fn sample(&self, _table: &[u8], _sample: &mut Vec<u8>) -> Result<(), Fault> {
+        panic!("the sample has no form for {}", self.describe(0))
+    }
     /// The question in words, with what it lends.
     fn describe(&self, held: u64) -> String;
     /// A reply to it in words.
@@ -28,6 +30,11 @@ pub trait Question {
 pub trait Ask {
     /// Takes a question about a table.
     fn ask(&mut self, table: &Rc<[u8]>, question: Box<dyn Question>);
+
+    /// Takes a question that needs no table.
+    fn ask_alone(&mut self, question: Box<dyn Question>) {
+        self.ask(&Rc::from(Vec::new()), question);
+    }
 }
 
 /// Counts the questions and asks nobody.
@@ -156,7 +163,7 @@ impl Comparison {
 
     fn count_fault(&mut self, table: &[u8], question: &dyn Question, held: u64, fault: Fault) {
         self.totals.differences += 1;
-        self.totals.panics += u64::from(fault == Fault::Panic);
+        self.totals.panics += u64::from(fault.is_panic());
         if self.totals.differences <= DIFFERENCES_SHOWN {
             print_case(table, question, held);
             println!("  {}", fault.describe());

@@ -4,6 +4,8 @@ use crate::compare::{Ask, Question};
 use crate::lookup_tables::{record_size, with_records, words, Made, Record};
 use crate::oracle::{self, Answer, Fault, LONGEST_TABLE};
 use crate::random::Random;
+use crate::reply::{describe_value, number, reply_value};
+use crate::strings::for_each_string;
 use crate::survey::{plain_look, survey, Verdict};
 use std::rc::Rc;
 
@@ -38,9 +40,7 @@ impl Question for Lookup {
     }
 
     fn reply(&self, table: &[u8], held: u64, reply: &mut Vec<u8>) -> Result<(), Fault> {
-        let answer = self.answer(table)?;
-        reply.extend(answer.number().to_le_bytes());
-        reply.extend(answer.done().map_or(held as u32, u32::from).to_le_bytes());
+        reply_value(self.answer(table)?, held, reply);
         Ok(())
     }
 
@@ -55,7 +55,7 @@ impl Question for Lookup {
     }
 
     fn describe_reply(&self, reply: &[u8]) -> String {
-        format!("answer {}, value {}", number(&reply[..4]), number(&reply[4..]))
+        describe_value(reply)
     }
 }
 
@@ -116,10 +116,6 @@ fn sample_case(sample: &mut Vec<u8>, start: u64, glyph: u16, answer: u32, values
     sample.extend(glyph.to_be_bytes());
     sample.push(answer as u8);
     sample.extend(words(&values));
-}
-
-fn number(bytes: &[u8]) -> u64 {
-    bytes.iter().rev().fold(0, |number, byte| number << 8 | u64::from(*byte))
 }
 
 /// Every question about lookups, with so many random ones.
@@ -309,19 +305,4 @@ fn sampled_tables(
             left -= 1;
         }
     }
-}
-
-/// Calls `work` with every string of at most `longest` letters.
-fn for_each_string<T: Copy>(alphabet: &[T], longest: usize, work: &mut dyn FnMut(&[T])) {
-    fn extend<T: Copy>(string: &mut Vec<T>, alphabet: &[T], longest: usize, work: &mut dyn FnMut(&[T])) {
-        work(string);
-        if string.len() < longest {
-            for letter in alphabet {
-                string.push(*letter);
-                extend(string, alphabet, longest, work);
-                string.pop();
-            }
-        }
-    }
-    extend(&mut Vec::new(), alphabet, longest, work);
 }

@@ -2,11 +2,11 @@
 
 use crate::random::Random;
 
-/// A lookup table within a table, and the glyphs at which its parts begin and end.
+/// A table with what is asked about from `start` on, and the glyphs at which its parts begin and end.
 pub struct Made {
     pub table: Vec<u8>,
-    start: usize,
-    edges: Vec<u16>,
+    pub start: usize,
+    pub edges: Vec<u16>,
 }
 
 /// A record of format 2, 4 or 6; format 6 has its first glyph alone.
@@ -50,17 +50,22 @@ pub fn with_records(format: u16, unit: u16, count: u16, records: &[Record]) -> V
 }
 
 impl Made {
-    /// Any table: of any format, often damaged, often behind other bytes.
+    /// Any lookup table: of any format, often damaged, often behind other bytes.
     pub fn any(random: &mut Random, most_records: usize) -> Self {
         let (mut lookup, edges) = any_lookup(random, most_records);
         damage(random, &mut lookup);
+        Made::behind_others(random, lookup, edges)
+    }
+
+    /// These bytes, often behind others.
+    pub fn behind_others(random: &mut Random, bytes: Vec<u8>, edges: Vec<u16>) -> Self {
         let before = random.among(&[0, 0, 1, 2, 40]);
         let mut table = random.bytes(before);
-        table.extend(lookup);
+        table.extend(bytes);
         Made { table, start: before, edges }
     }
 
-    /// A start to ask at: mostly the lookup's own.
+    /// A start to ask at: mostly the right one.
     pub fn any_start(&self, random: &mut Random) -> u64 {
         if !random.once_in(8) {
             return self.start as u64;
@@ -97,13 +102,13 @@ fn any_lookup(random: &mut Random, most_records: usize) -> (Vec<u8>, Vec<u16>) {
 }
 
 /// Mostly few, sometimes many.
-fn any_size(random: &mut Random, most: usize) -> usize {
+pub fn any_size(random: &mut Random, most: usize) -> usize {
     let limit = random.among(&[3, 8, 8, 20, 20, 20, 200, most]).min(most);
     random.below(limit + 1)
 }
 
 /// The count that a table of so many parts states: mostly the right one.
-fn any_count(random: &mut Random, right: usize) -> u16 {
+pub fn any_count(random: &mut Random, right: usize) -> u16 {
     let right = right as u16;
     match random.below(12) {
         0 => right.wrapping_add(1),
@@ -135,7 +140,7 @@ fn trimmed_array(random: &mut Random, format: u16, most: usize) -> (Vec<u8>, Vec
 }
 
 /// The last glyph of so many from the first one on, for each of the counts.
-fn last_glyphs(first: u16, counts: &[usize]) -> Vec<u16> {
+pub fn last_glyphs(first: u16, counts: &[usize]) -> Vec<u16> {
     counts.iter().map(|count| first.wrapping_add(*count as u16).wrapping_sub(1)).collect()
 }
 
@@ -223,7 +228,7 @@ fn place_elements(random: &mut Random, records: &mut [Record]) -> Vec<u8> {
 }
 
 /// Often changes, cuts or lengthens the bytes.
-fn damage(random: &mut Random, lookup: &mut Vec<u8>) {
+pub fn damage(random: &mut Random, lookup: &mut Vec<u8>) {
     let length = lookup.len();
     match random.below(12) {
         0 => (0..4).for_each(|_| change_byte(random, lookup, length)),

@@ -1,14 +1,24 @@
 //! Runs the port beside the crate that it ports: the same questions to both, and every answer compared.
 
+mod classes;
 mod compare;
+mod language;
+mod language_tables;
+mod line;
 mod lookup;
 mod lookup_tables;
+mod ltag;
 mod oracle;
 mod pipe;
 mod progress;
 mod random;
+mod rearrange;
+mod reply;
 mod sample;
+mod state_tables;
+mod strings;
 mod survey;
+mod verbs;
 
 use compare::{Ask, Comparison, Count};
 use pipe::TheBox;
@@ -32,9 +42,13 @@ fn main() -> ExitCode {
     }
 }
 
-/// Every question of every part, with so many random cases in each.
+/// Every question of every part, with so many random cases, and fewer where they take longer.
 fn ask_all(asked: &mut dyn Ask, cases: u64, seed: u64) {
-    lookup::ask_all(asked, &mut Random::new(seed), cases);
+    let random = &mut Random::new(seed);
+    lookup::ask_all(asked, random, cases);
+    classes::ask_all(asked, random, cases);
+    language::ask_all(asked, random, cases / 2);
+    verbs::ask_all(asked, random, cases / 5);
 }
 
 fn compare(cases: u64, seed: u64, command: &[String]) -> ExitCode {
@@ -49,6 +63,9 @@ fn compare(cases: u64, seed: u64, command: &[String]) -> ExitCode {
     let totals = comparison.finish();
     if totals.panics > 0 {
         println!("the crate panicked in {} cases", totals.panics);
+    }
+    if oracle::check_range_as_none() > 0 {
+        println!("a panic in check_range was taken for None in {} cases", oracle::check_range_as_none());
     }
     println!("{} cases, {} differences (seed {})", totals.cases, totals.differences, seed);
     ExitCode::from(u8::from(totals.differences > 0))

@@ -1,7 +1,7 @@
 //! The crate, unchanged, and its answers in document 01's numbers.
 
 use std::cell::Cell;
-use std::panic::{catch_unwind, set_hook, take_hook, AssertUnwindSafe};
+use std::panic::{catch_unwind, set_hook, take_hook, AssertUnwindSafe, Location};
 
 /// The crate's module, as published.
 #[path = "../../docs/src/aat.rs"]
@@ -31,6 +31,9 @@ pub enum Answer<T> {
     Done(T),
     Nothing,
     Table,
+    Line,
+    Place,
+    Head,
 }
 
 impl<T: Copy> Answer<T> {
@@ -45,6 +48,9 @@ impl<T: Copy> Answer<T> {
             Answer::Done(_) => 0,
             Answer::Nothing => 1,
             Answer::Table => 2,
+            Answer::Line => 3,
+            Answer::Place => 4,
+            Answer::Head => 6,
         }
     }
 
@@ -62,7 +68,9 @@ impl<T: Copy> Answer<T> {
 pub enum Fault {
     /// The crate panicked where document 01 names no panic.
     Panic,
-    /// A document, or a plain look where the survey passes the table, gives another answer.
+    /// The crate subtracted past the end in `check_range`, which gives false in a build without overflow checks.
+    CheckRange,
+    /// A document, or a plain reading of it, gives another answer.
     Disputed,
 }
 
@@ -71,31 +79,70 @@ impl Fault {
     pub fn describe(self) -> &'static str {
         match self {
             Fault::Panic => "the crate panicked",
-            Fault::Disputed => "the crate gave another answer than a document or a plain look",
+            Fault::CheckRange => "the crate panicked in check_range",
+            Fault::Disputed => "the crate gave another answer than a document or a plain reading of it",
         }
+    }
+
+    /// Whether the crate panicked.
+    pub fn is_panic(self) -> bool {
+        matches!(self, Fault::Panic | Fault::CheckRange)
     }
 }
 
 thread_local! {
     static CRATE_AT_WORK: Cell<bool> = Cell::new(false);
+    static LAST_PANIC: Cell<Fault> = Cell::new(Fault::Panic);
+    static CHECK_RANGE_AS_NONE: Cell<u64> = Cell::new(0);
 }
 
-/// Keeps quiet about the crate's panics, which are counted, and about no others.
+/// Keeps quiet about the crate's panics, which are counted by their place, and about no others.
 pub fn quiet_crate() {
     let usual = take_hook();
     set_hook(Box::new(move |panic| {
-        if !CRATE_AT_WORK.with(Cell::get) {
+        if CRATE_AT_WORK.with(Cell::get) {
+            LAST_PANIC.with(|last| last.set(fault_at(panic.location())));
+        } else {
             usual(panic)
         }
     }));
 }
 
+/// The fault that a panic at this place is.
+fn fault_at(place: Option<&Location>) -> Fault {
+    match place {
+        Some(place) if place.file().ends_with("/parse.rs") && subtracts_past_end(place.line()) => Fault::CheckRange,
+        _ => Fault::Panic,
+    }
+}
+
+/// Whether this line of parse.rs is the one of `check_range` whose `&` subtracts in any case.
+fn subtracts_past_end(line: u32) -> bool {
+    let text = include_str!("../../docs/src/parse.rs").lines().nth(line as usize - 1);
+    text.map(str::trim) == Some("(offset < end) & (end - offset >= len)")
+}
+
 /// What the crate gives, or that it panicked.
-fn caught<T>(work: impl FnOnce() -> T) -> Result<T, Fault> {
+pub fn caught<T>(work: impl FnOnce() -> T) -> Result<T, Fault> {
     CRATE_AT_WORK.with(|at_work| at_work.set(true));
     let given = catch_unwind(AssertUnwindSafe(work));
     CRATE_AT_WORK.with(|at_work| at_work.set(false));
-    given.map_err(|_| Fault::Panic)
+    given.map_err(|_| LAST_PANIC.with(Cell::get))
+}
+
+/// The same, with the answer of a build without overflow checks for a panic in `check_range`.
+fn caught_unchecked<T>(work: impl FnOnce() -> Option<T>) -> Result<Option<T>, Fault> {
+    let given = caught(work);
+    if let Err(Fault::CheckRange) = given {
+        CHECK_RANGE_AS_NONE.with(|count| count.set(count.get() + 1));
+        return Ok(None);
+    }
+    given
+}
+
+/// In how many cases so far a panic in `check_range` was taken for None.
+pub fn check_range_as_none() -> u64 {
+    CHECK_RANGE_AS_NONE.with(Cell::get)
 }
 
 /// The crate's lookup of a 16-bit element.
@@ -104,4 +151,33 @@ pub fn lookup(table: &[u8], start: u64, glyph: u16) -> Result<Answer<u16>, Fault
         return Ok(Answer::Table);
     }
     caught(|| Answer::of(aat::lookup::<u16>(&Bytes::new(table), start as usize, glyph)))
+}
+
+/// The crate's class of a glyph in the extended state table that begins at `start`.
+pub fn class_extended(table: &[u8], start: u64, glyph: u16) -> Result<Answer<u16>, Fault> {
+    class(table, start, |data| Some(aat::ExtendedStateTable::new(data)?.class(glyph)))
+}
+
+/// The crate's class of a glyph in the classic state table that begins at `start`.
+pub fn class_classic(table: &[u8], start: u64, glyph: u16) -> Result<Answer<u16>, Fault> {
+    class(table, start, |data| Some(aat::StateTable::new(data)?.class(glyph)))
+}
+
+/// HEAD where the start is past the table, or there is no state table to tell the class.
+fn class(table: &[u8], start: u64, tell: impl Fn(&Bytes) -> Option<u16>) -> Result<Answer<u16>, Fault> {
+    if table.len() > LONGEST_TABLE {
+        return Ok(Answer::Table);
+    }
+    let told = caught(|| tell(&Bytes::with_offset(table, start as usize)?))?;
+    Ok(told.map_or(Answer::Head, Answer::Done))
+}
+
+/// The crate's index of a language's name. It takes a start of 32 bits; the last of them is past every table, as all
+/// above it are.
+pub fn language_index(table: &[u8], start: u64, name: &str) -> Result<Answer<u32>, Fault> {
+    if table.len() > LONGEST_TABLE {
+        return Ok(Answer::Table);
+    }
+    let start = u32::try_from(start).unwrap_or(u32::MAX);
+    caught_unchecked(|| aat::morx::language_index(table, start, name)).map(Answer::of)
 }

@@ -45,6 +45,22 @@ impl TheBox {
 /// Adds the call that lends a table to the calls after it.
 pub fn lend_table(table: &[u8], batch: &mut Vec<u8>) {
     batch.push(0);
-    batch.extend((table.len() as u32).to_le_bytes());
-    batch.extend(table);
+    lend_bytes(table, batch);
+}
+
+/// Adds a table's or name's length and bytes.
+pub fn lend_bytes(bytes: &[u8], batch: &mut Vec<u8>) {
+    batch.extend((bytes.len() as u32).to_le_bytes());
+    batch.extend(bytes);
+}
+
+/// Adds the count of a line's glyphs, tags or homes, and these.
+pub fn lend_numbers(numbers: &[u16], batch: &mut Vec<u8>) {
+    batch.extend((numbers.len() as u32).to_le_bytes());
+    add_numbers(numbers, batch);
+}
+
+/// Adds a line's glyphs, tags or homes alone, as a reply has them.
+pub fn add_numbers(numbers: &[u16], batch: &mut Vec<u8>) {
+    batch.extend(numbers.iter().flat_map(|number| number.to_le_bytes()));
 }

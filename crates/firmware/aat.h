@@ -1,6 +1,6 @@
 /* The entries of libfirmware.a, for C programs on x86-64.
 
-   Each gives the number of its answer. On every answer but AAT_DONE the lent numbers stay as they were. */
+   Each gives the number of its answer. On every answer but AAT_DONE the lent numbers and slices stay as they were. */
 
 #ifndef AAT_H
 #define AAT_H
@@ -15,6 +15,9 @@ enum aat_answer {
     AAT_DONE = 0,    /* all was done, and the lent numbers hold the result */
     AAT_NOTHING = 1, /* nothing was found */
     AAT_TABLE = 2,   /* the table is longer than AAT_LONGEST_TABLE */
+    AAT_LINE = 3,    /* the lent lengths, tags or homes are not a line's, or its room is above AAT_LARGEST_ROOM */
+    AAT_PLACE = 4,   /* the window's start is above its end or above the used length */
+    AAT_HEAD = 6,    /* the start is past the table, or no state table can be read there */
 };
 
 enum aat_verdict {
@@ -23,7 +26,7 @@ enum aat_verdict {
     AAT_BAD = 2,        /* some record is out of order or not wholly in the table */
 };
 
-enum { AAT_LONGEST_TABLE = 16777216 };
+enum { AAT_LONGEST_TABLE = 16777216, AAT_LARGEST_ROOM = 4096 };
 
 /* The 16-bit element of glyph in the lookup table that begins at start. */
 uint32_t aat_lookup(const uint8_t *table, size_t table_len, size_t start, uint16_t glyph, uint32_t *value);
@@ -31,5 +34,28 @@ uint32_t aat_lookup(const uint8_t *table, size_t table_len, size_t start, uint16
 /* Whether the records of the lookup table that begins at start are in order; with AAT_BAD, record is the number of the first
    that is not, and else stays as it was. */
 uint32_t aat_survey(const uint8_t *table, size_t table_len, size_t start, uint32_t *verdict, uint32_t *record);
+
+/* The class of glyph in the extended state table that begins at start. */
+uint32_t aat_class_extended(const uint8_t *table, size_t table_len, size_t start, uint16_t glyph, uint32_t *value);
+
+/* The class of glyph in the classic state table that begins at start. */
+uint32_t aat_class_classic(const uint8_t *table, size_t table_len, size_t start, uint16_t glyph, uint32_t *value);
+
+/* The index of the tag with the bytes of name in the ltag table that begins at start. */
+uint32_t aat_language_index(const uint8_t *table, size_t table_len, size_t start, const uint8_t *name, size_t name_len,
+                            uint32_t *value);
+
+/* A line is lent as glyphs and tags, one of each for every place of its room, and homes, one for every character: the tag
+   of the glyph that it belongs to. The line is the first places, as many as the used length says. Their tags are the
+   numbers below the used length, once each; every home is one of them, and there are no more homes than places. */
+
+/* Starts a line of homes_len characters: the first tags and all homes count up from 0, and used is homes_len. */
+uint32_t aat_fresh(const uint16_t *glyphs, size_t glyphs_len, uint16_t *tags, size_t tags_len, uint16_t *homes,
+                   size_t homes_len, size_t *used);
+
+/* Rearranges the window from start to end, both places included and the end cut to the line, by the verb of this number
+   modulo 16; tags move with glyphs. */
+uint32_t aat_verb(uint16_t *glyphs, size_t glyphs_len, uint16_t *tags, size_t tags_len, const uint16_t *homes,
+                  size_t homes_len, size_t used, uint16_t verb, size_t start, size_t end);
 
 #endif

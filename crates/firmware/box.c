@@ -1,11 +1,20 @@
 /* The box: answers calls on standard input by the static library's entries, on standard output.
 
-   A call is its number in one byte, then its arguments. A reply is the entry's answer, then every lent number as the call
-   left it. All numbers are little-endian; their sizes in bytes:
+   A call is its number in one byte, then its arguments. A reply is the entry's answer, then every lent number and every part
+   of a line as the call left it. All numbers are little-endian; their sizes in bytes:
 
-       0 table    length 4, the bytes                no reply: the calls that follow are about this table
-       1 lookup   start 8, glyph 2, value 4          answer 4, value 4
-       2 survey   start 8, verdict 4, record 4       answer 4, verdict 4, record 4
+       0 table             length 4, the bytes               no reply: the calls that follow are about this table
+       1 lookup            start 8, glyph 2, value 4         answer 4, value 4
+       2 survey            start 8, verdict 4, record 4      answer 4, verdict 4, record 4
+       3 class_extended    start 8, glyph 2, value 4         answer 4, value 4
+       4 class_classic     start 8, glyph 2, value 4         answer 4, value 4
+       5 language_index    start 8, name, value 4            answer 4, value 4
+       6 fresh             glyphs, tags, homes, used 8       answer 4, glyphs, tags, homes, used 8
+       7 verb              glyphs, tags, homes, used 8,      answer 4, glyphs, tags, homes
+                           verb 2, start 8, end 8
+
+   A name is its length 4 and the bytes. Glyphs, tags and homes are each a count 4 and so many numbers 2; a reply has the
+   numbers alone.
 
    Replies are sent when the input runs dry. Exit status 0 when it ends between calls, 1 for anything out of this form. */
 
@@ -20,6 +29,17 @@ typedef __UINT64_TYPE__ uint64_t;
 /* Longer than the longest table, so that the refusal can be asked for. */
 static uint8_t table[AAT_LONGEST_TABLE + 4096];
 static size_t table_len;
+
+/* Longer than a tag of ltag can be. */
+static uint8_t name[65536 + 64];
+
+/* Glyphs, tags or homes: longer than a line, so that the refusal can be asked for. */
+struct slice {
+    uint16_t numbers[AAT_LARGEST_ROOM + 64];
+    size_t len;
+};
+
+static struct slice glyphs, tags, homes;
 
 static uint8_t input[65536], output[65536];
 static size_t input_len, input_at, output_len;
@@ -62,17 +82,47 @@ static void put(uint64_t number, int bytes) {
     }
 }
 
-static void take_table(void) {
-    table_len = take(4);
-    if (table_len > sizeof table) exit(1);
-    for (size_t i = 0; i < table_len; i++) table[i] = take_byte();
+static size_t take_bytes(uint8_t *bytes, size_t most) {
+    size_t len = take(4);
+    if (len > most) exit(1);
+    for (size_t i = 0; i < len; i++) bytes[i] = take_byte();
+    return len;
 }
 
-static void lookup(void) {
+static void take_slice(struct slice *slice) {
+    slice->len = take(4);
+    if (slice->len > sizeof slice->numbers / sizeof slice->numbers[0]) exit(1);
+    for (size_t i = 0; i < slice->len; i++) slice->numbers[i] = (uint16_t)take(2);
+}
+
+static void put_slice(const struct slice *slice) {
+    for (size_t i = 0; i < slice->len; i++) put(slice->numbers[i], 2);
+}
+
+static void take_line(void) {
+    take_slice(&glyphs);
+    take_slice(&tags);
+    take_slice(&homes);
+}
+
+static void put_line(void) {
+    put_slice(&glyphs);
+    put_slice(&tags);
+    put_slice(&homes);
+}
+
+static void take_table(void) {
+    table_len = take_bytes(table, sizeof table);
+}
+
+typedef uint32_t value_of_glyph(const uint8_t *, size_t, size_t, uint16_t, uint32_t *);
+
+/* An entry that gives the value of a glyph: lookup or one of the two classes. */
+static void look(value_of_glyph *entry) {
     size_t start = take(8);
     uint16_t glyph = (uint16_t)take(2);
     uint32_t value = (uint32_t)take(4);
-    put(aat_lookup(table, table_len, start, glyph, &value), 4);
+    put(entry(table, table_len, start, glyph, &value), 4);
     put(value, 4);
 }
 
@@ -85,11 +135,42 @@ static void survey(void) {
     put(record, 4);
 }
 
+static void language_index(void) {
+    size_t start = take(8);
+    size_t name_len = take_bytes(name, sizeof name);
+    uint32_t value = (uint32_t)take(4);
+    put(aat_language_index(table, table_len, start, name, name_len, &value), 4);
+    put(value, 4);
+}
+
+static void fresh(void) {
+    take_line();
+    size_t used = take(8);
+    put(aat_fresh(glyphs.numbers, glyphs.len, tags.numbers, tags.len, homes.numbers, homes.len, &used), 4);
+    put_line();
+    put(used, 8);
+}
+
+static void verb(void) {
+    take_line();
+    size_t used = take(8);
+    uint16_t number = (uint16_t)take(2);
+    size_t start = take(8);
+    size_t end = take(8);
+    put(aat_verb(glyphs.numbers, glyphs.len, tags.numbers, tags.len, homes.numbers, homes.len, used, number, start, end), 4);
+    put_line();
+}
+
 static void answer(uint8_t call) {
     switch (call) {
     case 0: take_table(); break;
-    case 1: lookup(); break;
+    case 1: look(aat_lookup); break;
     case 2: survey(); break;
+    case 3: look(aat_class_extended); break;
+    case 4: look(aat_class_classic); break;
+    case 5: language_index(); break;
+    case 6: fresh(); break;
+    case 7: verb(); break;
     default: exit(1);
     }
 }

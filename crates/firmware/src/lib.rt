@@ -6,8 +6,11 @@ ghost use mathlib.Core.Path.{_≡_};
 ghost use Rattle.answers.specs.Numbers.{numberOf, answerOf, valueOf};
 ghost use Rattle.tables.specs.Lookup.{lookupReply};
 ghost use Rattle.tables.specs.Survey.{surveyed};
+ghost use Rattle.state_tables.specs.Classes.{classExtended, classClassic};
+ghost use Rattle.ltag.specs.Ltag.{languageIndex};
 ghost use Rattle.line.specs.Line.{lineOf};
 ghost use Rattle.line.specs.Entries.{freshCall, freshAnswer, freshUsed, verbCall};
+ghost use Rattle.rearrangement.specs.Rearrangement.{passCall, callLeaves};
 ghost use Rattle.firmware.specs.Survey.{surveyAnswer, verdictOf, badRecord};
 
 // Puts the value of a reply where it was lent, and answers with its number.
@@ -32,6 +35,44 @@ pub extern "C" fn aat_lookup(table: &[u8], start: usize, glyph: u16, value: &mut
     ensures value { λ r. ⌜ now (value .exit) ≡ valueOf (lookupReply (now (table .entry)) start glyph) (now (value .entry)) ⌝ }
 {
     put_reply(tables::lookup::lookup(table, start, glyph), value)
+}
+
+// The class of a glyph in the extended state table at `start`.
+#[no_mangle]
+pub extern "C" fn aat_class_extended(table: &[u8], start: usize, glyph: u16, value: &mut u32) -> u32
+    ensures answer { λ r. ⌜ r ≡ numberOf (answerOf (classExtended (now (table .entry)) start glyph)) ⌝ }
+    ensures value { λ r. ⌜ now (value .exit) ≡ valueOf (classExtended (now (table .entry)) start glyph) (now (value .entry)) ⌝ }
+{
+    put_reply(
+        state_tables::classes::class_extended(table, start, glyph),
+        value,
+    )
+}
+
+// The class of a glyph in the classic state table at `start`.
+#[no_mangle]
+pub extern "C" fn aat_class_classic(table: &[u8], start: usize, glyph: u16, value: &mut u32) -> u32
+    ensures answer { λ r. ⌜ r ≡ numberOf (answerOf (classClassic (now (table .entry)) start glyph)) ⌝ }
+    ensures value { λ r. ⌜ now (value .exit) ≡ valueOf (classClassic (now (table .entry)) start glyph) (now (value .entry)) ⌝ }
+{
+    put_reply(
+        state_tables::classes::class_classic(table, start, glyph),
+        value,
+    )
+}
+
+// The number of a language's tag in the ltag table at `start`.
+#[no_mangle]
+pub extern "C" fn aat_language_index(
+    table: &[u8],
+    start: usize,
+    name: &[u8],
+    value: &mut u32,
+) -> u32
+    ensures answer { λ r. ⌜ r ≡ numberOf (answerOf (languageIndex (now (table .entry)) start (now (name .entry)))) ⌝ }
+    ensures value { λ r. ⌜ now (value .exit) ≡ valueOf (languageIndex (now (table .entry)) start (now (name .entry))) (now (value .entry)) ⌝ }
+{
+    put_reply(ltag::language_index(table, start, name), value)
 }
 
 // The survey of the lookup table at `start`.
@@ -100,4 +141,21 @@ pub extern "C" fn aat_verb(
     ensures tags { λ r. ⌜ now (tags .exit) ≡ verbCall (lineOf (now (glyphs .entry)) (now (tags .entry)) (now (homes .entry)) used) verb start end .line .tags ⌝ }
 {
     answers::number(line::lone_verb(glyphs, tags, homes, used, verb, start, end))
+}
+
+// The rearrangement pass over a line, by the subtable at `start`.
+#[no_mangle]
+pub extern "C" fn aat_rearrangement_pass(
+    table: &[u8],
+    start: usize,
+    glyphs: &mut [u16],
+    tags: &mut [u16],
+    homes: &[u16],
+    used: usize,
+) -> u32
+    ensures answer { λ r. ⌜ r ≡ numberOf (passCall (now (table .entry)) start (lineOf (now (glyphs .entry)) (now (tags .entry)) (now (homes .entry)) used) .answer) ⌝ }
+    ensures glyphs { λ r. ⌜ now (glyphs .exit) ≡ callLeaves (now (table .entry)) start (lineOf (now (glyphs .entry)) (now (tags .entry)) (now (homes .entry)) used) .glyphs ⌝ }
+    ensures tags { λ r. ⌜ now (tags .exit) ≡ callLeaves (now (table .entry)) start (lineOf (now (glyphs .entry)) (now (tags .entry)) (now (homes .entry)) used) .tags ⌝ }
+{
+    answers::number(rearrangement::pass(table, start, glyphs, tags, homes, used))
 }

@@ -1,0 +1,106 @@
+//! Document 01's line: when it is refused, a fresh one, and its verbs as they are drawn; written from the document
+//! alone.
+
+use crate::oracle::Answer;
+
+/// The largest room that is not refused.
+pub const LARGEST_ROOM: usize = 4_096;
+
+/// A line as it is lent.
+#[derive(Clone, PartialEq)]
+pub struct Line {
+    pub glyphs: Vec<u16>,
+    pub tags: Vec<u16>,
+    pub homes: Vec<u16>,
+    pub used: u64,
+}
+
+impl Line {
+    /// Whether these are the glyphs, tags and homes of a line.
+    fn is_line(&self) -> bool {
+        let room = self.glyphs.len();
+        let fits = self.tags.len() == room && room <= LARGEST_ROOM && self.used <= room as u64;
+        fits && self.are_tags_once_each() && self.are_homes_in_line()
+    }
+
+    fn are_tags_once_each(&self) -> bool {
+        let mut tags = self.tags[..self.used as usize].to_vec();
+        tags.sort_unstable();
+        tags.iter().map(|tag| u64::from(*tag)).eq(0..self.used)
+    }
+
+    fn are_homes_in_line(&self) -> bool {
+        self.homes.len() as u64 <= self.used && self.homes.iter().all(|home| u64::from(*home) < self.used)
+    }
+}
+
+/// The answer to the start of a line of as many characters as there are homes, and the line as it is left.
+pub fn fresh(lent: &Line) -> (Answer<()>, Line) {
+    let mut line = lent.clone();
+    let (room, characters) = (line.glyphs.len(), line.homes.len());
+    if line.tags.len() != room || room > LARGEST_ROOM || characters > room {
+        return (Answer::Line, line);
+    }
+    for character in 0..characters {
+        line.tags[character] = character as u16;
+        line.homes[character] = character as u16;
+    }
+    line.used = characters as u64;
+    (Answer::Done(()), line)
+}
+
+/// The answer to a lone verb, and the line as it is left.
+pub fn lone_verb(lent: &Line, verb: u16, start: u64, end: u64) -> (Answer<()>, Line) {
+    let mut line = lent.clone();
+    if !line.is_line() {
+        return (Answer::Line, line);
+    }
+    if start > end || start > line.used {
+        return (Answer::Place, line);
+    }
+    let behind = line.used.min(end.saturating_add(1));
+    for part in [&mut line.glyphs, &mut line.tags] {
+        let window = &mut part[start as usize..behind as usize];
+        window.copy_from_slice(&rearranged(window, verb));
+    }
+    (Answer::Done(()), line)
+}
+
+/// The verbs by their numbers: a window before and after, where x is all between the letters.
+const VERBS: [(&str, &str); 16] = [
+    ("x", "x"),
+    ("Ax", "xA"),
+    ("xD", "Dx"),
+    ("AxD", "DxA"),
+    ("ABx", "xAB"),
+    ("ABx", "xBA"),
+    ("xCD", "CDx"),
+    ("xCD", "DCx"),
+    ("AxCD", "CDxA"),
+    ("AxCD", "DCxA"),
+    ("ABxD", "DxAB"),
+    ("ABxD", "DxBA"),
+    ("ABxCD", "CDxAB"),
+    ("ABxCD", "CDxBA"),
+    ("ABxCD", "DCxAB"),
+    ("ABxCD", "DCxBA"),
+];
+
+/// A window after the verb of this number modulo 16; one that is too short for the letters stays.
+fn rearranged(window: &[u16], verb: u16) -> Vec<u16> {
+    let (before, after) = VERBS[verb as usize % 16];
+    let letters = before.len() - 1;
+    if window.len() < letters {
+        return window.to_vec();
+    }
+    let between = window.len() - letters;
+    let mut left = window;
+    let mut parts = Vec::new();
+    for letter in before.chars() {
+        let (part, rest) = left.split_at(if letter == 'x' { between } else { 1 });
+        parts.push((letter, part));
+        left = rest;
+    }
+    let part_of = |letter| parts.iter().find(|part| part.0 == letter).expect("a letter of both sides").1;
+    after.chars().flat_map(part_of).copied().collect()
+}
