@@ -14,14 +14,18 @@ use Rattle.line.specs.Test.{lineTest, isValid, isLegal, areHoused, isOnceEach, 
 use Rattle.line.specs.Edits.{widthOf}
 use Rattle.line.specs.Changes.{numbersFrom, windowed, apply, applyAll}
 use Rattle.line.specs.Entries.{Left, freshOf, verbTests, verbMakes, madeBy, answerBy, verbChanges, verbCall}
-use Rattle.parse.specs.Reads.{inside, readU16}
+use Rattle.parse.specs.Reads.{inside, readU16, readU32}
+use Rattle.state_tables.specs.States.{extendedAt}
+use Rattle.state_tables.specs.Classes.{classByLookup, classOf, classIn, headTest, classReply, classExtended}
 use Rattle.tables.specs.Records.{formatOf}
 use Rattle.tables.specs.Lookup.{lookupReply, lookupAt, inFormat, trimmedAt, elementAt}
 
--- what is asked: the element of a glyph in the lookup table that these bytes are; the glyphs of the line 10 to 14 after a verb on a window
+-- what is asked: the element of a glyph in the lookup table that these bytes are; the glyphs of the line 10 to 14 after a verb on a window; the
+-- class of a glyph in the extended state table that these bytes are
 pub data Asked : Type 0 where
   lookup : List ℕ → ℕ → Asked
   verb : (number start end : ℕ) → Asked
+  class : List ℕ → ℕ → Asked
 
 -- an answer: its number, and the value where there is one
 pub record Given : Type 0 where
@@ -43,6 +47,7 @@ left l = record { number = numberOf (l .answer); values = l .line .glyphs }
 unfoldable pub answerTo : Asked → Given
 answerTo (lookup bytes glyph) = given (lookupReply bytes 0 glyph)
 answerTo (verb number start end) = left (verbCall line number start end)
+answerTo (class bytes glyph) = given (classExtended bytes 0 glyph)
 
 pub record Row : Type 0 where
   pub asked : Asked
@@ -55,6 +60,10 @@ row asked number values = record { asked = asked; answer = record { number = num
 abbrev trimmed : List ℕ
 trimmed = 0 ∷ 8 ∷ 0 ∷ 5 ∷ 0 ∷ 2 ∷ 0 ∷ 7 ∷ 0 ∷ 9 ∷ []
 
+-- a state table's head, whose class table is that lookup
+abbrev classed : List ℕ
+classed = 0 ∷ 0 ∷ 0 ∷ 4 ∷ 0 ∷ 0 ∷ 0 ∷ 16 ∷ 0 ∷ 0 ∷ 0 ∷ 0 ∷ 0 ∷ 0 ∷ 0 ∷ 0 ∷ trimmed
+
 unfoldable pub rows : List Row
 rows =
     row (verb 1 0 4) 0 (11 ∷ 12 ∷ 13 ∷ 14 ∷ 10 ∷ [])
@@ -66,8 +75,9 @@ rows =
     ∷ row (lookup trimmed 6) 0 (9 ∷ [])
     ∷ row (lookup trimmed 4) 1 []
     ∷ row (lookup trimmed 7) 1 []
+    ∷ row (class classed 0xFFFF) 0 (2 ∷ [])
     ∷ []
 
 pub known : map (λ (r : Row). answerTo (r .asked)) rows ≡ map (λ (r : Row). r .answer) rows
-unfolding rows answerTo tab every groupsOf across moved fromOf rearranged room lineTest isValid isLegal areHoused isOnceEach isNew freshOf numbersFrom verbTests verbMakes madeBy answerBy verbChanges verbCall widthOf windowed apply applyAll tableLimit refuse tableTest inside readU16 formatOf lookupReply lookupAt inFormat trimmedAt elementAt
+unfolding rows answerTo extendedAt readU32 classByLookup classOf classIn headTest classReply classExtended tab every groupsOf across moved fromOf rearranged room lineTest isValid isLegal areHoused isOnceEach isNew freshOf numbersFrom verbTests verbMakes madeBy answerBy verbChanges verbCall widthOf windowed apply applyAll tableLimit refuse tableTest inside readU16 formatOf lookupReply lookupAt inFormat trimmedAt elementAt
 known = refl

@@ -6,6 +6,36 @@ const OUT: i32 = 1;
 // The lookup table of document 01: format 8, first glyph 5, elements 7 and 9.
 const TRIMMED: [u8; 10] = [0, 8, 0, 5, 0, 2, 0, 7, 0, 9];
 
+// A state table's head, whose class table is that lookup.
+const CLASSED: [u8; 26] = [
+    0,
+    0,
+    0,
+    4,
+    0,
+    0,
+    0,
+    16,
+    0,
+    0,
+    0,
+    0,
+    0,
+    0,
+    0,
+    0,
+    0,
+    8,
+    0,
+    5,
+    0,
+    2,
+    0,
+    7,
+    0,
+    9,
+];
+
 fn print_number(name: &[u8], number: u64) {
     io::write_all(OUT, name);
     io::print_decimal(OUT, number);
@@ -27,6 +57,12 @@ fn print_reply(reply: Reply) {
 fn print_lookup(glyph: u16) {
     print_number(b"lookup of glyph ", glyph as u64);
     print_reply(tables::lookup::lookup(&TRIMMED, 0, glyph));
+}
+
+// The class of a glyph in an extended state table whose class table is that lookup.
+fn print_class(glyph: u16) {
+    print_number(b"class of glyph ", glyph as u64);
+    print_reply(state_tables::classes::class_extended(&CLASSED, 0, glyph));
 }
 
 fn print_glyph(glyph: u16) {
@@ -67,4 +103,5 @@ fn main() {
     print_lookup(6);
     print_lookup(4);
     print_lookup(7);
+    print_class(0xFFFF);
 }
