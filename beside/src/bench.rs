@@ -3,18 +3,27 @@
 #[allow(dead_code)]
 mod language_tables;
 #[allow(dead_code)]
+mod line;
+#[allow(dead_code)]
 mod lookup_tables;
+#[allow(dead_code)]
+mod morx_tables;
 #[allow(dead_code)]
 mod oracle;
 #[allow(dead_code)]
+mod pass;
+#[allow(dead_code)]
 mod random;
 mod rearrange;
+#[allow(dead_code)]
+mod rearrangement_pass;
 mod sides;
 #[allow(dead_code)]
 mod state_tables;
 
 use language_tables::with_tags;
-use lookup_tables::{record_size, with_records, words, Record};
+use lookup_tables::{record_size, with_records, with_values, words, Record};
+use morx_tables::{in_chain, machine, subtable};
 use random::Random;
 use rearrange::rearrange;
 use sides::{ours, theirs, Line, PLACES};
@@ -39,6 +48,7 @@ const PARTS: usize = 7;
 const GLYPHS: usize = 50_000;
 const NAMES: usize = 500;
 const VERBS: usize = 100;
+const PASSES: usize = 5;
 
 fn main() -> ExitCode {
     println!("time of a call, ours to the crate's: median of {} parts (lowest to highest)", PARTS);
@@ -57,6 +67,7 @@ fn subjects(random: &mut Random) -> Vec<Subject> {
     subjects.extend(classes(random));
     subjects.push(languages(random));
     subjects.extend([1, 3, 5, 6, 13].map(|verb| one_verb(random, verb)));
+    subjects.extend(rearrangement_passes(random));
     subjects
 }
 
@@ -116,21 +127,37 @@ fn languages(random: &mut Random) -> Subject {
     Subject::of_items("language_index, 200 tags", table, names, ours::language_index, theirs::language_index)
 }
 
-/// A verb on the whole line, again and again; both sides begin with the same line.
+/// A verb on the whole line.
 fn one_verb(random: &mut Random, verb: u16) -> Subject {
-    let mut our_line = Line::any(random);
-    let mut their_line = our_line.clone();
     let rearrange = rearrange(verb, 0, PLACES - 1).expect("a verb that moves something");
-    let our_turn = move || {
-        (0..VERBS).for_each(|_| ours::verb(&mut our_line, verb));
-        our_line.glance()
-    };
-    let their_turn = move || {
-        (0..VERBS).for_each(|_| theirs::verb(&mut their_line, &rearrange));
-        their_line.glance()
-    };
-    let name = format!("verb {}, 4,096 places", verb);
-    Subject { name, calls: VERBS, ours: Box::new(our_turn), theirs: Box::new(their_turn) }
+    let ours = move |line: &mut Line| ours::verb(line, verb);
+    let theirs = move |line: &mut Line| theirs::verb(line, &rearrange);
+    Subject::of_line(format!("verb {}, 4,096 places", verb), VERBS, Line::any(random, 65_536), ours, theirs)
+}
+
+/// Passes that do nothing, and passes that move a few glyphs at one place of four.
+fn rearrangement_passes(random: &mut Random) -> Vec<Subject> {
+    let nothing = [0; 8];
+    let verbs = [0, 0, 0, 0, 0, 0x8000, 0x2003, 0x2000];
+    let classes: Vec<u16> = (0..2_000).map(|_| 4 + random.below(4) as u16).collect();
+    let subject = |(name, format, flags)| rearrangement_pass(random, name, with_values(format, 0, &classes), flags);
+    let passes = [
+        ("rearrangement pass, format 8, no verbs", 8, nothing),
+        ("rearrangement pass, format 8, verbs", 8, verbs),
+        ("rearrangement pass, format 6, verbs", 6, verbs),
+    ];
+    passes.into_iter().map(subject).collect()
+}
+
+/// Passes over the whole line by a machine of one state, with these flags for its classes.
+fn rearrangement_pass(random: &mut Random, name: &str, class_table: Vec<u8>, flags: [u16; 8]) -> Subject {
+    let numbers: Vec<u16> = (0..8).collect();
+    let entries: Vec<u16> = flags.iter().flat_map(|flags| [0, *flags]).collect();
+    let our_table = subtable(0, &machine(8, &[class_table, words(&numbers), words(&entries)]));
+    let their_table = in_chain(&our_table);
+    let ours = move |line: &mut Line| ours::rearrangement_pass(line, &our_table);
+    let theirs = move |line: &mut Line| theirs::rearrangement_pass(line, &their_table);
+    Subject::of_line(name.into(), PASSES, Line::any(random, 2_000), ours, theirs)
 }
 
 impl Subject {
@@ -146,6 +173,29 @@ impl Subject {
         let asked = Rc::new((table, items));
         Subject { name: name.into(), calls, ours: turn(asked.clone(), ours), theirs: turn(asked, theirs) }
     }
+
+    /// So many calls on one line, again and again; both sides begin with the same line.
+    fn of_line(
+        name: String,
+        calls: usize,
+        line: Line,
+        ours: impl Fn(&mut Line) + 'static,
+        theirs: impl Fn(&mut Line) + 'static,
+    ) -> Self {
+        Subject {
+            name,
+            calls,
+            ours: turn_on_line(calls, line.clone(), ours),
+            theirs: turn_on_line(calls, line, theirs),
+        }
+    }
+}
+
+fn turn_on_line(calls: usize, mut line: Line, call: impl Fn(&mut Line) + 'static) -> Turn {
+    Box::new(move || {
+        (0..calls).for_each(|_| call(&mut line));
+        line.glance()
+    })
 }
 
 fn turn<T: Copy + 'static>(asked: Rc<(Vec<u8>, Vec<T>)>, call: impl Fn(&[u8], T) -> Option<u32> + 'static) -> Turn {
@@ -175,7 +225,7 @@ fn measure(mut subject: Subject) -> bool {
 
 /// Prints how long verb 0 takes, which tests the line and moves nothing; the crate has nothing like it.
 fn measure_line_test(random: &mut Random) {
-    let mut line = Line::any(random);
+    let mut line = Line::any(random, 65_536);
     let mut turn: Turn = Box::new(move || {
         (0..VERBS).for_each(|_| ours::verb(&mut line, 0));
         0

@@ -17,7 +17,7 @@ pub struct Line {
 
 impl Line {
     /// Whether these are the glyphs, tags and homes of a line.
-    fn is_line(&self) -> bool {
+    pub fn is_line(&self) -> bool {
         let room = self.glyphs.len();
         let fits = self.tags.len() == room && room <= LARGEST_ROOM && self.used <= room as u64;
         fits && self.are_tags_once_each() && self.are_homes_in_line()

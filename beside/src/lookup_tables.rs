@@ -49,6 +49,30 @@ pub fn with_records(format: u16, unit: u16, count: u16, records: &[Record]) -> V
     table
 }
 
+/// A lookup table of this format with these values for as many glyphs from the first on; format 0 has the first value for
+/// those before it too.
+pub fn with_values(format: u16, first: u16, values: &[u16]) -> Vec<u8> {
+    let count = values.len() as u16;
+    let last = first + (count - 1);
+    let single = |(glyph, value): (u16, &u16)| Record { first: glyph, last: glyph, value: *value };
+    let singles: Vec<Record> = (first..=last).zip(values).map(single).collect();
+    let all = Record { first, last, value: 12 + record_size(4) };
+    match format {
+        0 => words(&[&[0], &vec![values[0]; first as usize][..], values].concat()),
+        2 | 6 => with_records(format, record_size(format), count, &singles),
+        4 => [with_records(4, record_size(4), 1, &[all]), words(values)].concat(),
+        8 => words(&[&[8, first, count], values].concat()),
+        10 => words(&[&[10, 2, first, count], values].concat()),
+        _ => panic!("no format {}", format),
+    }
+}
+
+/// The same of any format, but of 0 only where few glyphs come before.
+pub fn any_with_values(random: &mut Random, first: u16, values: &[u16]) -> Vec<u8> {
+    let least = if first < 100 { 0 } else { 1 };
+    with_values(2 * (least + random.below(6 - least)) as u16, first, values)
+}
+
 impl Made {
     /// Any lookup table: of any format, often damaged, often behind other bytes.
     pub fn any(random: &mut Random, most_records: usize) -> Self {

@@ -2,17 +2,25 @@
 
 mod classes;
 mod compare;
+mod contextual_pass;
 mod language;
 mod language_tables;
+mod lent_line;
+mod limit;
 mod line;
 mod lookup;
 mod lookup_tables;
 mod ltag;
+mod morx_tables;
+mod noncontextual_pass;
 mod oracle;
+mod pass;
+mod passes;
 mod pipe;
 mod progress;
 mod random;
 mod rearrange;
+mod rearrangement_pass;
 mod reply;
 mod sample;
 mod state_tables;
@@ -21,20 +29,21 @@ mod survey;
 mod verbs;
 
 use compare::{Ask, Comparison, Count};
+use limit::Limited;
 use pipe::TheBox;
 use progress::Progress;
 use random::Random;
 use sample::Sample;
 use std::process::ExitCode;
 
-const USAGE: &str = "usage: beside compare CASES SEED BOX-COMMAND.. | beside sample FILE";
+const USAGE: &str = "usage: beside compare CASES SEED SECONDS BOX-COMMAND.. | beside sample FILE";
 
 fn main() -> ExitCode {
     oracle::quiet_crate();
     let words: Vec<String> = std::env::args().skip(1).collect();
     match words.iter().map(String::as_str).collect::<Vec<_>>()[..] {
-        ["compare", cases, seed, _, ..] => match (cases.parse(), seed.parse()) {
-            (Ok(cases), Ok(seed)) => compare(cases, seed, &words[3..]),
+        ["compare", cases, seed, seconds, _, ..] => match (cases.parse(), seed.parse(), seconds.parse()) {
+            (Ok(cases), Ok(seed), Ok(seconds)) => compare(cases, seed, seconds, &words[4..]),
             _ => failed(USAGE),
         },
         ["sample", file] => sample(file),
@@ -42,25 +51,32 @@ fn main() -> ExitCode {
     }
 }
 
-/// Every question of every part, with so many random cases, and fewer where they take longer.
-fn ask_all(asked: &mut dyn Ask, cases: u64, seed: u64) {
+/// Every question of every part, with so many random cases, and fewer where they take longer; how many were left out when a
+/// part's seconds were over.
+fn ask_all(asked: &mut dyn Ask, cases: u64, seed: u64, seconds: u64) -> u64 {
     let random = &mut Random::new(seed);
-    lookup::ask_all(asked, random, cases);
-    classes::ask_all(asked, random, cases);
-    language::ask_all(asked, random, cases / 2);
-    verbs::ask_all(asked, random, cases / 5);
+    let asked = &mut Limited::new(asked, seconds);
+    lookup::ask_all(asked.part(), random, cases);
+    classes::ask_all(asked.part(), random, cases);
+    language::ask_all(asked.part(), random, cases / 2);
+    verbs::ask_all(asked.part(), random, cases / 5);
+    passes::ask_all(asked.part(), random, cases / 5);
+    asked.left_out
 }
 
-fn compare(cases: u64, seed: u64, command: &[String]) -> ExitCode {
+fn compare(cases: u64, seed: u64, seconds: u64, command: &[String]) -> ExitCode {
     let mut count = Count::default();
-    ask_all(&mut count, cases, seed);
+    ask_all(&mut count, cases, seed, 0);
     let the_box = match TheBox::start(command) {
         Ok(the_box) => the_box,
         Err(error) => return failed(error),
     };
     let mut comparison = Comparison::new(the_box, Progress::new(count.0));
-    ask_all(&mut comparison, cases, seed);
+    let left_out = ask_all(&mut comparison, cases, seed, seconds);
     let totals = comparison.finish();
+    if left_out > 0 {
+        println!("{} cases were left out when their part's {} seconds were over", left_out, seconds);
+    }
     if totals.panics > 0 {
         println!("the crate panicked in {} cases", totals.panics);
     }

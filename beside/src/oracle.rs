@@ -34,6 +34,7 @@ pub enum Answer<T> {
     Line,
     Place,
     Head,
+    Ended,
 }
 
 impl<T: Copy> Answer<T> {
@@ -51,6 +52,7 @@ impl<T: Copy> Answer<T> {
             Answer::Line => 3,
             Answer::Place => 4,
             Answer::Head => 6,
+            Answer::Ended => 8,
         }
     }
 

@@ -1,7 +1,8 @@
 //! The crate's rearrangement of a window. Its own machine makes it: the fields are private.
 
 use crate::lookup_tables::words;
-use crate::oracle::aat::morx::{chains, Rearrange, Rearrangement, RearrangementState, SubtableKind};
+use crate::morx_tables::{in_chain, machine, subtable, the_subtable};
+use crate::oracle::aat::morx::{Rearrange, Rearrangement, RearrangementState, SubtableKind};
 
 /// The verbs' numbers; the machine below takes them for glyphs.
 const VERBS: u16 = 16;
@@ -13,7 +14,7 @@ const FIRST: u16 = VERBS;
 /// as the first and the one at `end`, which has the verb, as the last: nothing for verb 0.
 pub fn rearrange(verb: u16, start: usize, end: usize) -> Option<Rearrange> {
     let table = table();
-    let machine = machine(&table);
+    let machine = rearrangement(&table);
     let mut state = RearrangementState::new();
     let mut handed = None;
     for (place, glyph) in [(start, FIRST), (end, verb % VERBS)] {
@@ -26,9 +27,9 @@ pub fn rearrange(verb: u16, start: usize, end: usize) -> Option<Rearrange> {
     handed
 }
 
-fn machine(table: &[u8]) -> Rearrangement<'_> {
-    let chain = chains(table, 0).next().expect("a chain");
-    match chain.subtables().next().and_then(|subtable| subtable.kind()) {
+/// The machine of a morx table with one subtable, a rearrangement.
+pub fn rearrangement(table: &[u8]) -> Rearrangement<'_> {
+    match the_subtable(table) {
         Some(SubtableKind::Rearrangement(machine)) => machine,
         _ => panic!("no rearrangement"),
     }
@@ -38,17 +39,9 @@ fn machine(table: &[u8]) -> Rearrangement<'_> {
 fn table() -> Vec<u8> {
     let kinds = VERBS + 1;
     let numbers: Vec<u16> = (0..kinds).collect();
-    let class_table = [&[8, 0, kinds], &numbers[..]].concat();
-    let states = numbers;
+    let class_table = words(&[&[8, 0, kinds], &numbers[..]].concat());
     let entries: Vec<u16> = (0..kinds).flat_map(|number| [0, flags(number)]).collect();
-    let at_states = 16 + 2 * class_table.len() as u16;
-    let at_entries = at_states + 2 * kinds;
-    let head = [0, kinds, 0, 16, 0, at_states, 0, at_entries];
-    let machine = [&head[..], &class_table, &states, &entries].concat();
-    let subtable_length = 12 + 2 * machine.len() as u16;
-    let subtable = [0, subtable_length, 0, 0, 0, 1];
-    let chain = [0, 1, 0, 16 + subtable_length, 0, 0, 0, 1];
-    words(&[&[2, 0, 0, 1], &chain[..], &subtable, &machine].concat())
+    in_chain(&subtable(0, &machine(kinds, &[class_table, words(&numbers), words(&entries)])))
 }
 
 /// The flags of an entry: the first mark, or the last with its verb.

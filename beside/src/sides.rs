@@ -14,12 +14,12 @@ pub struct Line {
 }
 
 impl Line {
-    /// Any glyphs, with their tags in any order.
-    pub fn any(random: &mut Random) -> Self {
+    /// Any glyphs below the limit, with their tags in any order.
+    pub fn any(random: &mut Random, limit: usize) -> Self {
         let homes: Vec<u16> = (0..PLACES as u16).collect();
         let mut tags = homes.clone();
         random.shuffle(&mut tags);
-        Line { glyphs: (0..PLACES).map(|_| random.word()).collect(), tags, homes }
+        Line { glyphs: (0..PLACES).map(|_| random.below(limit) as u16).collect(), tags, homes }
     }
 
     /// A number that depends on a few places of the line: to look at all would take a time of its own.
@@ -57,6 +57,18 @@ pub mod ours {
             verb: u16,
             start: usize,
             end: usize,
+        ) -> u32;
+        fn aat_rearrangement_pass(
+            table: *const u8,
+            table_len: usize,
+            start: usize,
+            glyphs: *mut u16,
+            glyphs_len: usize,
+            tags: *mut u16,
+            tags_len: usize,
+            homes: *const u16,
+            homes_len: usize,
+            used: usize,
         ) -> u32;
     }
 
@@ -98,6 +110,16 @@ pub mod ours {
         let answer = unsafe { aat_verb(glyphs, PLACES, tags, PLACES, homes, PLACES, PLACES, verb, 0, PLACES - 1) };
         assert_eq!(answer, 0, "a verb on a line");
     }
+
+    /// A pass over the whole line by the subtable that the table begins with.
+    #[inline(always)]
+    pub fn rearrangement_pass(line: &mut Line, table: &[u8]) {
+        let (glyphs, tags, homes) = (line.glyphs.as_mut_ptr(), line.tags.as_mut_ptr(), line.homes.as_ptr());
+        let (bytes, len) = (table.as_ptr(), table.len());
+        let answer =
+            unsafe { aat_rearrangement_pass(bytes, len, 0, glyphs, PLACES, tags, PLACES, homes, PLACES, PLACES) };
+        assert_eq!(answer, 0, "a pass over a line");
+    }
 }
 
 /// The crate, each call a call as ours are, so that no part of it leaves the loop.
@@ -105,6 +127,9 @@ pub mod theirs {
     use super::Line;
     use crate::oracle::aat::{self, morx, ExtendedStateTable, StateTable};
     use crate::oracle::Bytes;
+    use crate::pass::Places;
+    use crate::rearrange::rearrangement;
+    use crate::rearrangement_pass::pass;
 
     /// The element of a glyph.
     #[inline(never)]
@@ -135,5 +160,13 @@ pub mod theirs {
     pub fn verb(line: &mut Line, rearrange: &morx::Rearrange) {
         rearrange.apply(&mut line.glyphs);
         rearrange.apply(&mut line.tags);
+    }
+
+    /// A pass over the whole line by the subtable of a morx table.
+    #[inline(never)]
+    pub fn rearrangement_pass(line: &mut Line, table: &[u8]) {
+        let places = &mut Places { glyphs: &mut line.glyphs, tags: &mut line.tags };
+        let answer = pass(&rearrangement(table), places);
+        assert_eq!(answer.number(), 0, "a pass over a line");
     }
 }

@@ -1,6 +1,7 @@
 /* The entries of libfirmware.a, for C programs on x86-64.
 
-   Each gives the number of its answer. On every answer but AAT_DONE the lent numbers and slices stay as they were. */
+   Each gives the number of its answer. On every answer but AAT_DONE and AAT_ENDED the lent numbers and slices stay as they
+   were. */
 
 #ifndef AAT_H
 #define AAT_H
@@ -17,7 +18,8 @@ enum aat_answer {
     AAT_TABLE = 2,   /* the table is longer than AAT_LONGEST_TABLE */
     AAT_LINE = 3,    /* the lent lengths, tags or homes are not a line's, or its room is above AAT_LARGEST_ROOM */
     AAT_PLACE = 4,   /* the window's start is above its end or above the used length */
-    AAT_HEAD = 6,    /* the start is past the table, or no state table can be read there */
+    AAT_HEAD = 6,    /* the start is past the table, or no state table, or subtable of the kind, can be read there */
+    AAT_ENDED = 8,   /* the pass broke off where the table has no entry, and the slices hold what it had done by then */
 };
 
 enum aat_verdict {
@@ -57,5 +59,17 @@ uint32_t aat_fresh(const uint16_t *glyphs, size_t glyphs_len, uint16_t *tags, si
    modulo 16; tags move with glyphs. */
 uint32_t aat_verb(uint16_t *glyphs, size_t glyphs_len, uint16_t *tags, size_t tags_len, const uint16_t *homes,
                   size_t homes_len, size_t used, uint16_t verb, size_t start, size_t end);
+
+/* Goes over the line by the rearrangement subtable, its head included, that begins at start; tags move with glyphs. */
+uint32_t aat_rearrangement_pass(const uint8_t *table, size_t table_len, size_t start, uint16_t *glyphs, size_t glyphs_len,
+                                uint16_t *tags, size_t tags_len, const uint16_t *homes, size_t homes_len, size_t used);
+
+/* Goes over the line by the non-contextual subtable, its head included, that begins at start. */
+uint32_t aat_noncontextual_pass(const uint8_t *table, size_t table_len, size_t start, uint16_t *glyphs, size_t glyphs_len,
+                                const uint16_t *tags, size_t tags_len, const uint16_t *homes, size_t homes_len, size_t used);
+
+/* Goes over the line by the contextual subtable, its head included, that begins at start. */
+uint32_t aat_contextual_pass(const uint8_t *table, size_t table_len, size_t start, uint16_t *glyphs, size_t glyphs_len,
+                             const uint16_t *tags, size_t tags_len, const uint16_t *homes, size_t homes_len, size_t used);
 
 #endif

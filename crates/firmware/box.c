@@ -3,15 +3,19 @@
    A call is its number in one byte, then its arguments. A reply is the entry's answer, then every lent number and every part
    of a line as the call left it. All numbers are little-endian; their sizes in bytes:
 
-       0 table             length 4, the bytes               no reply: the calls that follow are about this table
-       1 lookup            start 8, glyph 2, value 4         answer 4, value 4
-       2 survey            start 8, verdict 4, record 4      answer 4, verdict 4, record 4
-       3 class_extended    start 8, glyph 2, value 4         answer 4, value 4
-       4 class_classic     start 8, glyph 2, value 4         answer 4, value 4
-       5 language_index    start 8, name, value 4            answer 4, value 4
-       6 fresh             glyphs, tags, homes, used 8       answer 4, glyphs, tags, homes, used 8
-       7 verb              glyphs, tags, homes, used 8,      answer 4, glyphs, tags, homes
-                           verb 2, start 8, end 8
+       0 table                 length 4, the bytes               no reply: the calls that follow are about this table
+       1 lookup                start 8, glyph 2, value 4         answer 4, value 4
+       2 survey                start 8, verdict 4, record 4      answer 4, verdict 4, record 4
+       3 class_extended        start 8, glyph 2, value 4         answer 4, value 4
+       4 class_classic         start 8, glyph 2, value 4         answer 4, value 4
+       5 language_index        start 8, name, value 4            answer 4, value 4
+       6 fresh                 glyphs, tags, homes, used 8       answer 4, glyphs, tags, homes, used 8
+       7 verb                  glyphs, tags, homes, used 8,      answer 4, glyphs, tags, homes
+                               verb 2, start 8, end 8
+       8 rearrangement_pass    glyphs, tags, homes, used 8,      answer 4, glyphs, tags, homes
+                               start 8
+       9 noncontextual_pass    as 8                              as 8
+      10 contextual_pass       as 8                              as 8
 
    A name is its length 4 and the bytes. Glyphs, tags and homes are each a count 4 and so many numbers 2; a reply has the
    numbers alone.
@@ -161,6 +165,28 @@ static void verb(void) {
     put_line();
 }
 
+static void rearrangement_pass(void) {
+    take_line();
+    size_t used = take(8);
+    size_t start = take(8);
+    put(aat_rearrangement_pass(table, table_len, start, glyphs.numbers, glyphs.len, tags.numbers, tags.len, homes.numbers,
+                               homes.len, used),
+        4);
+    put_line();
+}
+
+typedef uint32_t pass_on_glyphs(const uint8_t *, size_t, size_t, uint16_t *, size_t, const uint16_t *, size_t,
+                                const uint16_t *, size_t, size_t);
+
+/* A pass that writes glyphs alone: non-contextual or contextual. */
+static void substitute(pass_on_glyphs *entry) {
+    take_line();
+    size_t used = take(8);
+    size_t start = take(8);
+    put(entry(table, table_len, start, glyphs.numbers, glyphs.len, tags.numbers, tags.len, homes.numbers, homes.len, used), 4);
+    put_line();
+}
+
 static void answer(uint8_t call) {
     switch (call) {
     case 0: take_table(); break;
@@ -171,6 +197,9 @@ static void answer(uint8_t call) {
     case 5: language_index(); break;
     case 6: fresh(); break;
     case 7: verb(); break;
+    case 8: rearrangement_pass(); break;
+    case 9: substitute(aat_noncontextual_pass); break;
+    case 10: substitute(aat_contextual_pass); break;
     default: exit(1);
     }
 }

@@ -10,7 +10,9 @@ ghost use Rattle.state_tables.specs.Classes.{classExtended, classClassic};
 ghost use Rattle.ltag.specs.Ltag.{languageIndex};
 ghost use Rattle.line.specs.Line.{lineOf};
 ghost use Rattle.line.specs.Entries.{freshCall, freshAnswer, freshUsed, verbCall};
-ghost use Rattle.rearrangement.specs.Rearrangement.{passCall, callLeaves};
+ghost use Rattle.rearrangement.specs.Rearrangement.{passCall as rearranging, callLeaves as rearrangingLeaves};
+ghost use Rattle.noncontextual.specs.NonContextual.{passCall as replacing, callLeaves as replacingLeaves};
+ghost use Rattle.contextual.specs.Calls.{passCall as contextual, callLeaves as contextualLeaves};
 ghost use Rattle.firmware.specs.Survey.{surveyAnswer, verdictOf, badRecord};
 
 // Puts the value of a reply where it was lent, and answers with its number.
@@ -153,9 +155,27 @@ pub extern "C" fn aat_rearrangement_pass(
     homes: &[u16],
     used: usize,
 ) -> u32
-    ensures answer { λ r. ⌜ r ≡ numberOf (passCall (now (table .entry)) start (lineOf (now (glyphs .entry)) (now (tags .entry)) (now (homes .entry)) used) .answer) ⌝ }
-    ensures glyphs { λ r. ⌜ now (glyphs .exit) ≡ callLeaves (now (table .entry)) start (lineOf (now (glyphs .entry)) (now (tags .entry)) (now (homes .entry)) used) .glyphs ⌝ }
-    ensures tags { λ r. ⌜ now (tags .exit) ≡ callLeaves (now (table .entry)) start (lineOf (now (glyphs .entry)) (now (tags .entry)) (now (homes .entry)) used) .tags ⌝ }
+    ensures answer { λ r. ⌜ r ≡ numberOf (rearranging (now (table .entry)) start (lineOf (now (glyphs .entry)) (now (tags .entry)) (now (homes .entry)) used) .answer) ⌝ }
+    ensures glyphs { λ r. ⌜ now (glyphs .exit) ≡ rearrangingLeaves (now (table .entry)) start (lineOf (now (glyphs .entry)) (now (tags .entry)) (now (homes .entry)) used) .glyphs ⌝ }
+    ensures tags { λ r. ⌜ now (tags .exit) ≡ rearrangingLeaves (now (table .entry)) start (lineOf (now (glyphs .entry)) (now (tags .entry)) (now (homes .entry)) used) .tags ⌝ }
 {
     answers::number(rearrangement::pass(table, start, glyphs, tags, homes, used))
+}
+
+// The non-contextual pass over a line, by the subtable at `start`.
+#[no_mangle]
+pub extern "C" fn aat_noncontextual_pass(table: &[u8], start: usize, glyphs: &mut [u16], tags: &[u16], homes: &[u16], used: usize) -> u32
+    ensures answer { λ r. ⌜ r ≡ numberOf (replacing (now (table .entry)) start (lineOf (now (glyphs .entry)) (now (tags .entry)) (now (homes .entry)) used) .answer) ⌝ }
+    ensures glyphs { λ r. ⌜ now (glyphs .exit) ≡ replacingLeaves (now (table .entry)) start (lineOf (now (glyphs .entry)) (now (tags .entry)) (now (homes .entry)) used) .glyphs ⌝ }
+{
+    answers::number(noncontextual::pass(table, start, glyphs, tags, homes, used))
+}
+
+// The contextual pass over a line, by the subtable at `start`.
+#[no_mangle]
+pub extern "C" fn aat_contextual_pass(table: &[u8], start: usize, glyphs: &mut [u16], tags: &[u16], homes: &[u16], used: usize) -> u32
+    ensures answer { λ r. ⌜ r ≡ numberOf (contextual (now (table .entry)) start (lineOf (now (glyphs .entry)) (now (tags .entry)) (now (homes .entry)) used) .answer) ⌝ }
+    ensures glyphs { λ r. ⌜ now (glyphs .exit) ≡ contextualLeaves (now (table .entry)) start (lineOf (now (glyphs .entry)) (now (tags .entry)) (now (homes .entry)) used) .glyphs ⌝ }
+{
+    answers::number(contextual::pass(table, start, glyphs, tags, homes, used))
 }

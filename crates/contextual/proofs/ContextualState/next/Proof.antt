@@ -1,0 +1,111 @@
+use mathlib.Core.List.{[]}
+use native.Mathlib.Omega.{arith}
+use borrow.Author.Needs.{needs}
+use Rattle.state_tables.proofs.Laws.{entry-payload}
+use Rattle.contextual.specs.Contextual.{ran}
+use Rattle.contextual.proofs.Runs.{Running, running-start, running-out, running-ended, running-stops, running-goes, next-idle, next-over}
+use Rattle.contextual.proofs.ContextualState.next.Statement.{statement}
+use Rattle.contextual.proofs.ContextualState.next.Tie as tie
+
+abbrev Inv-loop : tie.InvT-loop
+Inv-loop bytes states glyphs₀ used index glyph ends state₀ class₀ current₀ left₀ glyphs state class current left =
+    Running bytes states index used glyphs₀ (ran bytes states index left₀ state₀ class₀ current₀ []) glyphs state class current left
+
+abbrev μ-loop : tie.MeasureT-loop
+μ-loop bytes states glyphs₀ used index glyph ends state₀ class₀ current₀ left₀ glyphs state class current left =
+    left
+
+idle-requires : tie.Need-idle-requires Inv-loop μ-loop
+idle-requires c κs = search needs
+
+returns : tie.Need-returns Inv-loop μ-loop
+returns c = let e = next-idle _ _ _ _ _ _ (c .before .idle .ensures) _ _ (c .if1 .taken) in (e .answers, e .left)
+
+begun-requires : tie.Need-begun-requires Inv-loop μ-loop
+begun-requires c κs = search needs
+
+class-at-requires : tie.Need-class-at-requires Inv-loop μ-loop
+class-at-requires c κs = search needs
+
+loop-holds : tie.Need-loop-holds Inv-loop μ-loop
+loop-holds c = running-start _ _ _ _ _ _ _ _ _
+
+entry-of-requires : tie.Need-entry-of-requires Inv-loop μ-loop
+entry-of-requires c κs = search needs
+
+enum-known-entry : tie.Need-enum-known-entry Inv-loop μ-loop
+enum-known-entry c = search needs
+
+enum-told : tie.Need-enum-told Inv-loop μ-loop
+enum-told c = search needs
+
+same-length : tie.Need-same-length Inv-loop μ-loop
+same-length c = omega (arith, c .before .before .before .before .loop .inv .long)
+
+returns-2 : tie.Need-returns-2 Inv-loop μ-loop
+returns-2 c = let e = next-over _ _ _ _ _ _ (c .before .before .before .before .before .before .before .before .idle .ensures) (c .before .before .before .before .before .before .before .if1 .left) (c .before .before .before .before .before .before .begun .ensures) (c .before .before .before .before .before .class-at .ensures) (running-ended _ _ _ _ _ _ (c .before .before .before .before .loop .inv) (c .before .before .before .loop-test .taken) (c .before .before .entry-of .ensures) (c .enum-told .given .1)) in (e .answers, e .left)
+
+act-requires : tie.Need-act-requires Inv-loop μ-loop
+act-requires c κs = entry-payload _ _ _ _ _ (c .before .before .before .entry-of .ensures) (c .before .entry .given .1)
+
+replace-requires : tie.Need-replace-requires Inv-loop μ-loop
+replace-requires c κs = omega (arith, c .before .before .before .before .before .before .before .loop .inv .long)
+
+replace-requires-2 : tie.Need-replace-requires-2 Inv-loop μ-loop
+replace-requires-2 c κs = omega (arith, c .before .before .before .before .before .before .before .before .before .before .before .before .before .before .before .before .before .before .pre, c .before .before .before .before .before .before .before .before .before .before .before .loop .inv .long, c .before .before .before .replace .kept .0)
+
+is-set-requires : tie.Need-is-set-requires Inv-loop μ-loop
+is-set-requires c κs = search needs
+
+same-length-2 : tie.Need-same-length-2 Inv-loop μ-loop
+same-length-2 c = omega (arith, c .before .before .before .before .before .before .before .before .before .before .before .before .before .before .before .before .before .loop .inv .long, c .before .before .before .before .before .before .before .before .before .replace .kept .0, c .before .before .before .before .before .replace2 .kept .0)
+
+returns-3 : tie.Need-returns-3 Inv-loop μ-loop
+returns-3 c = let e = next-over _ _ _ _ _ _ (c .before .before .before .before .before .before .before .before .before .before .before .before .before .before .before .before .before .before .before .before .before .idle .ensures) (c .before .before .before .before .before .before .before .before .before .before .before .before .before .before .before .before .before .before .before .before .if1 .left) (c .before .before .before .before .before .before .before .before .before .before .before .before .before .before .before .before .before .before .before .begun .ensures) (c .before .before .before .before .before .before .before .before .before .before .before .before .before .before .before .before .before .before .class-at .ensures) (running-stops _ _ _ _ _ _ (c .before .before .before .before .before .before .before .before .before .before .before .before .before .before .before .before .before .loop .inv) (c .before .before .before .before .before .before .before .before .before .before .before .before .before .before .before .before .loop-test .taken) (c .before .before .before .before .before .before .before .before .before .before .before .before .before .before .before .entry-of .ensures) (c .before .before .before .before .before .before .before .before .before .before .before .before .before .entry .given .1) (c .before .before .before .before .before .before .before .before .before .before .before .act .ensures) (c .before .before .before .before .before .before .before .before .before .replace .ensures) (c .before .before .before .before .before .replace2 .ensures) (c .before .is-set .ensures) (c .if2 .taken)) in (e .answers, e .left)
+
+class-of-requires : tie.Need-class-of-requires Inv-loop μ-loop
+class-of-requires c κs = search needs
+
+sub-left : tie.Need-sub-left Inv-loop μ-loop
+sub-left c = omega (arith, c .before .before .before .before .before .before .before .before .before .before .before .before .before .before .before .before .before .loop-test .taken)
+
+loop-less : tie.Need-loop-less Inv-loop μ-loop
+loop-less c = omega (arith, c .before .before .before .before .before .before .before .before .before .before .before .before .before .before .before .before .before .loop-test .taken)
+
+loop-again : tie.Need-loop-again Inv-loop μ-loop
+loop-again c = running-goes _ _ _ _ _ _ (c .before .before .before .before .before .before .before .before .before .before .before .before .before .before .before .before .before .before .loop .inv) (c .before .before .before .before .before .before .before .before .before .before .before .before .before .before .before .before .before .loop-test .taken) (c .before .before .before .before .before .before .before .before .before .before .before .before .before .before .before .before .entry-of .ensures) (c .before .before .before .before .before .before .before .before .before .before .before .before .before .before .entry .given .1) (c .before .before .before .before .before .before .before .before .before .before .before .before .act .ensures) (c .before .before .before .before .before .before .before .before .before .before .replace .ensures) (c .before .before .before .before .before .before .replace2 .ensures) (c .before .before .is-set .ensures) (c .before .if2 .left) (c .class-of .ensures) (c .before .before .before .before .before .before .before .before .before .before .replace .kept .0) (c .before .before .before .before .before .before .replace2 .kept .0)
+
+same-length-3 : tie.Need-same-length-3 Inv-loop μ-loop
+same-length-3 c = omega (arith, c .before .loop .inv .long)
+
+returns-4 : tie.Need-returns-4 Inv-loop μ-loop
+returns-4 c = let e = next-over _ _ _ _ _ _ (c .before .before .before .before .before .idle .ensures) (c .before .before .before .before .if1 .left) (c .before .before .before .begun .ensures) (c .before .before .class-at .ensures) (running-out _ _ _ _ _ _ (c .before .loop .inv) (c .loop-test .left)) in (e .answers, e .left)
+
+pub next-spec : {M : Type 1} → statement M
+next-spec =
+    tie.close
+    (tie.spec
+    Inv-loop
+    μ-loop
+    idle-requires
+    returns
+    begun-requires
+    class-at-requires
+    loop-holds
+    entry-of-requires
+    enum-known-entry
+    enum-told
+    same-length
+    returns-2
+    act-requires
+    replace-requires
+    replace-requires-2
+    is-set-requires
+    same-length-2
+    returns-3
+    class-of-requires
+    sub-left
+    loop-less
+    loop-again
+    same-length-3
+    returns-4)

@@ -1,0 +1,7 @@
+-- Laws of the contextual machine.
+mod Runs
+mod Writes
+mod Passes
+mod Calls
+pub mod Honesty
+pub mod Manual

@@ -1,0 +1,84 @@
+-- Calls of the contextual pass and step on a subtable: their tests, what they answer and what they leave.
+use Prim.Native.Nat.{ℕ}
+use mathlib.Core.Bool.{Bool}
+use mathlib.Core.List.{List, [], _∷_}
+use lib.Dec.{ltb}
+use lib.ListN.{length, drop}
+use Rattle.answers.specs.Refuse.{Test, refuse, tableTest}
+use Rattle.answers.specs.declared.Refusal.{Refusal}
+use Rattle.answers.specs.declared.Refusal.the-variants as Refusal′
+use Rattle.answers.specs.declared.Answer.the-variants as Answer′
+use Rattle.answers.specs.declared.Check.{Check}
+use Rattle.answers.specs.declared.Check.the-variants as Check′
+use Rattle.parse.specs.Reads.{readU32}
+use Rattle.parse.specs.Use.{onU32}
+use Rattle.state_tables.specs.declared.States.{States}
+use Rattle.state_tables.specs.declared.Made.{Made}
+use Rattle.state_tables.specs.declared.Made.the-variants as Made′
+use Rattle.line.specs.Line.{Line}
+use Rattle.line.specs.Test.{lineTest}
+use Rattle.line.specs.Changes.{applyAll}
+use Rattle.machine.specs.Head.{bodyOf}
+use Rattle.machine.specs.Pass.{Stepped, Passed}
+use Rattle.machine.specs.Call as Call′
+use Rattle.machine.specs.Call.{headTest, called}
+use Rattle.contextual.specs.Contextual.{machine, passed}
+use Rattle.contextual.specs.declared.ContextualState.{ContextualState}
+
+-- the state table of a contextual subtable, where the number at 16, behind its head, can be read too
+unfoldable pub opened : List ℕ → Made
+opened bytes = onU32 (readU32 (bodyOf bytes) 16) (λ list. Call′.opened bytes 1) Made′.Short
+
+-- a call of the pass on the subtable at `start`: TABLE, LINE, HEAD, then the pass
+unfoldable pub passCall : List ℕ → (start : ℕ) → Line → Passed
+passCall table start l =
+    called (length table) l (opened (drop start table)) (λ states. passed (bodyOf (drop start table)) states l)
+
+-- the line that it leaves
+unfoldable pub callLeaves : List ℕ → (start : ℕ) → Line → Line
+callLeaves table start l = applyAll (passCall table start l .changes) l
+
+-- PLACE: the index is above the used length
+unfoldable pub placeTest : Line → (index : ℕ) → Test
+placeTest l index = record { holds = ltb (l .used) index; refusal = Refusal′.Place }
+
+-- STATE: the mark's place is, set or not
+unfoldable pub stateTest : Line → ContextualState → Test
+stateTest l s = record { holds = ltb (l .used) (s .«mark_index»); refusal = Refusal′.State }
+
+-- TABLE, LINE, PLACE, STATE, HEAD
+unfoldable pub stepTests : (length : ℕ) → Line → (index : ℕ) → ContextualState → Made → List Test
+stepTests length l index s made = tableTest length ∷ lineTest l ∷ placeTest l index ∷ stateTest l s ∷ headTest made ∷ []
+
+-- a refused step hands its state back as given, and changes nothing
+abbrev pub refusedStep : Refusal → ContextualState → Stepped ContextualState
+refusedStep why s = record { answer = Answer′.Refused why; state = s; advance = 0; changes = [] }
+
+-- by the tests and the state table; without one the call is refused by HEAD
+abbrev pub stepBy : Check → Made → ContextualState → (States → Stepped ContextualState) → Stepped ContextualState
+stepBy (Check′.Refused why) made s work = refusedStep why s
+stepBy Check′.Passed Made′.Short s work = refusedStep Refusal′.Head s
+stepBy Check′.Passed (Made′.Ready states) s work = work states
+
+-- a call of the step on the subtable at `start`
+unfoldable pub stepCall : List ℕ → (start : ℕ) → ContextualState → Line → (index glyph : ℕ) → (ends : Bool) → Stepped ContextualState
+stepCall table start s l index glyph ends =
+    stepBy (refuse (stepTests (length table) l index s (opened (drop start table)))) (opened (drop start table)) s
+    (λ states. machine (bodyOf (drop start table)) states s l index glyph ends)
+
+-- the line that it leaves
+unfoldable pub stepLeaves : List ℕ → (start : ℕ) → ContextualState → Line → (index glyph : ℕ) → (ends : Bool) → Line
+stepLeaves table start s l index glyph ends = applyAll (stepCall table start s l index glyph ends .changes) l
+
+-- a call of the pass, and one of the step, as ones of a sequence of calls
+pub record PassCall : Type 0 where
+  pub table : List ℕ
+  pub start : ℕ
+
+pub record StepCall : Type 0 where
+  pub table : List ℕ
+  pub start : ℕ
+  pub state : ContextualState
+  pub index : ℕ
+  pub glyph : ℕ
+  pub ends : Bool

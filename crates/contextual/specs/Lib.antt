@@ -1,0 +1,5 @@
+-- The contextual machine.
+pub mod Substitutes
+pub mod Contextual
+pub mod Calls
+pub mod Manual

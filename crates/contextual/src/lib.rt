@@ -1,0 +1,421 @@
+// morx kind 1: the contextual machine.
+use answers::Answer;
+use answers::Check;
+use answers::Refusal;
+use state_tables::Made;
+use state_tables::States;
+use state_tables::classes;
+use state_tables::entries;
+use state_tables::entries::Entered;
+use state_tables::entries::Entry;
+use tables::lookup;
+use tables::lookup::Found;
+ghost use mathlib.Core.Path.{_≡_};
+ghost use Prim.Native.Nat.{_+_, _≤_};
+ghost use lib.ListN.{length};
+ghost use Rattle.answers.specs.Refuse.{refuse};
+ghost use Rattle.line.specs.Line.{lineOf};
+ghost use Rattle.contextual.specs.Substitutes.{substituteOf, glyphAfter, writesOf, writtenAll};
+ghost use Rattle.contextual.specs.Contextual.{fresh, idle, begun, seenGlyph, entered, acted, next, stepped, stepOf, passed, passLeaves};
+ghost use Rattle.contextual.specs.Calls.{opened, passCall, callLeaves, stepTests, stepCall, stepLeaves};
+
+// The state of a pass: the state table's state, whether a mark was set, its place, and the glyph that is remembered for it.
+pub struct ContextualState {
+    pub state: u16,
+    pub mark_set: bool,
+    pub mark_index: usize,
+    pub mark_id: u16,
+}
+
+// What a step answers: DONE with the advance, ENDED, or a refusal; and the state that it hands back.
+pub struct ContextualStep {
+    pub answer: Answer,
+    pub state: ContextualState,
+    pub advance: usize,
+}
+
+// What takes a glyph's place, if anything does.
+enum Substitute {
+    To(u16),
+    None,
+}
+
+// What an entry does: what takes the place of the marked glyph and of the step's own, the new state, and the current glyph after it.
+struct Acted {
+    mark: Substitute,
+    own: Substitute,
+    state: ContextualState,
+    current: u16,
+}
+
+// The substitute of a glyph by the lookup of this number in the substitution table; number 0xFFFF means no action, and what can't be
+// read or found is none. The bytes are those from the state table on.
+fn substitute_of(bytes: &[u8], number: u16, glyph: u16) -> Substitute
+    ensures { λ r. ⌜ r ≡ substituteOf (now (bytes .entry)) number glyph ⌝ }
+{
+    if number == ContextualState::NO_ACTION {
+        return Substitute::None;
+    }
+    let parse::ReadU32::Got(list) = parse::read_u32(bytes, 16) else {
+        return Substitute::None;
+    };
+    let parse::ReadU32::Got(offset) = parse::read_u32(bytes, list as usize + number as usize * 4)
+    else {
+        return Substitute::None;
+    };
+    let Found::At(found) = lookup::lookup_at(
+        parse::from(bytes, list as usize + offset as usize),
+        glyph,
+    ) else {
+        return Substitute::None;
+    };
+    Substitute::To(found)
+}
+
+// The glyph of a place after its substitution.
+fn glyph_after(substitute: Substitute, was: u16) -> u16
+    ensures { λ r. ⌜ r ≡ glyphAfter substitute was ⌝ }
+{
+    let Substitute::To(glyph) = substitute else {
+        return was;
+    };
+    glyph
+}
+
+// The current glyph after the mark's substitution, which meets it where the mark is the step's own place.
+fn seen_glyph(mark: Substitute, here: bool, current: u16) -> u16
+    ensures { λ r. ⌜ r ≡ seenGlyph mark here current ⌝ }
+{
+    if !here {
+        return current;
+    }
+    glyph_after(mark, current)
+}
+
+// Writes a substitute at a place of the line.
+fn replace(glyphs: &mut [u16], used: usize, place: usize, substitute: Substitute)
+    requires { ⌜ used ≤ length (now glyphs) ⌝ }
+    ensures { λ _. ⌜ now (glyphs .exit) ≡ writtenAll used (writesOf place substitute) (now (glyphs .entry)) ⌝ }
+{
+    let Substitute::To(glyph) = substitute else {
+        return;
+    };
+    line::edits::write(glyphs, used, place, glyph);
+}
+
+impl ContextualState {
+    // The kind of a contextual subtable.
+    pub const KIND: u32 = 1;
+
+    // An entry's flag that sets the mark.
+    pub const SET_MARK: u16 = 0x8000;
+
+    // An entry's flag by which the step goes on to another entry.
+    pub const DONT_ADVANCE: u16 = 0x4000;
+
+    // The number of a lookup that means no action.
+    pub const NO_ACTION: u16 = 0xFFFF;
+
+    // The most entries of one step.
+    pub const ENTRIES: u16 = 18;
+
+    // The glyph of the end call.
+    pub const END: u16 = 0xFFFF;
+
+    // The state at the start of a pass.
+    pub fn new() -> ContextualState
+        ensures { λ r. ⌜ r ≡ fresh ⌝ }
+    {
+        ContextualState {
+            state: 0,
+            mark_set: false,
+            mark_index: 0,
+            mark_id: 0,
+        }
+    }
+
+    // At end of text with no mark set nothing happens.
+    fn idle(self, ends: bool) -> bool
+        ensures { λ r. ⌜ r ≡ idle self ends ⌝ }
+    {
+        if !ends {
+            return false;
+        }
+        !self.mark_set
+    }
+
+    // At index 0 the mark's place and glyph are the step's own, but at end of text; whether a mark is set stays.
+    fn begun(self, index: usize, glyph: u16, ends: bool) -> ContextualState
+        ensures { λ r. ⌜ r ≡ begun self index glyph ends ⌝ }
+    {
+        if ends {
+            return self;
+        }
+        if index != 0 {
+            return self;
+        }
+        ContextualState {
+            state: self.state,
+            mark_set: self.mark_set,
+            mark_index: 0,
+            mark_id: glyph,
+        }
+    }
+
+    // The new state; a mark that is set remembers the step's place and its current glyph.
+    fn entered(self, state: u16, sets: bool, index: usize, current: u16) -> ContextualState
+        ensures { λ r. ⌜ r ≡ entered self state sets index current ⌝ }
+    {
+        if sets {
+            return ContextualState {
+                state,
+                mark_set: true,
+                mark_index: index,
+                mark_id: current,
+            };
+        }
+        ContextualState {
+            state,
+            mark_set: self.mark_set,
+            mark_index: self.mark_index,
+            mark_id: self.mark_id,
+        }
+    }
+
+    // What an entry does: the mark's substitution, then the current glyph's, then the mark.
+    fn act(self, bytes: &[u8], entry: Entry, index: usize, current: u16) -> Acted
+        requires { ⌜ entry .payload + 4 ≤ length (now bytes) ⌝ }
+        ensures { λ r. ⌜ r ≡ acted (now (bytes .entry)) self entry index current ⌝ }
+    {
+        let numbers = entries::two_numbers(bytes, entry.payload);
+        let mark = substitute_of(bytes, numbers.first, self.mark_id);
+        let seen = seen_glyph(mark, self.mark_index == index, current);
+        let own = substitute_of(bytes, numbers.second, seen);
+        let after = glyph_after(own, seen);
+        let sets = machine::is_set(entry.flags, ContextualState::SET_MARK);
+        let state = self.entered(entry.state, sets, index, after);
+        Acted {
+            mark,
+            own,
+            state,
+            current: after,
+        }
+    }
+
+    // The crate's `next`, over the bytes from the state table on. Its last and current glyph are one where an entry begins.
+    fn next(
+        self,
+        bytes: &[u8],
+        states: States,
+        glyphs: &mut [u16],
+        used: usize,
+        index: usize,
+        glyph: u16,
+        ends: bool,
+    ) -> ContextualStep
+        requires { ⌜ used ≤ length (now glyphs) ⌝ }
+        ensures step { λ r. ⌜ r ≡ stepOf (stepped (next (now (bytes .entry)) states self index glyph ends)) ⌝ }
+        ensures glyphs { λ _. ⌜ now (glyphs .exit) ≡ writtenAll used (next (now (bytes .entry)) states self index glyph ends .writes) (now (glyphs .entry)) ⌝ }
+    {
+        if self.idle(ends) {
+            return ContextualStep {
+                answer: Answer::Done,
+                state: self,
+                advance: 1,
+            };
+        }
+        let mut state = self.begun(index, glyph, ends);
+        let mut class = machine::class_at(bytes, states, glyph, ends);
+        let mut current = glyph;
+        let mut left = ContextualState::ENTRIES;
+        while 0 < left {
+            let Entered::At(entry) = entries::entry_of(bytes, states, state.state, class, 4) else {
+                return ContextualStep {
+                    answer: Answer::Ended,
+                    state,
+                    advance: 0,
+                };
+            };
+            let acted = state.act(bytes, entry, index, current);
+            let mark = acted.mark;
+            let own = acted.own;
+            replace(glyphs, used, state.mark_index, mark);
+            replace(glyphs, used, index, own);
+            state = acted.state;
+            if !machine::is_set(entry.flags, ContextualState::DONT_ADVANCE) {
+                return ContextualStep {
+                    answer: Answer::Done,
+                    state,
+                    advance: 1,
+                };
+            }
+            current = acted.current;
+            class = classes::class_of(bytes, states, current);
+            left -= 1;
+        }
+        ContextualStep {
+            answer: Answer::Done,
+            state,
+            advance: 1,
+        }
+    }
+
+    // The tests before a step: TABLE, LINE, PLACE, STATE, HEAD.
+    fn refuse_step(
+        self,
+        length: usize,
+        glyphs: &[u16],
+        tags: &[u16],
+        homes: &[u16],
+        used: usize,
+        index: usize,
+        made: Made,
+    ) -> Check
+        ensures { λ r. ⌜ r ≡ refuse (stepTests length (lineOf (now (glyphs .entry)) (now (tags .entry)) (now (homes .entry)) used) index self made) ⌝ }
+    {
+        if let Check::Refused(why) = answers::refuse_table(length) {
+            return Check::Refused(why);
+        }
+        if !line::valid::takes(glyphs, tags, homes, used) {
+            return Check::Refused(Refusal::Line);
+        }
+        if used < index {
+            return Check::Refused(Refusal::Place);
+        }
+        if used < self.mark_index {
+            return Check::Refused(Refusal::State);
+        }
+        if let Made::Short = made {
+            return Check::Refused(Refusal::Head);
+        }
+        Check::Passed
+    }
+
+    // One step by the subtable at `start`; a refused one hands the state back as given.
+    pub fn step(
+        self,
+        table: &[u8],
+        start: usize,
+        glyphs: &mut [u16],
+        tags: &[u16],
+        homes: &[u16],
+        used: usize,
+        index: usize,
+        glyph: u16,
+        ends: bool,
+    ) -> ContextualStep
+        ensures step { λ r. ⌜ r ≡ stepOf (stepCall (now (table .entry)) start self (lineOf (now (glyphs .entry)) (now (tags .entry)) (now (homes .entry)) used) index glyph ends) ⌝ }
+        ensures glyphs { λ _. ⌜ now (glyphs .exit) ≡ stepLeaves (now (table .entry)) start self (lineOf (now (glyphs .entry)) (now (tags .entry)) (now (homes .entry)) used) index glyph ends .glyphs ⌝ }
+    {
+        let bytes = parse::from(table, start);
+        let made = open(bytes);
+        if let Check::Refused(why) = self.refuse_step(
+            table.len(),
+            glyphs,
+            tags,
+            homes,
+            used,
+            index,
+            made,
+        ) {
+            return ContextualStep {
+                answer: Answer::Refused(why),
+                state: self,
+                advance: 0,
+            };
+        }
+        let Made::Ready(states) = made else {
+            return ContextualStep {
+                answer: Answer::Refused(Refusal::Head),
+                state: self,
+                advance: 0,
+            };
+        };
+        self.next(
+            parse::from(bytes, 12),
+            states,
+            glyphs,
+            used,
+            index,
+            glyph,
+            ends,
+        )
+    }
+}
+
+// The state table of the subtable that the bytes begin with; the number at 16, where the substitution table is, can be read too.
+fn open(bytes: &[u8]) -> Made
+    ensures { λ r. ⌜ r ≡ opened (now (bytes .entry)) ⌝ }
+{
+    let parse::ReadU32::Got(_) = parse::read_u32(parse::from(bytes, 12), 16) else {
+        return Made::Short;
+    };
+    machine::open(bytes, ContextualState::KIND)
+}
+
+// The pass over a line that LINE has taken, with the bytes from the state table on.
+fn pass_line(
+    bytes: &[u8],
+    states: States,
+    glyphs: &mut [u16],
+    tags: &[u16],
+    homes: &[u16],
+    used: usize,
+) -> Answer
+    requires { ⌜ used ≤ length (now glyphs) ⌝ }
+    ensures answer { λ r. ⌜ r ≡ passed (now (bytes .entry)) states (lineOf (now (glyphs .entry)) (now (tags .entry)) (now (homes .entry)) used) .answer ⌝ }
+    ensures glyphs { λ _. ⌜ now (glyphs .exit) ≡ passLeaves (now (bytes .entry)) states (lineOf (now (glyphs .entry)) (now (tags .entry)) (now (homes .entry)) used) .glyphs ⌝ }
+{
+    let mut state = ContextualState::new();
+    let mut place = 0;
+    while place < used {
+        let glyph = glyphs[place];
+        let step = state.next(bytes, states, glyphs, used, place, glyph, false);
+        let answer = step.answer;
+        if !machine::is_done(answer) {
+            return answer;
+        }
+        state = step.state;
+        place += step.advance;
+    }
+    let step = state.next(
+        bytes,
+        states,
+        glyphs,
+        used,
+        used,
+        ContextualState::END,
+        true,
+    );
+    step.answer
+}
+
+// The pass over a line, by the subtable at `start`.
+pub fn pass(
+    table: &[u8],
+    start: usize,
+    glyphs: &mut [u16],
+    tags: &[u16],
+    homes: &[u16],
+    used: usize,
+) -> Answer
+    ensures answer { λ r. ⌜ r ≡ passCall (now (table .entry)) start (lineOf (now (glyphs .entry)) (now (tags .entry)) (now (homes .entry)) used) .answer ⌝ }
+    ensures glyphs { λ _. ⌜ now (glyphs .exit) ≡ callLeaves (now (table .entry)) start (lineOf (now (glyphs .entry)) (now (tags .entry)) (now (homes .entry)) used) .glyphs ⌝ }
+{
+    let bytes = parse::from(table, start);
+    let made = open(bytes);
+    if let Check::Refused(why) = machine::refuse_pass(
+        table.len(),
+        glyphs,
+        tags,
+        homes,
+        used,
+        made,
+    ) {
+        return Answer::Refused(why);
+    }
+    let Made::Ready(states) = made else {
+        return Answer::Refused(Refusal::Head);
+    };
+    pass_line(parse::from(bytes, 12), states, glyphs, tags, homes, used)
+}

@@ -1,0 +1,81 @@
+-- A call of the pass: its tests, from what the code has tested, and what it answers and leaves.
+use Prim.Native.Nat.{ℕ, _≤_}
+use mathlib.Core.Path.{_≡_, sym, _∙_, ap}
+use mathlib.Core.Bool.{Bool, true, false, not}
+use mathlib.Core.List.{List, [], _∷_}
+use lib.ListN.{length, drop}
+use Rattle.answers.specs.Refuse.{Test, refuse, tableTest}
+use Rattle.answers.specs.declared.Refusal.{Refusal}
+use Rattle.answers.specs.declared.Refusal.the-variants as Refusal′
+use Rattle.answers.specs.declared.Answer.{Answer}
+use Rattle.answers.specs.declared.Answer.the-variants as Answer′
+use Rattle.answers.specs.declared.Check.{Check}
+use Rattle.answers.specs.declared.Check.the-variants.{Passed, Refused}
+use Rattle.line.specs.Line.{Line, lineOf}
+use Rattle.line.specs.Test.{isValid, lineTest}
+use Rattle.line.specs.Changes.{applyAll}
+use Rattle.line.proofs.Refusals.{refuse-none, refuse-here, refuse-later, refuse-line, refuse-past-line, passed-later, passed-line}
+use Rattle.machine.specs.Head.{hasKind, bodyOf}
+use Rattle.machine.specs.Pass as Pass
+use Rattle.machine.proofs.Calls.{alone-refused, alone-passed}
+use Rattle.noncontextual.specs.NonContextual.{passed, passLeaves, kindTest, passTests, passCall, callLeaves}
+
+module _ (length : ℕ) (l : Line) (bytes : List ℕ) {check : Check} (e : check ≡ refuse (tableTest length ∷ [])) where
+  abbrev behind : List Test
+  behind = lineTest l ∷ kindTest bytes ∷ []
+
+  pub tests-table : {why : Refusal} → check ≡ Refused why → Refused why ≡ refuse (passTests length l bytes)
+  unfolding passTests
+  tests-table f = sym (alone-refused (tableTest length) behind _ (sym e ∙ f))
+
+  module _ (f : check ≡ Passed) where
+    to-line : refuse (passTests length l bytes) ≡ refuse behind
+    unfolding passTests
+    to-line = alone-passed (tableTest length) behind (sym e ∙ f)
+
+    module _ {taken : Bool} (t : taken ≡ isValid l) where
+      pub tests-line : not taken ≡ true → Refused Refusal′.Line ≡ refuse (passTests length l bytes)
+      tests-line h = sym (to-line ∙ refuse-line l (kindTest bytes ∷ []) t h)
+
+      module _ {kind : Bool} (h : not taken ≡ false) (k : kind ≡ hasKind bytes 4) where
+        to-kind : refuse (passTests length l bytes) ≡ refuse (kindTest bytes ∷ [])
+        to-kind = to-line ∙ refuse-past-line l (kindTest bytes ∷ []) t h
+
+        pub tests-head : not kind ≡ true → Refused Refusal′.Head ≡ refuse (passTests length l bytes)
+        unfolding kindTest
+        tests-head n = sym (to-kind ∙ refuse-here (kindTest bytes) [] (ap not (sym k) ∙ n))
+
+        pub tests-passed : not kind ≡ false → Passed ≡ refuse (passTests length l bytes)
+        unfolding kindTest
+        tests-passed n = sym (to-kind ∙ refuse-later (kindTest bytes) [] (ap not (sym k) ∙ n) ∙ refuse-none)
+
+-- a line that a call has taken has its used places
+pub passed-fits : (n : ℕ) (glyphs tags homes : List ℕ) (used : ℕ) (bytes : List ℕ) {check : Check}
+    → check ≡ refuse (passTests n (lineOf glyphs tags homes used) bytes) → check ≡ Passed → used ≤ length glyphs
+unfolding passTests
+passed-fits n glyphs tags homes used bytes k e =
+    let l : Line = lineOf glyphs tags homes used in
+    passed-line l (kindTest bytes ∷ []) (passed-later (tableTest n) (lineTest l ∷ kindTest bytes ∷ []) (sym k ∙ e)) .within
+
+-- what a call answers and leaves
+pub record Ends (table : List ℕ) (start : ℕ) (l : Line) (answer : Answer) (glyphs : List ℕ) : Type 0 where
+  pub answers : answer ≡ passCall table start l .answer
+  pub left : glyphs ≡ callLeaves table start l .glyphs
+
+module _ (table : List ℕ) (start : ℕ) (l : Line) {bytes : List ℕ} {check : Check} (b : bytes ≡ drop start table)
+    (k : check ≡ refuse (passTests (length table) l bytes)) where
+  tested : check ≡ refuse (passTests (length table) l (drop start table))
+  tested = k ∙ ap (λ (x : List ℕ). refuse (passTests (length table) l x)) b
+
+  pub ends-refused : {why : Refusal} → check ≡ Refused why → Ends table start l (Answer′.Refused why) (l .glyphs)
+  unfolding passCall callLeaves applyAll
+  ends-refused e = record { answers = rw (sym tested ∙ e, passCall); left = rw (sym tested ∙ e, passCall) }
+
+  pub ends-passed : {body glyphs : List ℕ} → check ≡ Passed → body ≡ drop 12 bytes → glyphs ≡ passLeaves body l .glyphs → Ends table start l Answer′.Done glyphs
+  unfolding passCall callLeaves passLeaves passed
+  ends-passed e d g =
+      let r : passCall table start l ≡ passed (bodyOf (drop start table)) l = rw (sym tested ∙ e, passCall) in
+      record {
+        answers = ap (λ (w : Pass.Passed). w .answer) (sym r);
+        left = g ∙ ap (λ (x : List ℕ). passLeaves x l .glyphs) (d ∙ ap (drop 12) b) ∙ ap (λ (w : Pass.Passed). applyAll (w .changes) l .glyphs) (sym r);
+      }

@@ -1,0 +1,66 @@
+-- The pass's loop: the places below i are done, and the others are as they were.
+use Prim.Native.Nat.{ℕ, _+_, _<_, _≤_}
+use mathlib.Core.Path.{_≡_, refl, sym, _∙_, ap}
+use mathlib.Core.List.{List}
+use native.Mathlib.Numerals.{add-one}
+use native.Mathlib.Omega.{arith}
+use lib.ListN.{length, getD}
+use lib.Seq.{getD-set-other}
+use borrow.Author.Tests.{lt-ltb}
+use Rattle.tables.specs.Lookup.{lookupAt}
+use Rattle.tables.specs.declared.lookup.Found.{Found}
+use Rattle.tables.specs.declared.lookup.Found.the-variants as Found′
+use Rattle.line.specs.Line.{Line, lineOf}
+use Rattle.line.specs.Changes.{written, apply, applyAll}
+use Rattle.line.proofs.Histories.{applyAll-append}
+use Rattle.noncontextual.specs.NonContextual.{writesOf, replaced, writesBelow, passed, passLeaves}
+
+-- a replacement is the writes of its place
+replaced-line : (place : ℕ) (found : Found) (glyphs tags homes : List ℕ) (used : ℕ)
+    → lineOf (replaced used place found glyphs) tags homes used ≡ applyAll (writesOf place found) (lineOf glyphs tags homes used)
+unfolding applyAll apply
+replaced-line place (Found′.At glyph) glyphs tags homes used = refl
+replaced-line place (Found′.Nothing why) glyphs tags homes used = refl
+
+-- it touches no other place
+replaced-other : (place : ℕ) (found : Found) (glyphs : List ℕ) (used : ℕ) → place < used
+    → (k : ℕ) → place < k → getD (replaced used place found glyphs) k 0 ≡ getD glyphs k 0
+unfolding written
+replaced-other place (Found′.At glyph) glyphs used h k p = rw (lt-ltb place used h) (getD-set-other glyphs place k glyph 0 (omega arith))
+replaced-other place (Found′.Nothing why) glyphs used h k p = refl
+
+module _ (body glyphs₀ tags homes : List ℕ) (used : ℕ) where
+  -- what the loop knows at place i
+  pub record Going (glyphs : List ℕ) (i : ℕ) : Type 0 where
+    pub within : i ≤ used
+    pub made : lineOf glyphs tags homes used ≡ applyAll (writesBelow body glyphs₀ i) (lineOf glyphs₀ tags homes used)
+    pub ahead : (k : ℕ) → i ≤ k → getD glyphs k 0 ≡ getD glyphs₀ k 0
+    pub long : length glyphs ≡ length glyphs₀
+
+  pub going-step : {glyphs glyphs′ : List ℕ} {i : ℕ} → Going glyphs i → i < used
+      → glyphs′ ≡ replaced used i (lookupAt body (getD glyphs i 0)) glyphs → length glyphs′ ≡ length glyphs → Going glyphs′ (i + 1)
+  unfolding writesBelow
+  going-step {glyphs} {glyphs′} {i} g h e len =
+      let found = lookupAt body (getD glyphs₀ i 0) in
+      let e′ : glyphs′ ≡ replaced used i found glyphs = e ∙ ap (λ (x : ℕ). replaced used i (lookupAt body x) glyphs) (g .ahead i (omega arith)) in
+      record {
+        within = omega arith;
+        made =
+            ap (λ (x : List ℕ). lineOf x tags homes used) e′
+            ∙ replaced-line i found glyphs tags homes used
+            ∙ ap (applyAll (writesOf i found)) (g .made)
+            ∙ sym (applyAll-append (writesBelow body glyphs₀ i) (writesOf i found) (lineOf glyphs₀ tags homes used))
+            ∙ ap (λ (n : ℕ). applyAll (writesBelow body glyphs₀ n) (lineOf glyphs₀ tags homes used)) (sym (add-one i));
+        ahead = λ k p. ap (λ (x : List ℕ). getD x k 0) e′ ∙ replaced-other i found glyphs used h k (omega arith) ∙ g .ahead k (omega arith);
+        long = len ∙ g .long;
+      }
+
+  pub going-done : {glyphs : List ℕ} {i : ℕ} → Going glyphs i → used ≤ i → glyphs ≡ passLeaves body (lineOf glyphs₀ tags homes used) .glyphs
+  unfolding passLeaves passed
+  going-done {glyphs} {i} g h =
+      let n : i ≡ used = omega (arith, g .within) in
+      ap (λ (l : Line). l .glyphs) (g .made ∙ ap (λ (n : ℕ). applyAll (writesBelow body glyphs₀ n) (lineOf glyphs₀ tags homes used)) n)
+
+pub going-start : (body glyphs tags homes : List ℕ) (used : ℕ) → Going body glyphs tags homes used glyphs 0
+unfolding writesBelow applyAll
+going-start body glyphs tags homes used = record { within = omega arith; made = refl; ahead = λ k p. refl; long = refl }

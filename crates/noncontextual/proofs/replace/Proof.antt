@@ -1,0 +1,37 @@
+use mathlib.Core.Path.{sym, _∙_}
+use borrow.Author.Needs.{needs}
+use Rattle.noncontextual.proofs.replace.Statement.{statement}
+use Rattle.noncontextual.proofs.replace.Tie as tie
+
+lookup-at-requires : tie.Need-lookup-at-requires
+lookup-at-requires c κs = search needs
+
+enum-known-substitute : tie.Need-enum-known-substitute
+enum-known-substitute c = search needs
+
+enum-told : tie.Need-enum-told
+enum-told c = search needs
+
+returns : tie.Need-returns
+returns c = rw (sym (c .before .before .lookup-at .ensures) ∙ c .enum-told .given .1)
+
+write-requires : tie.Need-write-requires
+write-requires c κs = search needs
+
+same-length : tie.Need-same-length
+same-length c = search needs
+
+returns-2 : tie.Need-returns-2
+returns-2 c = rw (sym (c .before .before .before .before .before .before .before .lookup-at .ensures) ∙ c .before .before .before .before .before .substitute .given .1) (c .before .before .write .ensures)
+
+pub replace-spec : {M : Type 1} → statement M
+replace-spec =
+    tie.close
+    (tie.spec
+    lookup-at-requires
+    enum-known-substitute
+    enum-told
+    returns
+    write-requires
+    same-length
+    returns-2)

@@ -1,0 +1,2 @@
+-- The non-contextual pass.
+pub mod NonContextual

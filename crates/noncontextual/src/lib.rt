@@ -1,0 +1,83 @@
+// morx kind 4: each glyph is looked up by itself.
+use answers::Answer;
+use answers::Check;
+use answers::Refusal;
+use tables::lookup;
+use tables::lookup::Found;
+ghost use mathlib.Core.Path.{_≡_};
+ghost use Prim.Native.Nat.{_≤_};
+ghost use lib.ListN.{length};
+ghost use Rattle.answers.specs.Refuse.{refuse};
+ghost use Rattle.line.specs.Line.{lineOf};
+ghost use Rattle.tables.specs.Lookup.{lookupAt};
+ghost use Rattle.noncontextual.specs.NonContextual.{replaced, passTests, passLeaves, passCall, callLeaves};
+
+// The kind of a non-contextual subtable.
+pub const KIND: u32 = 4;
+
+// The glyph at a place is replaced by what the lookup gives for it; where that is nothing it stays.
+fn replace(body: &[u8], glyphs: &mut [u16], used: usize, place: usize, glyph: u16)
+    requires { ⌜ used ≤ length (now glyphs) ⌝ }
+    ensures { λ _. ⌜ now (glyphs .exit) ≡ replaced used place (lookupAt (now (body .entry)) glyph) (now (glyphs .entry)) ⌝ }
+{
+    let Found::At(substitute) = lookup::lookup_at(body, glyph) else {
+        return;
+    };
+    line::edits::write(glyphs, used, place, substitute);
+}
+
+// The pass over a line that LINE has taken, with the bytes of the lookup.
+fn pass_line(body: &[u8], glyphs: &mut [u16], tags: &[u16], homes: &[u16], used: usize)
+    requires { ⌜ used ≤ length (now glyphs) ⌝ }
+    ensures { λ _. ⌜ now (glyphs .exit) ≡ passLeaves (now (body .entry)) (lineOf (now (glyphs .entry)) (now (tags .entry)) (now (homes .entry)) used) .glyphs ⌝ }
+{
+    let mut place = 0;
+    while place < used {
+        let glyph = glyphs[place];
+        replace(body, glyphs, used, place, glyph);
+        place += 1;
+    }
+}
+
+// The tests before a pass: TABLE, LINE, HEAD.
+fn refuse_pass(
+    length: usize,
+    glyphs: &[u16],
+    tags: &[u16],
+    homes: &[u16],
+    used: usize,
+    bytes: &[u8],
+) -> Check
+    ensures { λ r. ⌜ r ≡ refuse (passTests length (lineOf (now (glyphs .entry)) (now (tags .entry)) (now (homes .entry)) used) (now (bytes .entry))) ⌝ }
+{
+    if let Check::Refused(why) = answers::refuse_table(length) {
+        return Check::Refused(why);
+    }
+    if !line::valid::takes(glyphs, tags, homes, used) {
+        return Check::Refused(Refusal::Line);
+    }
+    if !machine::has_kind(bytes, KIND) {
+        return Check::Refused(Refusal::Head);
+    }
+    Check::Passed
+}
+
+// The pass over a line, by the subtable at `start`.
+pub fn pass(
+    table: &[u8],
+    start: usize,
+    glyphs: &mut [u16],
+    tags: &[u16],
+    homes: &[u16],
+    used: usize,
+) -> Answer
+    ensures answer { λ r. ⌜ r ≡ passCall (now (table .entry)) start (lineOf (now (glyphs .entry)) (now (tags .entry)) (now (homes .entry)) used) .answer ⌝ }
+    ensures glyphs { λ _. ⌜ now (glyphs .exit) ≡ callLeaves (now (table .entry)) start (lineOf (now (glyphs .entry)) (now (tags .entry)) (now (homes .entry)) used) .glyphs ⌝ }
+{
+    let bytes = parse::from(table, start);
+    if let Check::Refused(why) = refuse_pass(table.len(), glyphs, tags, homes, used, bytes) {
+        return Answer::Refused(why);
+    }
+    pass_line(parse::from(bytes, 12), glyphs, tags, homes, used);
+    Answer::Done
+}
