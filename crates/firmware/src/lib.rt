@@ -164,7 +164,14 @@ pub extern "C" fn aat_rearrangement_pass(
 
 // The non-contextual pass over a line, by the subtable at `start`.
 #[no_mangle]
-pub extern "C" fn aat_noncontextual_pass(table: &[u8], start: usize, glyphs: &mut [u16], tags: &[u16], homes: &[u16], used: usize) -> u32
+pub extern "C" fn aat_noncontextual_pass(
+    table: &[u8],
+    start: usize,
+    glyphs: &mut [u16],
+    tags: &[u16],
+    homes: &[u16],
+    used: usize,
+) -> u32
     ensures answer { λ r. ⌜ r ≡ numberOf (replacing (now (table .entry)) start (lineOf (now (glyphs .entry)) (now (tags .entry)) (now (homes .entry)) used) .answer) ⌝ }
     ensures glyphs { λ r. ⌜ now (glyphs .exit) ≡ replacingLeaves (now (table .entry)) start (lineOf (now (glyphs .entry)) (now (tags .entry)) (now (homes .entry)) used) .glyphs ⌝ }
 {
@@ -173,7 +180,14 @@ pub extern "C" fn aat_noncontextual_pass(table: &[u8], start: usize, glyphs: &mu
 
 // The contextual pass over a line, by the subtable at `start`.
 #[no_mangle]
-pub extern "C" fn aat_contextual_pass(table: &[u8], start: usize, glyphs: &mut [u16], tags: &[u16], homes: &[u16], used: usize) -> u32
+pub extern "C" fn aat_contextual_pass(
+    table: &[u8],
+    start: usize,
+    glyphs: &mut [u16],
+    tags: &[u16],
+    homes: &[u16],
+    used: usize,
+) -> u32
     ensures answer { λ r. ⌜ r ≡ numberOf (contextual (now (table .entry)) start (lineOf (now (glyphs .entry)) (now (tags .entry)) (now (homes .entry)) used) .answer) ⌝ }
     ensures glyphs { λ r. ⌜ now (glyphs .exit) ≡ contextualLeaves (now (table .entry)) start (lineOf (now (glyphs .entry)) (now (tags .entry)) (now (homes .entry)) used) .glyphs ⌝ }
 {
