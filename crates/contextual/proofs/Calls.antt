@@ -5,6 +5,7 @@ use mathlib.Core.Bool.{Bool, true, false, not}
 use mathlib.Core.List.{List, [], _∷_}
 use lib.ListN.{length, drop}
 use borrow.Author.Tests.{lt-ltb, le-ltb}
+use Rattle.answers.proofs.Refusals.{refuse-none, refuse-here, refuse-later, passed-later, alone-refused, alone-passed}
 use Rattle.answers.specs.Refuse.{Test, refuse, tableTest}
 use Rattle.answers.specs.declared.Refusal.{Refusal}
 use Rattle.answers.specs.declared.Refusal.the-variants as Refusal′
@@ -18,11 +19,11 @@ use Rattle.state_tables.specs.declared.Made.the-variants as Made′
 use Rattle.line.specs.Line.{Line, lineOf}
 use Rattle.line.specs.Test.{isValid, lineTest}
 use Rattle.line.specs.Changes.{applyAll}
-use Rattle.line.proofs.Refusals.{refuse-none, refuse-here, refuse-later, refuse-line, refuse-past-line, passed-later, passed-line}
+use Rattle.line.proofs.Refusals.{refuse-line, refuse-past-line, passed-line}
 use Rattle.machine.specs.Head.{bodyOf}
 use Rattle.machine.specs.Pass.{Stepped, Passed}
 use Rattle.machine.specs.Call.{headTest, passTests, called}
-use Rattle.machine.proofs.Calls.{alone-refused, alone-passed, taken-line, call-refused, call-headless, call-works}
+use Rattle.machine.proofs.Calls.{taken-line, call-refused, call-headless, call-works}
 use Rattle.contextual.specs.Substitutes.{writtenAll}
 use Rattle.contextual.specs.Contextual.{next, stepped, stepOf, machine, passed, passLeaves}
 use Rattle.contextual.specs.Calls.{opened, passCall, callLeaves, placeTest, stateTest, stepTests, refusedStep, stepCall, stepLeaves}

@@ -8,6 +8,7 @@ use native.Mathlib.Omega.{arith}
 use lib.ListN.{length, getD, take, drop, length-append, length-drop}
 use lib.Seq.{take-length, paste}
 use borrow.Author.Tests.{lt-ltb, le-ltb, eq-eqb, ne-eqb, ltb-false, eqb-true, not-false}
+use Rattle.answers.proofs.Refusals.{refuse-here, refuse-later, refuse-none, passed-here, passed-later}
 use Rattle.answers.specs.Limits.{room}
 use Rattle.answers.specs.Refuse.{refuse}
 use Rattle.answers.specs.declared.Refusal.{Refusal}
@@ -22,7 +23,6 @@ use Rattle.line.specs.Entries.{freshOf, freshTests, freshBy, freshCall}
 use Rattle.line.proofs.Once.{length-numbersFrom, getD-numbersFrom}
 use Rattle.line.proofs.Loops.{paste-over}
 use Rattle.line.proofs.Room.{room-small}
-use Rattle.line.proofs.Refusals.{refuse-here, refuse-later, refuse-none, passed-here, passed-later}
 
 -- the tests, in the code's order
 module _ (glyphs tags homes : List ℕ) where

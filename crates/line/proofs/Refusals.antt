@@ -9,32 +9,8 @@ use Rattle.answers.specs.declared.Refusal.the-variants.{Line}
 use Rattle.line.specs.Line as L
 use Rattle.line.specs.Line.{Valid}
 use Rattle.line.specs.Test.{isValid, lineTest}
+use Rattle.answers.proofs.Refusals.{refuse-none, refuse-here, refuse-later, passed-here}
 use Rattle.line.proofs.Exact.{valid-of}
-
-pub refuse-none : refuse [] ≡ Passed
-unfolding refuse
-refuse-none = refl
-
-module _ (t : Test) (ts : List Test) where
-  -- the first test that holds refuses
-  pub refuse-here : t .holds ≡ true → refuse (t ∷ ts) ≡ Refused (t .refusal)
-  unfolding refuse
-  refuse-here h = rw h
-
-  pub refuse-later : t .holds ≡ false → refuse (t ∷ ts) ≡ refuse ts
-  unfolding refuse
-  refuse-later h = rw h
-
-  -- a call that passes has passed the first test and the rest
-  pub passed-here : refuse (t ∷ ts) ≡ Passed → t .holds ≡ false
-  passed-here e = go (t .holds) refl
-    where
-      go : (b : Bool) → t .holds ≡ b → b ≡ false
-      go false h = refl
-      go true h = let k : Refused (t .refusal) ≡ Passed = sym (refuse-here h) ∙ e in cc
-
-  pub passed-later : refuse (t ∷ ts) ≡ Passed → refuse ts ≡ Passed
-  passed-later e = sym (refuse-later (passed-here e)) ∙ e
 
 -- LINE among them: the LINE test's code, `taken`, decides it
 module _ (l : L.Line) (ts : List Test) where

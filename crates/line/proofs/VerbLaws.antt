@@ -7,6 +7,7 @@ use native.Mathlib.Omega.{arith}
 use lib.Dec.{eqb}
 use lib.ListN.{length}
 use borrow.Author.Tests.{lt-ltb, le-ltb}
+use Rattle.answers.proofs.Refusals.{refuse-here, refuse-later, refuse-none}
 use Rattle.answers.specs.Refuse.{refuse}
 use Rattle.answers.specs.declared.Refusal.{Refusal}
 use Rattle.answers.specs.declared.Refusal.the-variants as Refusal
@@ -20,7 +21,7 @@ use Rattle.line.specs.Edits.{widthOf, inserted, added}
 use Rattle.line.specs.Changes.{Change, editsOf, historyOf, windowed, apply, applyAll}
 use Rattle.line.specs.Entries.{verbTests, verbMakes, madeBy, answerBy, verbChanges, verbCall}
 use Rattle.line.specs.History.{Fits}
-use Rattle.line.proofs.Refusals.{refuse-here, refuse-later, refuse-none, refuse-line, refuse-past-line, passed-line}
+use Rattle.line.proofs.Refusals.{refuse-line, refuse-past-line, passed-line}
 
 -- the tests, in the code's order
 module _ (l : Line) (start end : ℕ) where

@@ -4,6 +4,7 @@ use mathlib.Core.Path.{_≡_, refl, sym, _∙_}
 use mathlib.Core.Bool.{Bool, true, false, not}
 use mathlib.Core.List.{List, [], _∷_}
 use native.Mathlib.Omega.{arith}
+use Rattle.answers.proofs.Refusals.{refuse-none, refuse-here, refuse-later, passed-later, alone-refused, alone-passed}
 use Rattle.answers.specs.Refuse.{Test, refuse, tableTest}
 use Rattle.answers.specs.declared.Refusal.{Refusal}
 use Rattle.answers.specs.declared.Refusal.the-variants as Refusal′
@@ -14,23 +15,10 @@ use Rattle.state_tables.specs.declared.Made.{Made}
 use Rattle.state_tables.specs.declared.Made.the-variants.{Ready, Short}
 use Rattle.line.specs.Line.{Line, Valid}
 use Rattle.line.specs.Test.{isValid, lineTest}
-use Rattle.line.proofs.Refusals.{refuse-none, refuse-here, refuse-later, refuse-line, refuse-past-line, passed-here, passed-later, passed-line}
+use Rattle.line.proofs.Refusals.{refuse-line, refuse-past-line, passed-line}
 use Rattle.machine.specs.Call.{isShort, headTest, passTests, called}
 use Rattle.machine.specs.Pass as Done
 use Rattle.answers.specs.declared.Answer.the-variants as Answer′
-
--- a test alone says what it says before others
-pub alone-refused : (t : Test) (ts : List Test) (why : Refusal) → refuse (t ∷ []) ≡ Refused why → refuse (t ∷ ts) ≡ Refused why
-alone-refused t ts why e = go (t .holds) refl
-  where
-    go : (b : Bool) → t .holds ≡ b → refuse (t ∷ ts) ≡ Refused why
-    go true h = let p = refuse-here t [] h in let q = refuse-here t ts h in cc
-    go false h =
-        let p = refuse-later t [] h ∙ refuse-none in
-        let z : _≡_ {A = ℕ} 0 1 = cc in absurd (omega arith)
-
-pub alone-passed : (t : Test) (ts : List Test) → refuse (t ∷ []) ≡ Passed → refuse (t ∷ ts) ≡ refuse ts
-alone-passed t ts e = refuse-later t ts (passed-here t [] e)
 
 module _ (length : ℕ) (l : Line) (made : Made) {r : Check} (e : r ≡ refuse (tableTest length ∷ [])) where
   pub pass-table : {why : Refusal} → r ≡ Refused why → Refused why ≡ refuse (passTests length l made)

@@ -4,6 +4,7 @@ use mathlib.Core.Path.{_≡_, sym, _∙_, ap}
 use mathlib.Core.Bool.{Bool, true, false, not}
 use mathlib.Core.List.{List, [], _∷_}
 use lib.ListN.{length, drop}
+use Rattle.answers.proofs.Refusals.{refuse-none, refuse-here, refuse-later, passed-later, alone-refused, alone-passed}
 use Rattle.answers.specs.Refuse.{Test, refuse, tableTest}
 use Rattle.answers.specs.declared.Refusal.{Refusal}
 use Rattle.answers.specs.declared.Refusal.the-variants as Refusal′
@@ -14,10 +15,9 @@ use Rattle.answers.specs.declared.Check.the-variants.{Passed, Refused}
 use Rattle.line.specs.Line.{Line, lineOf}
 use Rattle.line.specs.Test.{isValid, lineTest}
 use Rattle.line.specs.Changes.{applyAll}
-use Rattle.line.proofs.Refusals.{refuse-none, refuse-here, refuse-later, refuse-line, refuse-past-line, passed-later, passed-line}
+use Rattle.line.proofs.Refusals.{refuse-line, refuse-past-line, passed-line}
 use Rattle.machine.specs.Head.{hasKind, bodyOf}
 use Rattle.machine.specs.Pass as Pass
-use Rattle.machine.proofs.Calls.{alone-refused, alone-passed}
 use Rattle.noncontextual.specs.NonContextual.{passed, passLeaves, kindTest, passTests, passCall, callLeaves}
 
 module _ (length : ℕ) (l : Line) (bytes : List ℕ) {check : Check} (e : check ≡ refuse (tableTest length ∷ [])) where

@@ -4,6 +4,7 @@ use mathlib.Core.Path.{_≡_, refl, sym, _∙_}
 use mathlib.Core.Bool.{Bool, true, false, cond}
 use mathlib.Core.List.{List, [], _∷_}
 use lib.Dec.{ltb}
+use Rattle.answers.proofs.Refusals.{alone-refused, alone-passed}
 use Rattle.answers.specs.Limits.{room}
 use Rattle.answers.specs.Refuse.{refuse, tableTest}
 use Rattle.answers.specs.declared.Refusal.{Refusal}
@@ -12,7 +13,6 @@ use Rattle.answers.specs.declared.Check.{Check}
 use Rattle.answers.specs.declared.Check.the-variants.{Passed, Refused}
 use Rattle.state_tables.specs.declared.Made.{Made}
 use Rattle.machine.specs.Call.{isShort, headTest}
-use Rattle.machine.proofs.Calls.{alone-refused, alone-passed}
 use Rattle.rearrangement.specs.Rearrangement.{laterTests, stepTests}
 use Rattle.rearrangement.specs.declared.RearrangementState.{RearrangementState}
 

@@ -1,10 +1,11 @@
 -- The answers of the class entries, one law for each way out of the code.
 use Prim.Native.Nat.{ℕ, _<_, _≤_}
-use mathlib.Core.Path.{_≡_, refl}
+use mathlib.Core.Path.{_≡_, sym, _∙_}
 use mathlib.Core.Bool.{Bool, true, false, cond}
 use mathlib.Core.List.{List, [], _∷_}
 use lib.ListN.{length, drop}
 use borrow.Author.Tests.{lt-ltb, le-ltb}
+use Rattle.answers.proofs.Refusals.{alone-refused, alone-passed}
 use Rattle.answers.specs.Refuse.{Test, refuse, tableTest}
 use Rattle.answers.specs.declared.Refusal.{Refusal}
 use Rattle.answers.specs.declared.Refusal.the-variants.{Head}
@@ -16,35 +17,17 @@ use Rattle.state_tables.specs.declared.States.{States}
 use Rattle.state_tables.specs.declared.Made.{Made}
 use Rattle.state_tables.specs.declared.Made.the-variants.{Ready, Short}
 
--- a test by itself, and the tests that follow it
-module _ (t : Test) (ts : List Test) {check : Check} (e : check ≡ refuse (t ∷ [])) where
-  refused-first : {why : Refusal} → check ≡ Refused why → refuse (t ∷ ts) ≡ Refused why
-  unfolding refuse
-  refused-first {why} f = go (t .holds) refl
-    where
-      go : (b : Bool) → t .holds ≡ b → cond (t .holds) (Refused (t .refusal)) (refuse ts) ≡ Refused why
-      go true h = cc
-      go false h = cc
-
-  passed-first : check ≡ Passed → refuse (t ∷ ts) ≡ refuse ts
-  unfolding refuse
-  passed-first f = go (t .holds) refl
-    where
-      go : (b : Bool) → t .holds ≡ b → cond (t .holds) (Refused (t .refusal)) (refuse ts) ≡ refuse ts
-      go true h = cc
-      go false h = cc
-
 module _ (made : Made) (table : List ℕ) (start glyph : ℕ) {check : Check} (e : check ≡ refuse (tableTest (length table) ∷ [])) where
   abbrev head : List Test
   head = headTest (length table) start made ∷ []
 
   pub reply-table : {why : Refusal} → check ≡ Refused why → R.Refused why ≡ classReply made table start glyph
   unfolding classReply
-  reply-table f = rw (refused-first (tableTest (length table)) head e f, classReply)
+  reply-table f = rw (alone-refused (tableTest (length table)) head _ (sym e ∙ f), classReply)
 
   module _ (f : check ≡ Passed) where
     to-head : refuse (tableTest (length table) ∷ head) ≡ refuse head
-    to-head = passed-first (tableTest (length table)) head e f
+    to-head = alone-passed (tableTest (length table)) head (sym e ∙ f)
 
     pub reply-past : length table < start → R.Refused Head ≡ classReply made table start glyph
     unfolding classReply headTest refuse

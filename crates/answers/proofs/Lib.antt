@@ -1,0 +1,2 @@
+-- Laws that the proofs of refusing functions cite.
+pub mod Refusals
