@@ -14,6 +14,7 @@ use Rattle.laws.proofs.Backward.{length-backward, backward-inside, backward-out
 use Rattle.laws.proofs.Lists.{length-tab, getD-tab, getD-first, getD-behind}
 use Rattle.laws.proofs.Numbers.{lt-or-ge, eq-or-ne}
 use Rattle.line.specs.Changes.{numbersFrom, rehomed, opened, emptied, handed, emptiedAll, handedAll}
+use Rattle.parse.specs.Reads.{u16At}
 use Rattle.line.specs.Steps.{glyphsOf, raised}
 use Rattle.line.proofs.Once.{length-numbersFrom, getD-numbersFrom}
 use Rattle.line.proofs.Joins.{length-emptied, length-handed, length-rehomed, getD-rehomed}
@@ -60,7 +61,7 @@ unfolding glyphsOf
 length-glyphsOf bytes = length-tab _ (length bytes / 2)
 
 pub getD-glyphsOf : (bytes : List ℕ) (k : ℕ) → k < length bytes / 2
-    → getD (glyphsOf bytes) k 0 ≡ getD bytes (k * 2) 0 * 256 + getD bytes (k * 2 + 1) 0
+    → getD (glyphsOf bytes) k 0 ≡ u16At bytes (k * 2)
 unfolding glyphsOf
 getD-glyphsOf bytes k h = getD-tab _ (length bytes / 2) k 0 h
 
@@ -71,11 +72,11 @@ pub number-next : (before : List ℕ) (at first count : ℕ) {after : List ℕ} 
 number-next before at first count {k = k} fits p h =
     pasting-next before at (numbersFrom first count) count (length-numbersFrom first count) fits p h refl (sym (getD-numbersFrom first count k h))
 
-pub put-next : (before : List ℕ) (at : ℕ) (bytes : List ℕ) {after : List ℕ} {k a b : ℕ} → at + length bytes / 2 ≤ length before
-    → Pasting before at (glyphsOf bytes) (length bytes / 2) after k → k < length bytes / 2 → a ≡ getD bytes (k * 2) 0 → b ≡ getD bytes (k * 2 + 1) 0
-    → Pasting before at (glyphsOf bytes) (length bytes / 2) (set after (at + k) (a * 256 + b)) (k + 1)
-put-next before at bytes {k = k} fits p h e f =
-    pasting-next before at (glyphsOf bytes) (length bytes / 2) (length-glyphsOf bytes) fits p h refl (rw (e, f) (sym (getD-glyphsOf bytes k h)))
+pub put-next : (before : List ℕ) (at : ℕ) (bytes : List ℕ) {after : List ℕ} {k glyph : ℕ} → at + length bytes / 2 ≤ length before
+    → Pasting before at (glyphsOf bytes) (length bytes / 2) after k → k < length bytes / 2 → glyph ≡ u16At bytes (k * 2)
+    → Pasting before at (glyphsOf bytes) (length bytes / 2) (set after (at + k) glyph) (k + 1)
+put-next before at bytes {k = k} fits p h e =
+    pasting-next before at (glyphsOf bytes) (length bytes / 2) (length-glyphsOf bytes) fits p h refl (e ∙ sym (getD-glyphsOf bytes k h))
 
 pub rehome-next : (before : List ℕ) (from to : ℕ) {after : List ℕ} {c x : ℕ} → Pasting before 0 (rehomed from to before) (length before) after c
     → c < length after → x ≡ ifEq (getD after c 0) from to (getD after c 0)

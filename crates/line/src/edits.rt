@@ -20,13 +20,6 @@ fn least(a: usize, b: usize) -> usize
     if a < b { a } else { b }
 }
 
-// A byte as a number that sums and products have room for.
-fn wide(byte: u8) -> u32
-    ensures { λ r. ⌜ (r ≡ byte) × (r < 256) ⌝ }
-{
-    byte as u32
-}
-
 // Writes a glyph at a place of the line; elsewhere it is skipped.
 pub fn write(glyphs: &mut [u16], used: usize, at: usize, glyph: u16)
     requires { ⌜ used ≤ length (now glyphs) ⌝ }
@@ -96,7 +89,7 @@ fn put(glyphs: &mut [u16], at: usize, new: &[u8])
     let count = new.len() / 2;
     let mut k = 0;
     while k < count {
-        glyphs[at + k] = (wide(new[k * 2]) * 256 + wide(new[k * 2 + 1])) as u16;
+        glyphs[at + k] = parse::u16_at(new, k * 2);
         k += 1;
     }
 }
