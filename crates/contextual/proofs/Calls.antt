@@ -22,51 +22,55 @@ use Rattle.line.specs.Changes.{applyAll}
 use Rattle.line.proofs.Refusals.{refuse-line, refuse-past-line, passed-line}
 use Rattle.machine.specs.Head.{bodyOf}
 use Rattle.machine.specs.Pass.{Stepped, Passed}
-use Rattle.machine.specs.Call.{headTest, passTests, called}
-use Rattle.machine.proofs.Calls.{taken-line, call-refused, call-headless, call-works}
+use Rattle.machine.specs.Call.{headTest, passTests}
+use Rattle.machine.proofs.Calls.{taken-line}
 use Rattle.contextual.specs.Substitutes.{writtenAll}
 use Rattle.contextual.specs.Contextual.{next, stepped, stepOf, machine, passed, passLeaves}
-use Rattle.contextual.specs.Calls.{opened, passCall, callLeaves, placeTest, stateTest, stepTests, refusedStep, stepCall, stepLeaves}
+use Rattle.contextual.specs.Calls.{opened, worked, workLeaves, passCall, callLeaves, placeTest, stateTest, stepTests, refusedStep, stepCall, stepLeaves}
 use Rattle.contextual.specs.declared.ContextualState.{ContextualState}
 use Rattle.contextual.specs.declared.ContextualStep.{ContextualStep}
 use Rattle.contextual.proofs.Writes.{written-line}
 
--- what a call of the pass answers and leaves
-pub record Ends (table : List ℕ) (start : ℕ) (l : Line) (answer : Answer) (glyphs : List ℕ) : Type 0 where
-  pub answers : answer ≡ passCall table start l .answer
-  pub left : glyphs ≡ callLeaves table start l .glyphs
+-- an answer and glyphs that are what a pass gives
+pub record Ends (whole : Passed) (l : Line) (answer : Answer) (glyphs : List ℕ) : Type 0 where
+  pub answers : answer ≡ whole .answer
+  pub left : glyphs ≡ applyAll (whole .changes) l .glyphs
 
+ends-at : {whole : Passed} (some : Passed) {l : Line} {answer : Answer} {glyphs : List ℕ} → whole ≡ some → Ends some l answer glyphs → Ends whole l answer glyphs
+ends-at some {l} e r =
+    record { answers = r .answers ∙ ap (λ (w : Passed). w .answer) (sym e); left = r .left ∙ ap (λ (w : Passed). applyAll (w .changes) l .glyphs) (sym e) }
+
+unchanged : (answer : Answer) (l : Line) → Ends (record { answer = answer; changes = [] }) l answer (l .glyphs)
+unfolding applyAll
+unchanged answer l = record { answers = refl; left = refl }
+
+-- the pass by a subtable: its state table can't be made, or it can
+module _ (bytes : List ℕ) (l : Line) {made : Made} (m : made ≡ opened bytes) where
+  pub work-headless : made ≡ Made′.Short → Ends (worked bytes l) l (Answer′.Refused Refusal′.Head) (l .glyphs)
+  unfolding worked
+  work-headless s = ends-at _ (rw (sym m ∙ s, worked)) (unchanged (Answer′.Refused Refusal′.Head) l)
+
+  pub work-passed : {states : States} {body glyphs : List ℕ} {answer : Answer} → made ≡ Made′.Ready states → body ≡ drop 12 bytes
+      → answer ≡ passed body states l .answer → glyphs ≡ passLeaves body states l .glyphs → Ends (worked bytes l) l answer glyphs
+  unfolding worked passLeaves
+  work-passed {states} {body} r d a g =
+      ends-at (passed body states l) (rw (sym m ∙ r, worked) (ap (λ (x : List ℕ). passed x states l) (sym d))) (record { answers = a; left = g })
+
+-- a call: its tests refuse it, or the subtable works
 module _ (table : List ℕ) (start : ℕ) (l : Line) {bytes : List ℕ} {made : Made} {check : Check} (b : bytes ≡ drop start table)
     (m : made ≡ opened bytes) (k : check ≡ refuse (passTests (length table) l made)) where
-  work : States → Passed
-  work states = passed (bodyOf (drop start table)) states l
+  pass-tested : check ≡ refuse (passTests (length table) l (opened (drop start table)))
+  pass-tested = k ∙ ap (λ (h : Made). refuse (passTests (length table) l h)) (m ∙ ap opened b)
 
-  call-is : passCall table start l ≡ called (length table) l made work
-  unfolding passCall work
-  call-is = ap (λ (h : Made). called (length table) l h work) (sym (m ∙ ap opened b))
+  pub call-refused : {why : Refusal} → check ≡ Check′.Refused why → Ends (passCall table start l) l (Answer′.Refused why) (l .glyphs)
+  unfolding passCall
+  call-refused {why} e = ends-at _ (rw (sym pass-tested ∙ e, passCall)) (unchanged (Answer′.Refused why) l)
 
-  ends : {answer : Answer} {glyphs : List ℕ} (p : Passed) → called (length table) l made work ≡ p → answer ≡ p .answer
-      → glyphs ≡ applyAll (p .changes) l .glyphs → Ends table start l answer glyphs
-  unfolding callLeaves
-  ends p e a g =
-      let q = sym (call-is ∙ e) in
-      record { answers = a ∙ ap (λ (x : Passed). x .answer) q; left = g ∙ ap (λ (x : Passed). applyAll (x .changes) l .glyphs) q }
-
-  pub ends-refused : {why : Refusal} → check ≡ Check′.Refused why → Ends table start l (Answer′.Refused why) (l .glyphs)
-  unfolding applyAll
-  ends-refused e = ends _ (call-refused (length table) l made work k e) refl refl
-
-  pub ends-headless : check ≡ Check′.Passed → made ≡ Made′.Short → Ends table start l (Answer′.Refused Refusal′.Head) (l .glyphs)
-  unfolding applyAll
-  ends-headless e s = ends _ (call-headless (length table) l made work k e s) refl refl
-
-  pub ends-worked : {states : States} {body glyphs : List ℕ} {answer : Answer} → check ≡ Check′.Passed → made ≡ Made′.Ready states
-      → body ≡ drop 12 bytes → answer ≡ passed body states l .answer → glyphs ≡ passLeaves body states l .glyphs → Ends table start l answer glyphs
-  unfolding passLeaves work
-  ends-worked {states} {body} e r d a g =
-      ends (passed body states l)
-      (call-works (length table) l made work k e r ∙ ap (λ (x : List ℕ). passed x states l) (sym (d ∙ ap (drop 12) b)))
-      a g
+  pub call-works : {glyphs : List ℕ} {answer : Answer} → check ≡ Check′.Passed → answer ≡ worked bytes l .answer
+      → glyphs ≡ workLeaves bytes l .glyphs → Ends (passCall table start l) l answer glyphs
+  unfolding passCall workLeaves
+  call-works e a g =
+      ends-at (worked bytes l) (rw (sym pass-tested ∙ e, passCall) (ap (λ (x : List ℕ). worked x l) (sym b))) (record { answers = a; left = g })
 
 -- a line that a pass has taken has its used places
 pub taken-fits : (n : ℕ) (glyphs tags homes : List ℕ) (used : ℕ) (made : Made) {check : Check}

@@ -13,9 +13,10 @@ use Rattle.state_tables.specs.declared.Made.the-variants as Made′
 use Rattle.line.specs.Line.{Line}
 use Rattle.line.specs.History.{Honest}
 use Rattle.machine.specs.Head.{bodyOf}
-use Rattle.machine.proofs.Quiet.{Quiet, quiet-none, quiet-fits, quiet-pass, quiet-call}
+use Rattle.machine.specs.Call.{passTests}
+use Rattle.machine.proofs.Quiet.{Quiet, quiet-none, quiet-fits, quiet-pass, quiet-made, quiet-tested}
 use Rattle.contextual.specs.Contextual.{fresh, rest, next, machine, passed}
-use Rattle.contextual.specs.Calls.{opened, passCall, callLeaves, stepTests, stepBy, stepCall, stepLeaves, PassCall, StepCall}
+use Rattle.contextual.specs.Calls.{opened, worked, passCall, callLeaves, stepTests, stepBy, stepCall, stepLeaves, PassCall, StepCall}
 use Rattle.contextual.specs.declared.ContextualState.{ContextualState}
 use Rattle.contextual.proofs.Writes.{quiet-writes}
 
@@ -27,21 +28,26 @@ quiet-passed : (bytes : List ℕ) (states : States) (l : Line) → Quiet (passed
 unfolding passed
 quiet-passed bytes states l = quiet-pass (machine bytes states) (quiet-step bytes states) (rest fresh l 0) fresh l 0
 
+pub quiet-worked : (bytes : List ℕ) (l : Line) → Quiet (worked bytes l .changes)
+unfolding worked
+quiet-worked bytes l = quiet-made (opened bytes) _ (λ states. quiet-passed (bodyOf bytes) states l)
+
+pub quiet-call : (table : List ℕ) (start : ℕ) (l : Line) → Quiet (passCall table start l .changes)
+unfolding passCall
+quiet-call table start l =
+    quiet-tested (refuse (passTests (length table) l (opened (drop start table)))) (worked (drop start table) l) (quiet-worked (drop start table) l)
+
 pub passes-honest : Honest
     (λ (call : PassCall) l. callLeaves (call .table) (call .start) l)
     (λ (call : PassCall) l. passCall (call .table) (call .start) l .changes)
-unfolding passCall callLeaves
+unfolding callLeaves
 passes-honest =
     record {
       made = λ call l v. refl;
-      legal = λ call l v.
-          quiet-fits _ l v
-          (quiet-call (length (call .table)) l (opened (drop (call .start) (call .table)))
-          (λ states. passed (bodyOf (drop (call .start) (call .table))) states l)
-          (λ states. quiet-passed (bodyOf (drop (call .start) (call .table))) states l));
+      legal = λ call l v. quiet-fits _ l v (quiet-call (call .table) (call .start) l);
     }
 
-quiet-step-call : (table : List ℕ) (start : ℕ) (s : ContextualState) (l : Line) (i g : ℕ) (e : Bool) → Quiet (stepCall table start s l i g e .changes)
+pub quiet-step-call : (table : List ℕ) (start : ℕ) (s : ContextualState) (l : Line) (i g : ℕ) (e : Bool) → Quiet (stepCall table start s l i g e .changes)
 unfolding stepCall
 quiet-step-call table start s l i g e = go (refuse (stepTests (length table) l i s (opened (drop start table)))) (opened (drop start table))
   where

@@ -14,7 +14,7 @@ use Rattle.state_tables.specs.declared.entries.Entered.{Entered}
 use Rattle.state_tables.specs.declared.entries.Entered.the-variants as Entered′
 use Rattle.state_tables.specs.Classes.{classOf}
 use Rattle.state_tables.specs.Entries.{entryOf, onEntry}
-use Rattle.machine.specs.Entry.{isSet, classAt}
+use Rattle.machine.specs.Entry.{isSet, classHere}
 use Rattle.contextual.specs.Substitutes.{Write, writesOf, writtenAll}
 use Rattle.contextual.specs.Contextual.{idle, begun, acted, Ran, over, entryWrites, ran, next, advanceOf, stepped, stepOf}
 use Rattle.contextual.specs.declared.Acted.{Acted}
@@ -130,7 +130,7 @@ module _ (bytes : List ℕ) (states : States) (s : ContextualState) (index glyph
   unfolding next writtenAll
   next-idle used glyphs e = rw (sym i ∙ e, next) (record { answers = refl; left = refl })
 
-  module _ {s₀ : ContextualState} {class₀ : ℕ} (n : idles ≡ false) (b : s₀ ≡ begun s index glyph ends) (k : class₀ ≡ classAt bytes states glyph ends) where
+  module _ {s₀ : ContextualState} {class₀ : ℕ} (n : idles ≡ false) (b : s₀ ≡ begun s index glyph ends) (k : class₀ ≡ classHere bytes states glyph ends) where
     next-runs : ran bytes states index 18 s₀ class₀ glyph [] ≡ next bytes states s index glyph ends
     unfolding next
     next-runs = rw (b, k) (sym (rw (sym i ∙ n, next)))

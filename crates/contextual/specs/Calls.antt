@@ -21,7 +21,7 @@ use Rattle.line.specs.Changes.{applyAll}
 use Rattle.machine.specs.Head.{bodyOf}
 use Rattle.machine.specs.Pass.{Stepped, Passed}
 use Rattle.machine.specs.Call as Call′
-use Rattle.machine.specs.Call.{headTest, called}
+use Rattle.machine.specs.Call.{headTest, passTests, refusedCall, onMade}
 use Rattle.contextual.specs.Contextual.{machine, passed}
 use Rattle.contextual.specs.declared.ContextualState.{ContextualState}
 
@@ -29,10 +29,17 @@ use Rattle.contextual.specs.declared.ContextualState.{ContextualState}
 unfoldable pub opened : List ℕ → Made
 opened bytes = onU32 (readU32 (bodyOf bytes) 16) (λ list. Call′.opened bytes 1) Made′.Short
 
+-- the pass by the subtable that the bytes begin with; HEAD where it can't be opened
+unfoldable pub worked : List ℕ → Line → Passed
+worked bytes l = onMade (opened bytes) (λ states. passed (bodyOf bytes) states l)
+
+-- the line that it leaves
+unfoldable pub workLeaves : List ℕ → Line → Line
+workLeaves bytes l = applyAll (worked bytes l .changes) l
+
 -- a call of the pass on the subtable at `start`: TABLE, LINE, HEAD, then the pass
 unfoldable pub passCall : List ℕ → (start : ℕ) → Line → Passed
-passCall table start l =
-    called (length table) l (opened (drop start table)) (λ states. passed (bodyOf (drop start table)) states l)
+passCall table start l = refusedCall (refuse (passTests (length table) l (opened (drop start table)))) (worked (drop start table) l)
 
 -- the line that it leaves
 unfoldable pub callLeaves : List ℕ → (start : ℕ) → Line → Line

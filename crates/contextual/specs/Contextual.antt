@@ -14,7 +14,7 @@ use Rattle.state_tables.specs.Classes.{classOf}
 use Rattle.state_tables.specs.Entries.{entryOf, onEntry}
 use Rattle.line.specs.Line.{Line}
 use Rattle.line.specs.Changes.{applyAll}
-use Rattle.machine.specs.Entry.{isSet, classAt}
+use Rattle.machine.specs.Entry.{isSet, classHere}
 use Rattle.machine.specs.Pass.{Stepped, Machine, Passed, isDone, passOf}
 use Rattle.contextual.specs.Substitutes.{Write, substituteOf, glyphAfter, writesOf, changesOf}
 use Rattle.contextual.specs.declared.Substitute.{Substitute}
@@ -98,7 +98,7 @@ unfoldable pub next : List ℕ → States → ContextualState → (index glyph :
 next bytes states s index glyph ends =
     elim (idle s ends) [
       | true ↦ over Answer′.Done s []
-      | false ↦ ran bytes states index 18 (begun s index glyph ends) (classAt bytes states glyph ends) glyph []
+      | false ↦ ran bytes states index 18 (begun s index glyph ends) (classHere bytes states glyph ends) glyph []
     ]
 
 -- the advance is 1 when DONE

@@ -17,7 +17,7 @@ ghost use Rattle.answers.specs.Refuse.{refuse};
 ghost use Rattle.line.specs.Line.{lineOf};
 ghost use Rattle.contextual.specs.Substitutes.{substituteOf, glyphAfter, writesOf, writtenAll};
 ghost use Rattle.contextual.specs.Contextual.{fresh, idle, begun, seenGlyph, entered, acted, next, stepped, stepOf, passed, passLeaves};
-ghost use Rattle.contextual.specs.Calls.{opened, passCall, callLeaves, stepTests, stepCall, stepLeaves};
+ghost use Rattle.contextual.specs.Calls.{opened, worked, workLeaves, passCall, callLeaves, stepTests, stepCall, stepLeaves};
 
 // The state of a pass: the state table's state, whether a mark was set, its place, and the glyph that is remembered for it.
 pub struct ContextualState {
@@ -390,6 +390,18 @@ fn pass_line(
     step.answer
 }
 
+// The pass over a line that LINE has taken, by the subtable that the bytes begin with; HEAD where it can't be opened.
+pub fn work(bytes: &[u8], glyphs: &mut [u16], tags: &[u16], homes: &[u16], used: usize) -> Answer
+    requires { ⌜ used ≤ length (now glyphs) ⌝ }
+    ensures answer { λ r. ⌜ r ≡ worked (now (bytes .entry)) (lineOf (now (glyphs .entry)) (now (tags .entry)) (now (homes .entry)) used) .answer ⌝ }
+    ensures glyphs { λ _. ⌜ now (glyphs .exit) ≡ workLeaves (now (bytes .entry)) (lineOf (now (glyphs .entry)) (now (tags .entry)) (now (homes .entry)) used) .glyphs ⌝ }
+{
+    let Made::Ready(states) = open(bytes) else {
+        return Answer::Refused(Refusal::Head);
+    };
+    pass_line(parse::from(bytes, 12), states, glyphs, tags, homes, used)
+}
+
 // The pass over a line, by the subtable at `start`.
 pub fn pass(
     table: &[u8],
@@ -414,8 +426,5 @@ pub fn pass(
     ) {
         return Answer::Refused(why);
     }
-    let Made::Ready(states) = made else {
-        return Answer::Refused(Refusal::Head);
-    };
-    pass_line(parse::from(bytes, 12), states, glyphs, tags, homes, used)
+    work(bytes, glyphs, tags, homes, used)
 }

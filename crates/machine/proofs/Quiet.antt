@@ -54,13 +54,17 @@ module _ {S : Type 0} (machine : Machine S) (quiet : (s : S) (l : Line) (i g : �
       go h f true e = subst⁻¹ (λ (w : Passed). Quiet (w .changes)) (turn-goes machine turns s l i h e) (quiet-append _ _ (quiet s l i _ false) f)
       go h f false e = subst⁻¹ (λ (w : Passed). Quiet (w .changes)) (turn-stops machine turns s l i h e) (quiet s l i _ false)
 
--- a call is quiet where its work is
+-- work on a state table is quiet where it is on every state table
+pub quiet-made : (made : Made) (work : States → Passed) → ((states : States) → Quiet (work states .changes)) → Quiet (onMade made work .changes)
+quiet-made (Made′.Ready states) work quiet = quiet states
+quiet-made Made′.Short work quiet = quiet-none
+
+-- a refused call is quiet, and one that passes its tests where its work is
+pub quiet-tested : (check : Check) (work : Passed) → Quiet (work .changes) → Quiet (refusedCall check work .changes)
+quiet-tested (Check′.Refused why) work quiet = quiet-none
+quiet-tested Check′.Passed work quiet = quiet
+
 pub quiet-call : (length : ℕ) (l : Line) (made : Made) (work : States → Passed) → ((states : States) → Quiet (work states .changes))
     → Quiet (called length l made work .changes)
 unfolding called
-quiet-call length l made work quiet = go (refuse (passTests length l made)) made
-  where
-    go : (check : Check) (m : Made) → Quiet (refusedCall check (onMade m work) .changes)
-    go (Check′.Refused why) m = quiet-none
-    go Check′.Passed (Made′.Ready states) = quiet states
-    go Check′.Passed Made′.Short = quiet-none
+quiet-call length l made work quiet = quiet-tested (refuse (passTests length l made)) (onMade made work) (quiet-made made work quiet)

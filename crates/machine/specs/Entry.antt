@@ -11,6 +11,6 @@ abbrev pub isSet : ℕ → ℕ → Bool
 isSet flags mask = eqb (flags / mask % 2) 1
 
 -- end of text is class 0
-unfoldable pub classAt : List ℕ → States → (glyph : ℕ) → (ends : Bool) → ℕ
-classAt bytes states glyph true = 0
-classAt bytes states glyph false = classOf bytes states glyph
+unfoldable pub classHere : List ℕ → States → (glyph : ℕ) → (ends : Bool) → ℕ
+classHere bytes states glyph true = 0
+classHere bytes states glyph false = classOf bytes states glyph

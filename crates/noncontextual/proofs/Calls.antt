@@ -4,6 +4,7 @@ use mathlib.Core.Path.{_≡_, sym, _∙_, ap}
 use mathlib.Core.Bool.{Bool, true, false, not}
 use mathlib.Core.List.{List, [], _∷_}
 use lib.ListN.{length, drop}
+use borrow.Author.Tests.{not-true, not-false}
 use Rattle.answers.proofs.Refusals.{refuse-none, refuse-here, refuse-later, passed-later, alone-refused, alone-passed}
 use Rattle.answers.specs.Refuse.{Test, refuse, tableTest}
 use Rattle.answers.specs.declared.Refusal.{Refusal}
@@ -18,7 +19,7 @@ use Rattle.line.specs.Changes.{applyAll}
 use Rattle.line.proofs.Refusals.{refuse-line, refuse-past-line, passed-line}
 use Rattle.machine.specs.Head.{hasKind, bodyOf}
 use Rattle.machine.specs.Pass as Pass
-use Rattle.noncontextual.specs.NonContextual.{passed, passLeaves, kindTest, passTests, passCall, callLeaves}
+use Rattle.noncontextual.specs.NonContextual.{passed, passLeaves, worked, workLeaves, kindTest, passTests, passCall}
 
 module _ (length : ℕ) (l : Line) (bytes : List ℕ) {check : Check} (e : check ≡ refuse (tableTest length ∷ [])) where
   abbrev behind : List Test
@@ -57,25 +58,38 @@ passed-fits n glyphs tags homes used bytes k e =
     let l : Line = lineOf glyphs tags homes used in
     passed-line l (kindTest bytes ∷ []) (passed-later (tableTest n) (lineTest l ∷ kindTest bytes ∷ []) (sym k ∙ e)) .within
 
--- what a call answers and leaves
-pub record Ends (table : List ℕ) (start : ℕ) (l : Line) (answer : Answer) (glyphs : List ℕ) : Type 0 where
-  pub answers : answer ≡ passCall table start l .answer
-  pub left : glyphs ≡ callLeaves table start l .glyphs
+-- an answer and glyphs that are what a pass gives
+pub record Ends (whole : Pass.Passed) (l : Line) (answer : Answer) (glyphs : List ℕ) : Type 0 where
+  pub answers : answer ≡ whole .answer
+  pub left : glyphs ≡ applyAll (whole .changes) l .glyphs
+
+-- the pass by a subtable of another kind, and of its own
+module _ (bytes : List ℕ) (l : Line) {kind : Bool} (k : kind ≡ hasKind bytes 4) where
+  pub work-headless : not kind ≡ true → Ends (worked bytes l) l (Answer′.Refused Refusal′.Head) (l .glyphs)
+  unfolding worked applyAll
+  work-headless n = record { answers = rw (sym k ∙ not-true _ n, worked); left = rw (sym k ∙ not-true _ n, worked) }
+
+  pub work-passed : {body glyphs : List ℕ} → not kind ≡ false → body ≡ drop 12 bytes → glyphs ≡ passLeaves body l .glyphs → Ends (worked bytes l) l Answer′.Done glyphs
+  unfolding worked passLeaves passed
+  work-passed {body} n d g =
+      let r : worked bytes l ≡ passed (bodyOf bytes) l = rw (sym k ∙ not-false _ n, worked) in
+      record {
+        answers = ap (λ (w : Pass.Passed). w .answer) (sym r);
+        left = g ∙ ap (λ (x : List ℕ). passLeaves x l .glyphs) d ∙ ap (λ (w : Pass.Passed). applyAll (w .changes) l .glyphs) (sym r);
+      }
 
 module _ (table : List ℕ) (start : ℕ) (l : Line) {bytes : List ℕ} {check : Check} (b : bytes ≡ drop start table)
     (k : check ≡ refuse (passTests (length table) l bytes)) where
   tested : check ≡ refuse (passTests (length table) l (drop start table))
   tested = k ∙ ap (λ (x : List ℕ). refuse (passTests (length table) l x)) b
 
-  pub ends-refused : {why : Refusal} → check ≡ Refused why → Ends table start l (Answer′.Refused why) (l .glyphs)
-  unfolding passCall callLeaves applyAll
-  ends-refused e = record { answers = rw (sym tested ∙ e, passCall); left = rw (sym tested ∙ e, passCall) }
+  pub call-refused : {why : Refusal} → check ≡ Refused why → Ends (passCall table start l) l (Answer′.Refused why) (l .glyphs)
+  unfolding passCall applyAll
+  call-refused e = record { answers = rw (sym tested ∙ e, passCall); left = rw (sym tested ∙ e, passCall) }
 
-  pub ends-passed : {body glyphs : List ℕ} → check ≡ Passed → body ≡ drop 12 bytes → glyphs ≡ passLeaves body l .glyphs → Ends table start l Answer′.Done glyphs
-  unfolding passCall callLeaves passLeaves passed
-  ends-passed e d g =
-      let r : passCall table start l ≡ passed (bodyOf (drop start table)) l = rw (sym tested ∙ e, passCall) in
-      record {
-        answers = ap (λ (w : Pass.Passed). w .answer) (sym r);
-        left = g ∙ ap (λ (x : List ℕ). passLeaves x l .glyphs) (d ∙ ap (drop 12) b) ∙ ap (λ (w : Pass.Passed). applyAll (w .changes) l .glyphs) (sym r);
-      }
+  pub call-works : {glyphs : List ℕ} {answer : Answer} → check ≡ Passed → answer ≡ worked bytes l .answer → glyphs ≡ workLeaves bytes l .glyphs
+      → Ends (passCall table start l) l answer glyphs
+  unfolding passCall workLeaves
+  call-works e a g =
+      let r : passCall table start l ≡ worked bytes l = rw (sym tested ∙ e, passCall) (ap (λ (x : List ℕ). worked x l) (sym b)) in
+      record { answers = a ∙ ap (λ (w : Pass.Passed). w .answer) (sym r); left = g ∙ ap (λ (w : Pass.Passed). applyAll (w .changes) l .glyphs) (sym r) }

@@ -1,11 +1,12 @@
 -- What the pass adds to the history: nothing. So demand 3 covers its calls.
 use Prim.Native.Nat.{ℕ, zero, suc}
 use mathlib.Core.Path.{refl}
-use mathlib.Core.List.{List}
+use mathlib.Core.Bool.{Bool, true, false, cond}
+use mathlib.Core.List.{List, []}
 use lib.ListN.{length, getD, drop}
 use Rattle.answers.specs.Refuse.{refuse}
-use Rattle.answers.specs.declared.Check.{Check}
-use Rattle.answers.specs.declared.Check.the-variants as Check′
+use Rattle.answers.specs.declared.Refusal.the-variants as Refusal′
+use Rattle.answers.specs.declared.Answer.the-variants as Answer′
 use Rattle.tables.specs.Lookup.{lookupAt}
 use Rattle.tables.specs.declared.lookup.Found.{Found}
 use Rattle.tables.specs.declared.lookup.Found.the-variants as Found′
@@ -13,10 +14,9 @@ use Rattle.line.specs.Line.{Line}
 use Rattle.line.specs.Edits.{inserted}
 use Rattle.line.specs.Changes.{editsOf, historyOf}
 use Rattle.line.specs.History.{Honest}
-use Rattle.machine.specs.Head.{bodyOf}
-use Rattle.machine.specs.Call.{refusedCall}
-use Rattle.machine.proofs.Quiet.{Quiet, quiet-append, quiet-none, quiet-fits}
-use Rattle.noncontextual.specs.NonContextual.{writesOf, writesBelow, passed, passTests, passCall, callLeaves, PassCall}
+use Rattle.machine.specs.Head.{hasKind, bodyOf}
+use Rattle.machine.proofs.Quiet.{Quiet, quiet-append, quiet-none, quiet-fits, quiet-tested}
+use Rattle.noncontextual.specs.NonContextual.{writesOf, writesBelow, passed, worked, passTests, passCall, callLeaves, PassCall}
 
 -- a glyph that is written moves nobody
 quiet-writes : (place : ℕ) (found : Found) → Quiet (writesOf place found)
@@ -31,13 +31,18 @@ quiet-below body glyphs (suc n) =
     quiet-append (writesBelow body glyphs n) (writesOf n (lookupAt body (getD glyphs n 0)))
     (quiet-below body glyphs n) (quiet-writes n (lookupAt body (getD glyphs n 0)))
 
-pub quiet-call : (table : List ℕ) (start : ℕ) (l : Line) → Quiet (passCall table start l .changes)
-unfolding passCall passed
-quiet-call table start l = go (refuse (passTests (length table) l (drop start table)))
+pub quiet-worked : (bytes : List ℕ) (l : Line) → Quiet (worked bytes l .changes)
+unfolding worked passed
+quiet-worked bytes l = go (hasKind bytes 4)
   where
-    go : (check : Check) → Quiet (refusedCall check (passed (bodyOf (drop start table)) l) .changes)
-    go Check′.Passed = quiet-below (bodyOf (drop start table)) (l .glyphs) (l .used)
-    go (Check′.Refused why) = quiet-none
+    go : (kind : Bool) → Quiet (cond kind (passed (bodyOf bytes) l) (record { answer = Answer′.Refused Refusal′.Head; changes = [] }) .changes)
+    go true = quiet-below (bodyOf bytes) (l .glyphs) (l .used)
+    go false = quiet-none
+
+pub quiet-call : (table : List ℕ) (start : ℕ) (l : Line) → Quiet (passCall table start l .changes)
+unfolding passCall
+quiet-call table start l =
+    quiet-tested (refuse (passTests (length table) l (drop start table))) (worked (drop start table) l) (quiet-worked (drop start table) l)
 
 -- non-contextual passes are calls that demand 3 covers
 pub passes-honest : Honest

@@ -1,6 +1,6 @@
 -- The non-contextual pass: each glyph below the used length is looked up by itself, and replaced where something is found.
 use Prim.Native.Nat.{ℕ, zero, suc}
-use mathlib.Core.Bool.{not}
+use mathlib.Core.Bool.{not, cond}
 use mathlib.Core.List.{List, [], _∷_, _++_}
 use lib.ListN.{length, getD, drop}
 use Rattle.answers.specs.Refuse.{Test, refuse, tableTest}
@@ -39,6 +39,14 @@ passed body l = record { answer = Answer′.Done; changes = writesBelow body (l 
 unfoldable pub passLeaves : List ℕ → Line → Line
 passLeaves body l = applyAll (passed body l .changes) l
 
+-- the pass by the subtable that the bytes begin with, by the lookup right behind its head; HEAD where it is none of this kind
+unfoldable pub worked : List ℕ → Line → Passed
+worked bytes l = cond (hasKind bytes 4) (passed (bodyOf bytes) l) (record { answer = Answer′.Refused Refusal′.Head; changes = [] })
+
+-- the line that it leaves
+unfoldable pub workLeaves : List ℕ → Line → Line
+workLeaves bytes l = applyAll (worked bytes l .changes) l
+
 -- HEAD: the head is cut short, or of another kind
 unfoldable pub kindTest : (bytes : List ℕ) → Test
 kindTest bytes = record { holds = not (hasKind bytes 4); refusal = Refusal′.Head }
@@ -47,10 +55,10 @@ kindTest bytes = record { holds = not (hasKind bytes 4); refusal = Refusal′.He
 unfoldable pub passTests : (length : ℕ) → Line → (bytes : List ℕ) → List Test
 passTests length l bytes = tableTest length ∷ lineTest l ∷ kindTest bytes ∷ []
 
--- a call of the pass on the subtable at `start`: its tests, then the pass, by the lookup right behind the head
+-- a call of the pass on the subtable at `start`: its tests, then the pass
 unfoldable pub passCall : List ℕ → (start : ℕ) → Line → Passed
 passCall table start l =
-    refusedCall (refuse (passTests (length table) l (drop start table))) (passed (bodyOf (drop start table)) l)
+    refusedCall (refuse (passTests (length table) l (drop start table))) (worked (drop start table) l)
 
 -- the line that it leaves
 unfoldable pub callLeaves : List ℕ → (start : ℕ) → Line → Line

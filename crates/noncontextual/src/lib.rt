@@ -10,7 +10,7 @@ ghost use lib.ListN.{length};
 ghost use Rattle.answers.specs.Refuse.{refuse};
 ghost use Rattle.line.specs.Line.{lineOf};
 ghost use Rattle.tables.specs.Lookup.{lookupAt};
-ghost use Rattle.noncontextual.specs.NonContextual.{replaced, passTests, passLeaves, passCall, callLeaves};
+ghost use Rattle.noncontextual.specs.NonContextual.{replaced, passTests, passLeaves, worked, workLeaves, passCall, callLeaves};
 
 // The kind of a non-contextual subtable.
 pub const KIND: u32 = 4;
@@ -37,6 +37,19 @@ fn pass_line(body: &[u8], glyphs: &mut [u16], tags: &[u16], homes: &[u16], used:
         replace(body, glyphs, used, place, glyph);
         place += 1;
     }
+}
+
+// The pass over a line that LINE has taken, by the subtable that the bytes begin with; HEAD where it is none of this kind.
+pub fn work(bytes: &[u8], glyphs: &mut [u16], tags: &[u16], homes: &[u16], used: usize) -> Answer
+    requires { ⌜ used ≤ length (now glyphs) ⌝ }
+    ensures answer { λ r. ⌜ r ≡ worked (now (bytes .entry)) (lineOf (now (glyphs .entry)) (now (tags .entry)) (now (homes .entry)) used) .answer ⌝ }
+    ensures glyphs { λ _. ⌜ now (glyphs .exit) ≡ workLeaves (now (bytes .entry)) (lineOf (now (glyphs .entry)) (now (tags .entry)) (now (homes .entry)) used) .glyphs ⌝ }
+{
+    if !machine::has_kind(bytes, KIND) {
+        return Answer::Refused(Refusal::Head);
+    }
+    pass_line(parse::from(bytes, 12), glyphs, tags, homes, used);
+    Answer::Done
 }
 
 // The tests before a pass: TABLE, LINE, HEAD.
@@ -78,6 +91,5 @@ pub fn pass(
     if let Check::Refused(why) = refuse_pass(table.len(), glyphs, tags, homes, used, bytes) {
         return Answer::Refused(why);
     }
-    pass_line(parse::from(bytes, 12), glyphs, tags, homes, used);
-    Answer::Done
+    work(bytes, glyphs, tags, homes, used)
 }

@@ -10,9 +10,10 @@ use Rattle.line.specs.Edits.{added, inserted}
 use Rattle.line.specs.Changes.{editsOf, historyOf}
 use Rattle.line.specs.History.{Honest}
 use Rattle.machine.specs.Head.{bodyOf}
-use Rattle.machine.specs.Call.{opened}
-use Rattle.machine.proofs.Quiet.{Quiet, quiet-none, quiet-fits, quiet-pass, quiet-call}
-use Rattle.rearrangement.specs.Rearrangement.{fresh, rest, next, changesOf, machine, passed, passCall, callLeaves}
+use Rattle.answers.specs.Refuse.{refuse}
+use Rattle.machine.specs.Call.{opened, passTests}
+use Rattle.machine.proofs.Quiet.{Quiet, quiet-fits, quiet-pass, quiet-made, quiet-tested}
+use Rattle.rearrangement.specs.Rearrangement.{fresh, rest, next, changesOf, machine, passed, worked, passCall, callLeaves}
 use Rattle.rearrangement.specs.Calls.{PassCall}
 use Rattle.rearrangement.specs.declared.RearrangementState.{RearrangementState}
 use Rattle.rearrangement.specs.declared.Window.{Window}
@@ -31,16 +32,21 @@ quiet-passed : (bytes : List ℕ) (states : States) (l : Line) → Quiet (passed
 unfolding passed
 quiet-passed bytes states l = quiet-pass (machine bytes states) (quiet-step bytes states) (rest fresh l 0) fresh l 0
 
+pub quiet-worked : (bytes : List ℕ) (l : Line) → Quiet (worked bytes l .changes)
+unfolding worked
+quiet-worked bytes l = quiet-made (opened bytes 0) _ (λ states. quiet-passed (bodyOf bytes) states l)
+
+pub quiet-call : (table : List ℕ) (start : ℕ) (l : Line) → Quiet (passCall table start l .changes)
+unfolding passCall
+quiet-call table start l =
+    quiet-tested (refuse (passTests (length table) l (opened (drop start table) 0))) (worked (drop start table) l) (quiet-worked (drop start table) l)
+
 pub passes-honest : Honest
     (λ (call : PassCall) l. callLeaves (call .table) (call .start) l)
     (λ (call : PassCall) l. passCall (call .table) (call .start) l .changes)
-unfolding passCall callLeaves
+unfolding callLeaves
 passes-honest =
     record {
       made = λ call l v. refl;
-      legal = λ call l v.
-          quiet-fits _ l v
-          (quiet-call (length (call .table)) l (opened (drop (call .start) (call .table)) 0)
-          (λ states. passed (bodyOf (drop (call .start) (call .table))) states l)
-          (λ states. quiet-passed (bodyOf (drop (call .start) (call .table))) states l));
+      legal = λ call l v. quiet-fits _ l v (quiet-call (call .table) (call .start) l);
     }

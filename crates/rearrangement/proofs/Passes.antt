@@ -14,7 +14,7 @@ use Rattle.state_tables.specs.declared.entries.Entered.the-variants as Entered�
 use Rattle.state_tables.specs.Entries.{entryOf, onEntry}
 use Rattle.line.specs.Line.{Line, lineOf}
 use Rattle.line.specs.Changes.{Change, apply, applyAll}
-use Rattle.machine.specs.Entry.{isSet, classAt}
+use Rattle.machine.specs.Entry.{isSet, classHere}
 use Rattle.machine.specs.Stall.{stalled}
 use Rattle.machine.specs.Pass.{Stepped, Passed, deleted, isDone, stepAt, endCall, passFrom}
 use Rattle.machine.proofs.Stalls.{Falls, stall-falls}
@@ -41,9 +41,9 @@ stalls : (bytes : List ℕ) (states : States) (s : RearrangementState) (index gl
     × (next bytes states s index glyph ends .state .cycles ≡ stalled (s .cycles) stays .cycles)
     × (next bytes states s index glyph ends .advance ≡ stalled (s .cycles) stays .advance)
 unfolding next acted
-stalls bytes states s index glyph ends done = go (entryOf bytes states (s .state) (classAt bytes states glyph ends) 0) refl
+stalls bytes states s index glyph ends done = go (entryOf bytes states (s .state) (classHere bytes states glyph ends) 0) refl
   where
-    go : (e : Entered) → entryOf bytes states (s .state) (classAt bytes states glyph ends) 0 ≡ e
+    go : (e : Entered) → entryOf bytes states (s .state) (classHere bytes states glyph ends) 0 ≡ e
         → (stays : Bool)
         × (next bytes states s index glyph ends .state .cycles ≡ stalled (s .cycles) stays .cycles)
         × (next bytes states s index glyph ends .advance ≡ stalled (s .cycles) stays .advance)

@@ -20,8 +20,9 @@ use Rattle.state_tables.specs.Entries.{entryOf, onEntry}
 use Rattle.line.specs.Line.{Line}
 use Rattle.line.specs.Changes.{Change, applyAll}
 use Rattle.machine.specs.Head.{bodyOf}
-use Rattle.machine.specs.Call.{opened, headTest, called}
-use Rattle.machine.specs.Entry.{isSet, classAt}
+use Rattle.machine.specs.Call as Call′
+use Rattle.machine.specs.Call.{opened, headTest, passTests, refusedCall}
+use Rattle.machine.specs.Entry.{isSet, classHere}
 use Rattle.machine.specs.Stall.{stalled}
 use Rattle.machine.specs.Pass.{Stepped, Machine, Passed, passOf}
 use Rattle.rearrangement.specs.declared.RearrangementState.{RearrangementState}
@@ -67,7 +68,7 @@ unmoved s answer = record { answer = answer; state = s; advance = 0; edit = Wind
 -- a step: class, then entry, then what the entry does
 unfoldable pub next : List ℕ → States → RearrangementState → (index glyph : ℕ) → (ends : Bool) → RearrangementStep
 next bytes states s index glyph ends =
-    onEntry (entryOf bytes states (s .state) (classAt bytes states glyph ends) 0) (λ entry. acted s entry index) (unmoved s Answer′.Ended)
+    onEntry (entryOf bytes states (s .state) (classHere bytes states glyph ends) 0) (λ entry. acted s entry index) (unmoved s Answer′.Ended)
 
 -- what a step does to the line
 abbrev pub changesOf : Window → List Change
@@ -92,10 +93,17 @@ passed bytes states l = passOf (machine bytes states) (rest fresh l 0) fresh l
 unfoldable pub passLeaves : List ℕ → States → Line → Line
 passLeaves bytes states l = applyAll (passed bytes states l .changes) l
 
+-- the pass by the subtable that the bytes begin with; HEAD where it can't be opened
+unfoldable pub worked : List ℕ → Line → Passed
+worked bytes l = Call′.onMade (opened bytes 0) (λ states. passed (bodyOf bytes) states l)
+
+-- the line that it leaves
+unfoldable pub workLeaves : List ℕ → Line → Line
+workLeaves bytes l = applyAll (worked bytes l .changes) l
+
 -- a call of the pass on the subtable at `start`: TABLE, LINE, HEAD, then the pass
 unfoldable pub passCall : List ℕ → (start : ℕ) → Line → Passed
-passCall table start l =
-    called (length table) l (opened (drop start table) 0) (λ states. passed (bodyOf (drop start table)) states l)
+passCall table start l = refusedCall (refuse (passTests (length table) l (opened (drop start table) 0))) (worked (drop start table) l)
 
 -- the line that it leaves
 unfoldable pub callLeaves : List ℕ → (start : ℕ) → Line → Line

@@ -15,7 +15,7 @@ ghost use Rattle.answers.specs.Limits.{room};
 ghost use Rattle.line.specs.Line.{lineOf};
 ghost use Rattle.line.specs.Changes.{applyAll};
 ghost use Rattle.machine.specs.Pass.{Passed};
-ghost use Rattle.rearrangement.specs.Rearrangement.{fresh, marked, windowOf, acted, next, changesOf, passed, passLeaves, passCall, callLeaves, unmoved, stepTests, stepCall};
+ghost use Rattle.rearrangement.specs.Rearrangement.{fresh, marked, windowOf, acted, next, changesOf, passed, passLeaves, worked, workLeaves, passCall, callLeaves, unmoved, stepTests, stepCall};
 
 // The state of a pass: the state table's state, the marked window, and how many steps in a row did not advance.
 pub struct RearrangementState {
@@ -257,6 +257,25 @@ fn pass_line(
     step.answer
 }
 
+// The pass over a line that LINE has taken, by the subtable that the bytes begin with; HEAD where it can't be opened.
+pub fn work(
+    bytes: &[u8],
+    glyphs: &mut [u16],
+    tags: &mut [u16],
+    homes: &[u16],
+    used: usize,
+) -> Answer
+    requires { ⌜ (used ≤ length (now glyphs)) × (used ≤ length (now tags)) × (used ≤ room) ⌝ }
+    ensures answer { λ r. ⌜ r ≡ worked (now (bytes .entry)) (lineOf (now (glyphs .entry)) (now (tags .entry)) (now (homes .entry)) used) .answer ⌝ }
+    ensures glyphs { λ _. ⌜ now (glyphs .exit) ≡ workLeaves (now (bytes .entry)) (lineOf (now (glyphs .entry)) (now (tags .entry)) (now (homes .entry)) used) .glyphs ⌝ }
+    ensures tags { λ _. ⌜ now (tags .exit) ≡ workLeaves (now (bytes .entry)) (lineOf (now (glyphs .entry)) (now (tags .entry)) (now (homes .entry)) used) .tags ⌝ }
+{
+    let Made::Ready(states) = machine::open(bytes, RearrangementState::KIND) else {
+        return Answer::Refused(Refusal::Head);
+    };
+    pass_line(parse::from(bytes, 12), states, glyphs, tags, homes, used)
+}
+
 // The pass over a line, by the subtable at `start`.
 pub fn pass(
     table: &[u8],
@@ -282,8 +301,5 @@ pub fn pass(
     ) {
         return Answer::Refused(why);
     }
-    let Made::Ready(states) = made else {
-        return Answer::Refused(Refusal::Head);
-    };
-    pass_line(parse::from(bytes, 12), states, glyphs, tags, homes, used)
+    work(bytes, glyphs, tags, homes, used)
 }

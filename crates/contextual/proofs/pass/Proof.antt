@@ -1,8 +1,13 @@
+use Rattle.contextual.proofs.Calls.{call-refused, call-works, taken-fits}
+use Rattle.contextual.specs.Calls.{callLeaves}
 use Rattle.line.specs.Line.{lineOf}
-use Rattle.contextual.proofs.Calls.{ends-refused, ends-headless, ends-worked, taken-fits}
 use borrow.Author.Needs.{needs}
 use Rattle.contextual.proofs.pass.Statement.{statement}
 use Rattle.contextual.proofs.pass.Tie as tie
+use Rattle.contextual.proofs.open.Reads as open-reads
+use Rattle.contextual.proofs.work.Reads as work-reads
+use Rattle.machine.proofs.refuse_pass.Reads as refuse-pass-reads
+use Rattle.parse.proofs.from.Reads as from-reads
 
 from-requires : tie.Need-from-requires
 from-requires c κs = search needs
@@ -20,34 +25,21 @@ same-length : tie.Need-same-length
 same-length c = search needs
 
 returns : tie.Need-returns
-returns c = let e = ends-refused _ _ (lineOf _ _ _ _) (c .before .before .before .before .before .before .from .ensures) (c .before .before .before .before .before .«open» .ensures) (c .before .before .before .refuse-pass .ensures) (c .before .why .given .1) in (e .answers, e .left)
+unfolding callLeaves
+returns c = let e = call-refused _ _ (lineOf _ _ _ _) (c .before .before .before .before .before .before .from .ensures) (c .before .before .before .before .before .«open» .ensures) (c .before .before .before .refuse-pass .ensures) (c .before .why .given .1) in (e .answers, e .left)
 
 enum-told : tie.Need-enum-told
 enum-told c = search needs
 
-enum-known-made : tie.Need-enum-known-made
-enum-known-made c = search needs
-
-enum-told-2 : tie.Need-enum-told-2
-enum-told-2 c = search needs
+work-requires : tie.Need-work-requires
+work-requires c κs = taken-fits _ _ _ _ _ _ (c .before .before .before .refuse-pass .ensures) (c .before .enum-told .given .1)
 
 same-length-2 : tie.Need-same-length-2
 same-length-2 c = search needs
 
 returns-2 : tie.Need-returns-2
-returns-2 c = let e = ends-headless _ _ (lineOf _ _ _ _) (c .before .before .before .before .before .before .before .from .ensures) (c .before .before .before .before .before .before .«open» .ensures) (c .before .before .before .before .refuse-pass .ensures) (c .before .before .enum-told .given .1) (c .enum-told2 .given .1) in (e .answers, e .left)
-
-from-requires-2 : tie.Need-from-requires-2
-from-requires-2 c κs = search needs
-
-pass-line-requires : tie.Need-pass-line-requires
-pass-line-requires c κs = taken-fits _ _ _ _ _ _ (c .before .before .before .before .before .before .before .refuse-pass .ensures) (c .before .before .before .before .before .enum-told .given .1)
-
-same-length-3 : tie.Need-same-length-3
-same-length-3 c = search needs
-
-returns-3 : tie.Need-returns-3
-returns-3 c = let e = ends-worked _ _ (lineOf _ _ _ _) (c .before .before .before .before .before .before .before .before .before .before .before .before .before .from .ensures) (c .before .before .before .before .before .before .before .before .before .before .before .before .«open» .ensures) (c .before .before .before .before .before .before .before .before .before .before .refuse-pass .ensures) (c .before .before .before .before .before .before .before .before .enum-told .given .1) (c .before .before .before .before .before .before .made .given .1) (c .before .before .before .before .from2 .ensures) (c .before .before .pass-line .ensures .0) (c .before .before .pass-line .ensures .1) in (e .answers, e .left)
+unfolding callLeaves
+returns-2 c = let e = call-works _ _ (lineOf _ _ _ _) (c .before .before .before .before .before .before .before .before .before .from .ensures) (c .before .before .before .before .before .before .before .before .«open» .ensures) (c .before .before .before .before .before .before .refuse-pass .ensures) (c .before .before .before .before .enum-told .given .1) (c .before .before .work .ensures .0) (c .before .before .work .ensures .1) in (e .answers, e .left)
 
 pub pass-spec : {M : Type 1} → statement M
 pass-spec =
@@ -60,11 +52,6 @@ pass-spec =
     same-length
     returns
     enum-told
-    enum-known-made
-    enum-told-2
+    work-requires
     same-length-2
-    returns-2
-    from-requires-2
-    pass-line-requires
-    same-length-3
-    returns-3)
+    returns-2)

@@ -1,0 +1,34 @@
+use Rattle.noncontextual.proofs.Calls.{work-headless, work-passed}
+use Rattle.noncontextual.specs.NonContextual.{workLeaves}
+use Rattle.line.specs.Line.{lineOf}
+use borrow.Author.Needs.{needs}
+use Rattle.noncontextual.proofs.work.Statement.{statement}
+use Rattle.noncontextual.proofs.work.Tie as tie
+use Rattle.machine.proofs.has_kind.Reads as has-kind-reads
+use Rattle.noncontextual.proofs.pass_line.Reads as pass-line-reads
+use Rattle.parse.proofs.from.Reads as from-reads
+
+has-kind-requires : tie.Need-has-kind-requires
+has-kind-requires c κs = search needs
+
+returns : tie.Need-returns
+unfolding workLeaves
+returns c = let e = work-headless _ (lineOf _ _ _ _) (c .before .has-kind .ensures) (c .if1 .taken) in (e .answers, e .left)
+
+from-requires : tie.Need-from-requires
+from-requires c κs = search needs
+
+pass-line-requires : tie.Need-pass-line-requires
+pass-line-requires c κs = search needs
+
+same-length : tie.Need-same-length
+same-length c = search needs
+
+returns-2 : tie.Need-returns-2
+unfolding workLeaves
+returns-2 c = let e = work-passed _ (lineOf _ _ _ _) (c .before .before .before .before .before .before .has-kind .ensures) (c .before .before .before .before .before .if1 .left) (c .before .before .before .before .from .ensures) (c .before .before .pass-line .ensures) in (e .answers, e .left)
+
+pub work-spec : {M : Type 1} → statement M
+work-spec =
+    tie.close
+    (tie.spec has-kind-requires returns from-requires pass-line-requires same-length returns-2)

@@ -1,0 +1,52 @@
+use Rattle.rearrangement.specs.Rearrangement.{workLeaves}
+use Rattle.rearrangement.proofs.Calls.{work-headless, work-passed}
+use Rattle.line.specs.Line.{lineOf}
+use borrow.Author.Needs.{needs}
+use Rattle.rearrangement.proofs.work.Statement.{statement}
+use Rattle.rearrangement.proofs.work.Tie as tie
+use Rattle.machine.proofs.open.Reads as open-reads
+use Rattle.parse.proofs.from.Reads as from-reads
+use Rattle.rearrangement.proofs.pass_line.Reads as pass-line-reads
+
+open-requires : tie.Need-open-requires
+open-requires c κs = search needs
+
+enum-known-states : tie.Need-enum-known-states
+enum-known-states c = search needs
+
+enum-told : tie.Need-enum-told
+enum-told c = search needs
+
+returns : tie.Need-returns
+unfolding workLeaves
+returns c = let e = work-headless _ (lineOf _ _ _ _) (c .before .before .«open» .ensures) (c .enum-told .given .1) in (e .answers, (e .glyphs-left, e .tags-left))
+
+from-requires : tie.Need-from-requires
+from-requires c κs = search needs
+
+pass-line-requires : tie.Need-pass-line-requires
+pass-line-requires c κs = search needs
+
+same-length : tie.Need-same-length
+same-length c = search needs
+
+same-length-2 : tie.Need-same-length-2
+same-length-2 c = search needs
+
+returns-2 : tie.Need-returns-2
+unfolding workLeaves
+returns-2 c = let e = work-passed _ (lineOf _ _ _ _) (c .before .before .before .before .before .before .before .before .before .before .before .«open» .ensures) (c .before .before .before .before .before .before .before .before .before .states .given .1) (c .before .before .before .before .before .before .before .from .ensures) (c .before .before .before .before .pass-line .ensures .0) (c .before .before .before .before .pass-line .ensures .1 .0) (c .before .before .before .before .pass-line .ensures .1 .1) in (e .answers, (e .glyphs-left, e .tags-left))
+
+pub work-spec : {M : Type 1} → statement M
+work-spec =
+    tie.close
+    (tie.spec
+    open-requires
+    enum-known-states
+    enum-told
+    returns
+    from-requires
+    pass-line-requires
+    same-length
+    same-length-2
+    returns-2)
