@@ -1,7 +1,6 @@
 /* The entries of libfirmware.a, for C programs on x86-64.
 
-   Each gives the number of its answer. On every answer but AAT_DONE and AAT_ENDED the lent numbers and slices stay as they
-   were. */
+   Each gives the number of its answer. On the answers from AAT_NOTHING to AAT_HEAD all that was lent stays as it was. */
 
 #ifndef AAT_H
 #define AAT_H
@@ -10,6 +9,7 @@
 typedef __UINT8_TYPE__ uint8_t;
 typedef __UINT16_TYPE__ uint16_t;
 typedef __UINT32_TYPE__ uint32_t;
+typedef __UINT64_TYPE__ uint64_t;
 typedef __SIZE_TYPE__ size_t;
 
 enum aat_answer {
@@ -17,9 +17,10 @@ enum aat_answer {
     AAT_NOTHING = 1, /* nothing was found */
     AAT_TABLE = 2,   /* the table is longer than AAT_LONGEST_TABLE */
     AAT_LINE = 3,    /* the lent lengths, tags or homes are not a line's, or its room is above AAT_LARGEST_ROOM */
-    AAT_PLACE = 4,   /* the window's start is above its end or above the used length */
+    AAT_PLACE = 4,   /* the window's start is above its end or above the used length, or a step's index is above the length */
+    AAT_STATE = 5,   /* the state lent to a step is none that its machine can have on this line */
     AAT_HEAD = 6,    /* the start is past the table, or no state table, or subtable of the kind, can be read there */
-    AAT_ENDED = 8,   /* the pass broke off where the table has no entry, and the slices hold what it had done by then */
+    AAT_ENDED = 8,   /* the step or pass broke off where the table has no entry, and the slices hold what it had done by then */
 };
 
 enum aat_verdict {
@@ -71,5 +72,21 @@ uint32_t aat_noncontextual_pass(const uint8_t *table, size_t table_len, size_t s
 /* Goes over the line by the contextual subtable, its head included, that begins at start. */
 uint32_t aat_contextual_pass(const uint8_t *table, size_t table_len, size_t start, uint16_t *glyphs, size_t glyphs_len,
                              const uint16_t *tags, size_t tags_len, const uint16_t *homes, size_t homes_len, size_t used);
+
+/* A step of a machine is what its pass does at one place: index and glyph are those of the place, and ends is not 0 at end of
+   text, where a pass gives the length and glyph 0xFFFF. The state, its numbers in the order named, is 0 each at the start of a
+   pass; the step leaves the new one there. The advance is how many places to go on, and 0 with AAT_ENDED. */
+
+/* One step by the rearrangement subtable, its head included, that begins at start, on a line of so many places. The state is
+   the state table's, the first and the last mark, and the steps in a row that did not advance. window is left to say what
+   aat_verb is to be called with: first and last place, and verb; 0 each where the step makes no edit. */
+uint32_t aat_rearrangement_step(uint64_t state[4], const uint8_t *table, size_t table_len, size_t start, size_t length,
+                                size_t index, uint16_t glyph, uint32_t ends, size_t *advance, uint64_t window[3]);
+
+/* One step by the contextual subtable, its head included, that begins at start; it writes its glyphs into the line. The state
+   is the state table's, whether a mark is set (1 or 0), its place, and the glyph that is remembered for it. */
+uint32_t aat_contextual_step(uint64_t state[4], const uint8_t *table, size_t table_len, size_t start, uint16_t *glyphs,
+                             size_t glyphs_len, const uint16_t *tags, size_t tags_len, const uint16_t *homes,
+                             size_t homes_len, size_t used, size_t index, uint16_t glyph, uint32_t ends, size_t *advance);
 
 #endif

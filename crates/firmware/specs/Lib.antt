@@ -1,2 +1,3 @@
 -- What the exported entries leave in the numbers lent to them.
 pub mod Survey
+pub mod Steps

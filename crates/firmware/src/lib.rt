@@ -15,6 +15,8 @@ ghost use Rattle.noncontextual.specs.NonContextual.{passCall as replacing, call
 ghost use Rattle.contextual.specs.Calls.{passCall as contextual, callLeaves as contextualLeaves};
 ghost use Rattle.firmware.specs.Survey.{surveyAnswer, verdictOf, badRecord};
 
+mod steps;
+
 // Puts the value of a reply where it was lent, and answers with its number.
 fn put_reply(reply: Reply, value: &mut u32) -> u32
     ensures answer { λ r. ⌜ r ≡ numberOf (answerOf reply) ⌝ }

@@ -1,0 +1,2 @@
+-- Laws of the exported entries.
+mod Stepping
