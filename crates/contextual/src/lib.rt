@@ -375,7 +375,14 @@ fn pass_line(
         if !machine::is_done(answer) {
             return answer;
         }
-        state = step.state;
+        let after = step.state;
+        // Field by field: a copy as a whole would wait for the stores that the step has just made.
+        state = ContextualState {
+            state: after.state,
+            mark_set: after.mark_set,
+            mark_index: after.mark_index,
+            mark_id: after.mark_id,
+        };
         place += step.advance;
     }
     let step = state.next(

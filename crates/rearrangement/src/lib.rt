@@ -19,8 +19,8 @@ ghost use Rattle.rearrangement.specs.Rearrangement.{fresh, marked, windo
 
 // The state of a pass: the state table's state, the marked window, and how many steps in a row did not advance.
 pub struct RearrangementState {
-    pub state: u16,
     pub first: usize,
+    pub state: u16,
     pub last: usize,
     pub cycles: u16,
 }
@@ -248,7 +248,15 @@ fn pass_line(
         if !machine::is_done(answer) {
             return answer;
         }
-        state = step.state;
+        let after = step.state;
+        // Field by field, of which no two that are neighbours have one width: a copy as a whole would wait for the stores that the
+        // step has just made.
+        state = RearrangementState {
+            state: after.state,
+            first: after.first,
+            last: after.last,
+            cycles: after.cycles,
+        };
         place += step.advance;
     }
     let step = state.next(bytes, states, used, RearrangementState::END, true);
