@@ -3,7 +3,9 @@
 set -euo pipefail
 
 top=$(cd "$(dirname "${BASH_SOURCE[0]}")/.." && pwd)
+firmware=$top/crates/firmware
 built=$top/target/beside
+target=x86_64-unknown-linux-gnu
 archive=${BESIDE_ARCHIVE:-$top/target/staticlib/libfirmware.a}
 mkdir -p "$built"
 
@@ -56,6 +58,31 @@ find_kit() {
 # Whether a file is missing or older than one of its sources.
 is_stale() { # FILE SOURCE..
     [ ! -e "$1" ] || [ -n "$(find "${@:2}" -newer "$1" -print -quit)" ]
+}
+
+# Copies the crate with the fields of the states, and of what a step hands over, made public.
+open_crate() {
+    local opened='RearrangementState|ContextualState|LigatureState|InsertionState|Rearrange|Array' file
+    for file in aat.rs parse.rs; do
+        sed -E "/^ *pub struct ($opened)\\b/,/\}/ s/^( *)([a-z_]+:)/\\1pub \\2/" "$top/docs/src/$file" >"$built/$file"
+    done
+}
+
+# The entries that a C file names.
+entries_of() { # FILE
+    grep -o 'aat_[a-z_]*(' "$1" | sort -u
+}
+
+compile() { # FILE OBJECT
+    quietly "$tools/toolchain/bin/clang" --target=$target --no-default-config -O2 -Wall -Wextra -Werror -c "$1" -o "$2"
+}
+
+# Stand-ins, never called, for the entries that the box names and aat.h does not declare yet. One that it declares has to be
+# in the archive.
+build_stand_ins() {
+    comm -23 <(entries_of "$firmware/box.c") <(entries_of "$firmware/aat.h") |
+        sed 's/.*/__attribute__((weak)) void &void) { __builtin_trap(); }/' >"$built/stand_ins.c"
+    compile "$built/stand_ins.c" "$built/stand_ins.o"
 }
 
 find_archive() {

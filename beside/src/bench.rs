@@ -1,6 +1,8 @@
 //! Times the proved entries beside the crate: one process, the same tables, glyphs, names and lines, turn by turn.
 
 #[allow(dead_code)]
+mod entries;
+#[allow(dead_code)]
 mod language_tables;
 #[allow(dead_code)]
 mod line;
@@ -13,20 +15,23 @@ mod oracle;
 #[allow(dead_code)]
 mod pass;
 #[allow(dead_code)]
-mod random;
-mod rearrange;
+mod passes_by_crate;
 #[allow(dead_code)]
-mod rearrangement_pass;
+mod random;
+#[allow(dead_code)]
+mod rearrange;
 mod sides;
 #[allow(dead_code)]
 mod state_tables;
 
+use entries::Entry;
 use language_tables::with_tags;
+use line::{Line, LARGEST_ROOM};
 use lookup_tables::{record_size, with_records, with_values, words, Record};
 use morx_tables::{in_chain, machine, subtable};
 use random::Random;
 use rearrange::rearrange;
-use sides::{ours, theirs, Line, PLACES};
+use sides::{ours, theirs};
 use state_tables::{classic, extended};
 use std::process::ExitCode;
 use std::rc::Rc;
@@ -48,7 +53,9 @@ const PARTS: usize = 7;
 const GLYPHS: usize = 50_000;
 const NAMES: usize = 500;
 const VERBS: usize = 100;
-const PASSES: usize = 5;
+
+/// So many places are gone over in a turn, by as many passes as that takes.
+const PLACES: usize = 20_480;
 
 fn main() -> ExitCode {
     println!("time of a call, ours to the crate's: median of {} parts (lowest to highest)", PARTS);
@@ -67,7 +74,12 @@ fn subjects(random: &mut Random) -> Vec<Subject> {
     subjects.extend(classes(random));
     subjects.push(languages(random));
     subjects.extend([1, 3, 5, 6, 13].map(|verb| one_verb(random, verb)));
-    subjects.extend(rearrangement_passes(random));
+    for made in passes(random) {
+        if made.entry.is_declared() {
+            let rooms = [(16, "16"), (256, "256"), (LARGEST_ROOM, "4,096")];
+            subjects.extend(rooms.map(|(room, places)| made.subject(random, room, places)));
+        }
+    }
     subjects
 }
 
@@ -129,35 +141,113 @@ fn languages(random: &mut Random) -> Subject {
 
 /// A verb on the whole line.
 fn one_verb(random: &mut Random, verb: u16) -> Subject {
-    let rearrange = rearrange(verb, 0, PLACES - 1).expect("a verb that moves something");
+    let rearrange = rearrange(verb, 0, LARGEST_ROOM - 1).expect("a verb that moves something");
     let ours = move |line: &mut Line| ours::verb(line, verb);
     let theirs = move |line: &mut Line| theirs::verb(line, &rearrange);
-    Subject::of_line(format!("verb {}, 4,096 places", verb), VERBS, Line::any(random, 65_536), ours, theirs)
+    let line = Line::any(random, LARGEST_ROOM, LARGEST_ROOM, 65_536);
+    Subject::of_line(format!("verb {}, 4,096 places", verb), VERBS, line, false, ours, theirs)
+}
+
+/// A pass whose times are asked for.
+struct Pass {
+    name: &'static str,
+    entry: Entry,
+    table: Vec<u8>,
+}
+
+impl Pass {
+    /// Passes over lines in a room of so many places, which all are used but where glyphs are put in. Where a pass leaves a
+    /// line of another kind behind, each begins with the same line, which both sides have to copy.
+    fn subject(&self, random: &mut Random, room: usize, places: &str) -> Subject {
+        let length = if self.entry == Entry::InsertionPass { room * 2 / 3 } else { room };
+        let line = Line::any(random, length, room, usize::from(CLASSED));
+        let is_fresh = matches!(self.entry, Entry::LigaturePass | Entry::InsertionPass);
+        let (entry, our_table, their_table) = (self.entry, self.table.clone(), in_chain(&self.table));
+        let ours = move |line: &mut Line| ours::pass(entry, line, &our_table);
+        let theirs = move |line: &mut Line| theirs::pass(line, &their_table);
+        Subject::of_line(format!("{}, {} places", self.name, places), PLACES / room, line, is_fresh, ours, theirs)
+    }
+}
+
+/// So many glyphs have a class of their machine's own.
+const CLASSED: u16 = 2_000;
+
+fn passes(random: &mut Random) -> Vec<Pass> {
+    let mut passes = Vec::from(rearrangement_passes(random));
+    passes.extend(noncontextual_passes());
+    passes.extend(contextual_passes(random));
+    passes.push(ligature_pass(random));
+    passes.push(insertion_pass(random));
+    passes
+}
+
+/// A subtable of this kind: a machine of one state with any of the classes 4 to 7 for a glyph, and these entries for its
+/// classes.
+fn one_state(random: &mut Random, kind: u32, format: u16, entries: [&[u16]; 8], more: &[Vec<u8>]) -> Vec<u8> {
+    let classes: Vec<u16> = (0..CLASSED).map(|_| 4 + random.below(4) as u16).collect();
+    let numbers: Vec<u16> = (0..8).collect();
+    let parts = [with_values(format, 0, &classes), words(&numbers), words(&entries.concat())];
+    subtable(kind, &machine(8, &[&parts, more].concat()))
 }
 
 /// Passes that do nothing, and passes that move a few glyphs at one place of four.
-fn rearrangement_passes(random: &mut Random) -> Vec<Subject> {
-    let nothing = [0; 8];
-    let verbs = [0, 0, 0, 0, 0, 0x8000, 0x2003, 0x2000];
-    let classes: Vec<u16> = (0..2_000).map(|_| 4 + random.below(4) as u16).collect();
-    let subject = |(name, format, flags)| rearrangement_pass(random, name, with_values(format, 0, &classes), flags);
+fn rearrangement_passes(random: &mut Random) -> [Pass; 3] {
+    let none: &[u16] = &[0, 0];
+    let verbs: [&[u16]; 8] = [none, none, none, none, none, &[0, 0x8000], &[0, 0x2003], &[0, 0x2000]];
     let passes = [
-        ("rearrangement pass, format 8, no verbs", 8, nothing),
-        ("rearrangement pass, format 8, verbs", 8, verbs),
-        ("rearrangement pass, format 6, verbs", 6, verbs),
+        ("rearrangement, format 8, no verbs", 8, [none; 8]),
+        ("rearrangement, format 8, verbs", 8, verbs),
+        ("rearrangement, format 6, verbs", 6, verbs),
     ];
-    passes.into_iter().map(subject).collect()
+    passes.map(|(name, format, entries)| {
+        let table = one_state(random, 0, format, entries, &[]);
+        Pass { name, entry: Entry::RearrangementPass, table }
+    })
 }
 
-/// Passes over the whole line by a machine of one state, with these flags for its classes.
-fn rearrangement_pass(random: &mut Random, name: &str, class_table: Vec<u8>, flags: [u16; 8]) -> Subject {
-    let numbers: Vec<u16> = (0..8).collect();
-    let entries: Vec<u16> = flags.iter().flat_map(|flags| [0, *flags]).collect();
-    let our_table = subtable(0, &machine(8, &[class_table, words(&numbers), words(&entries)]));
-    let their_table = in_chain(&our_table);
-    let ours = move |line: &mut Line| ours::rearrangement_pass(line, &our_table);
-    let theirs = move |line: &mut Line| theirs::rearrangement_pass(line, &their_table);
-    Subject::of_line(name.into(), PASSES, Line::any(random, 2_000), ours, theirs)
+/// Every glyph's neighbour: 0 becomes 1 and 1 becomes 0, and so on.
+fn neighbours(format: u16) -> Vec<u8> {
+    let values: Vec<u16> = (0..CLASSED).map(|glyph| glyph ^ 1).collect();
+    with_values(format, 0, &values)
+}
+
+fn noncontextual_passes() -> [Pass; 2] {
+    [("non-contextual, format 8", 8), ("non-contextual, format 6", 6)].map(|(name, format)| {
+        let table = subtable(4, &neighbours(format));
+        Pass { name, entry: Entry::NoncontextualPass, table }
+    })
+}
+
+/// Passes that do nothing, and passes that mark one glyph of four, and change one and the marked one at two others.
+fn contextual_passes(random: &mut Random) -> [Pass; 2] {
+    let none: &[u16] = &[0, 0, 0xFFFF, 0xFFFF];
+    let changes: [&[u16]; 8] =
+        [none, none, none, none, none, &[0, 0x8000, 0xFFFF, 0xFFFF], &[0, 0, 0xFFFF, 0], &[0, 0, 0, 0xFFFF]];
+    let passes = [("contextual, format 8, no changes", [none; 8]), ("contextual, format 8, changes", changes)];
+    passes.map(|(name, entries)| {
+        let substitutions = [words(&[0, 4]), neighbours(8)].concat();
+        let table = one_state(random, 1, 8, entries, &[substitutions]);
+        Pass { name, entry: Entry::ContextualPass, table }
+    })
+}
+
+/// Two glyphs of four are pushed, of which one makes a ligature of two, and one of four empties the stack.
+fn ligature_pass(random: &mut Random) -> Pass {
+    let none: &[u16] = &[0, 0, 0];
+    let entries: [&[u16]; 8] = [none, none, none, none, none, &[0, 0x8000, 0], &[0, 0xA000, 0], &[0, 0x2000, 2]];
+    let actions = [[0, 0], [0x8000, 0], [0; 2]].concat();
+    let actions = [actions, vec![0; 2 * 40]].concat();
+    let lists = [words(&actions), words(&[0; CLASSED as usize]), words(&[7; 8])];
+    Pass { name: "ligature, format 8", entry: Entry::LigaturePass, table: one_state(random, 2, 8, entries, &lists) }
+}
+
+/// A glyph is put in behind one glyph of four, and one of four is marked.
+fn insertion_pass(random: &mut Random) -> Pass {
+    let none: &[u16] = &[0, 0, 0xFFFF, 0xFFFF];
+    let entries: [&[u16]; 8] =
+        [none, none, none, none, none, &[0, 0x8000, 0xFFFF, 0xFFFF], &[0, 1 << 5, 0, 0xFFFF], none];
+    let table = one_state(random, 5, 8, entries, &[words(&[7; 8])]);
+    Pass { name: "insertion, format 8", entry: Entry::InsertionPass, table }
 }
 
 impl Subject {
@@ -174,26 +264,30 @@ impl Subject {
         Subject { name: name.into(), calls, ours: turn(asked.clone(), ours), theirs: turn(asked, theirs) }
     }
 
-    /// So many calls on one line, again and again; both sides begin with the same line.
+    /// So many calls on one line, again and again, or each on a fresh copy of it; both sides begin with the same line.
     fn of_line(
         name: String,
         calls: usize,
         line: Line,
+        is_fresh: bool,
         ours: impl Fn(&mut Line) + 'static,
         theirs: impl Fn(&mut Line) + 'static,
     ) -> Self {
-        Subject {
-            name,
-            calls,
-            ours: turn_on_line(calls, line.clone(), ours),
-            theirs: turn_on_line(calls, line, theirs),
-        }
+        let [ours, theirs] =
+            [turn_on_line(calls, line.clone(), is_fresh, ours), turn_on_line(calls, line, is_fresh, theirs)];
+        Subject { name, calls, ours, theirs }
     }
 }
 
-fn turn_on_line(calls: usize, mut line: Line, call: impl Fn(&mut Line) + 'static) -> Turn {
+fn turn_on_line(calls: usize, first: Line, is_fresh: bool, call: impl Fn(&mut Line) + 'static) -> Turn {
+    let mut line = first.clone();
     Box::new(move || {
-        (0..calls).for_each(|_| call(&mut line));
+        for _ in 0..calls {
+            if is_fresh {
+                line.clone_from(&first);
+            }
+            call(&mut line);
+        }
         line.glance()
     })
 }
@@ -212,7 +306,7 @@ fn measure(mut subject: Subject) -> bool {
     parts.sort_by(|one, other| one.ratio().total_cmp(&other.ratio()));
     let [lowest, middle, highest] = [0, PARTS / 2, PARTS - 1].map(|part| &parts[part]);
     println!(
-        "{:42} {:.2} ({:.2} to {:.2}): {:.1} ns to {:.1} ns",
+        "{:48} {:.2} ({:.2} to {:.2}): {:.1} ns to {:.1} ns",
         subject.name,
         middle.ratio(),
         lowest.ratio(),
@@ -225,13 +319,13 @@ fn measure(mut subject: Subject) -> bool {
 
 /// Prints how long verb 0 takes, which tests the line and moves nothing; the crate has nothing like it.
 fn measure_line_test(random: &mut Random) {
-    let mut line = Line::any(random, 65_536);
+    let mut line = Line::any(random, LARGEST_ROOM, LARGEST_ROOM, 65_536);
     let mut turn: Turn = Box::new(move || {
         (0..VERBS).for_each(|_| ours::verb(&mut line, 0));
         0
     });
     let times = (0..PARTS * TURNS).map(|_| time(&mut turn, VERBS).0);
-    println!("{:42} {:.1} ns", "the test of a line (verb 0), 4,096 places", median(times));
+    println!("{:48} {:.1} ns", "the test of a line (verb 0), 4,096 places", median(times));
 }
 
 /// The median times of some turns of both sides.

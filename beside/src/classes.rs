@@ -1,12 +1,13 @@
 //! The classes of the two state tables beside the crate.
 
-use crate::compare::{Ask, Question};
+use crate::compare::Ask;
+use crate::entries::Entry;
 use crate::lookup_tables::{record_size, with_records, words, Record};
 use crate::oracle::{self, Answer, Fault, LONGEST_TABLE};
 use crate::random::Random;
-use crate::reply::{describe_value, reply_value};
 use crate::state_tables::{any_classic, any_extended, classic, extended, extended_head, CLASSIC_HEAD, EXTENDED_HEAD};
 use crate::strings::for_each_string;
+use crate::value::{Asked, Value};
 use std::rc::Rc;
 
 /// The two kinds of state table.
@@ -18,57 +19,38 @@ enum Kind {
 
 use Kind::{Classic, Extended};
 
-/// A call of `aat_class_extended` or `aat_class_classic`.
+/// The class of a glyph.
 struct Class {
     kind: Kind,
-    start: u64,
     glyph: u16,
-    /// The answer that document 01 gives, for examples made from its sentences.
-    written: Option<Answer<u16>>,
 }
 
-impl Class {
-    fn answer(&self, table: &[u8]) -> Result<Answer<u16>, Fault> {
-        let answer = match self.kind {
-            Extended => oracle::class_extended(table, self.start, self.glyph)?,
-            Classic => oracle::class_classic(table, self.start, self.glyph)?,
-        };
-        match self.written {
-            Some(written) if written != answer => Err(Fault::Disputed),
-            _ => Ok(answer),
-        }
-    }
-}
-
-impl Question for Class {
-    fn entry(&self) -> u8 {
+impl Asked for Class {
+    fn entry(&self) -> Entry {
         match self.kind {
-            Extended => 3,
-            Classic => 4,
+            Extended => Entry::ClassExtended,
+            Classic => Entry::ClassClassic,
         }
     }
 
-    fn arguments(&self, held: u64, call: &mut Vec<u8>) {
-        call.extend(self.start.to_le_bytes());
+    fn tell(&self, call: &mut Vec<u8>) {
         call.extend(self.glyph.to_le_bytes());
-        call.extend((held as u32).to_le_bytes());
     }
 
-    fn reply(&self, table: &[u8], held: u64, reply: &mut Vec<u8>) -> Result<(), Fault> {
-        reply_value(self.answer(table)?, held, reply);
-        Ok(())
+    fn answers(&self, table: &[u8], start: u64) -> Result<(Answer<u32>, Option<Answer<u32>>), Fault> {
+        let answer = match self.kind {
+            Extended => oracle::class_extended(table, start, self.glyph)?,
+            Classic => oracle::class_classic(table, start, self.glyph)?,
+        };
+        Ok((answer.map(u32::from), None))
     }
 
-    fn describe(&self, held: u64) -> String {
+    fn describe(&self) -> String {
         let kind = match self.kind {
             Extended => "extended",
             Classic => "classic",
         };
-        format!("{} class at start {}, glyph {}, lent value {}", kind, self.start, self.glyph, held as u32)
-    }
-
-    fn describe_reply(&self, reply: &[u8]) -> String {
-        describe_value(reply)
+        format!("{} class of glyph {}", kind, self.glyph)
     }
 }
 
@@ -88,7 +70,7 @@ pub fn ask_all(asked: &mut dyn Ask, random: &mut Random, cases: u64) {
 
 fn ask_glyphs(asked: &mut dyn Ask, kind: Kind, table: &Rc<[u8]>, start: usize, glyphs: impl IntoIterator<Item = u16>) {
     for glyph in glyphs {
-        asked.ask(table, Box::new(Class { kind, start: start as u64, glyph, written: None }));
+        asked.ask(table, Box::new(Value { start: start as u64, asked: Class { kind, glyph }, written: None }));
     }
 }
 
@@ -126,7 +108,7 @@ fn examples(asked: &mut dyn Ask) {
     let array = classic(5, 2, &[7, 9]);
     let no_classes = [&words(&[0, 8, 8, 0, 5, 1])[..], &[7]].concat();
     let states_past_end = [&words(&[4, 8, 14, 0, 5, 1])[..], &[7]].concat();
-    let written: [(Kind, &[u8], u16, Answer<u16>); 18] = [
+    let written: [(Kind, &[u8], u16, Answer<u32>); 18] = [
         (Extended, &trimmed, 5, Done(7)),
         (Extended, &trimmed, 6, Done(9)),
         (Extended, &trimmed, 4, Done(1)),
@@ -147,7 +129,7 @@ fn examples(asked: &mut dyn Ask) {
         (Classic, &array[..array.len() - 1], 0xFFFF, Head),
     ];
     for (kind, table, glyph, answer) in written {
-        asked.ask(&Rc::from(table), Box::new(Class { kind, start: 0, glyph, written: Some(answer) }));
+        asked.ask(&Rc::from(table), Box::new(Value { start: 0, asked: Class { kind, glyph }, written: Some(answer) }));
     }
 }
 

@@ -1,5 +1,6 @@
 //! Questions to both sides, their answers compared, and what is said of a difference.
 
+use crate::entries::Entry;
 use crate::oracle::Fault;
 use crate::pipe::{lend_table, TheBox};
 use crate::progress::Progress;
@@ -10,8 +11,8 @@ use std::rc::Rc;
 /// `held` is a number that changes from question to question. A question lends parts of it where
 /// the entry may write, so that what a call left alone can be told from what it wrote.
 pub trait Question {
-    /// The entry's number on the pipe and in the sample.
-    fn entry(&self) -> u8;
+    /// The entry that is called.
+    fn entry(&self) -> Entry;
     /// Adds the call's arguments.
     fn arguments(&self, held: u64, call: &mut Vec<u8>);
     /// Adds the reply that the crate's answer asks for.
@@ -24,6 +25,10 @@ pub trait Question {
     fn describe(&self, held: u64) -> String;
     /// A reply to it in words.
     fn describe_reply(&self, reply: &[u8]) -> String;
+    /// What the crate does, step by step, where there are steps.
+    fn trace(&self, _table: &[u8]) -> Vec<String> {
+        Vec::new()
+    }
 }
 
 /// Whoever the questions are put to.
@@ -60,6 +65,7 @@ pub struct Totals {
 pub struct Comparison {
     the_box: TheBox,
     progress: Progress,
+    traces: bool,
     totals: Totals,
     lent: Option<Rc<[u8]>>,
     calls: Vec<u8>,
@@ -94,11 +100,12 @@ impl Ask for Comparison {
 }
 
 impl Comparison {
-    /// A comparison with this box.
-    pub fn new(the_box: TheBox, progress: Progress) -> Self {
+    /// A comparison with this box, which shows the steps of cases that differ or does not.
+    pub fn new(the_box: TheBox, progress: Progress, traces: bool) -> Self {
         Comparison {
             the_box,
             progress,
+            traces,
             totals: Totals::default(),
             lent: None,
             calls: Vec::new(),
@@ -122,7 +129,7 @@ impl Comparison {
             lend_table(table, &mut self.calls);
             self.lent = Some(table.clone());
         }
-        self.calls.push(question.entry());
+        self.calls.push(question.entry() as u8);
         question.arguments(held, &mut self.calls);
         self.waiting.push(Waiting { table: table.clone(), question, held, reply_ends: self.expected.len() });
     }
@@ -154,7 +161,7 @@ impl Comparison {
             }
             self.totals.differences += 1;
             if self.totals.differences <= DIFFERENCES_SHOWN {
-                print_case(&asked.table, &*asked.question, asked.held);
+                self.print_case(&asked.table, &*asked.question, asked.held);
                 println!("  right: {}", asked.question.describe_reply(right));
                 println!("  box:   {}", asked.question.describe_reply(given));
             }
@@ -165,17 +172,20 @@ impl Comparison {
         self.totals.differences += 1;
         self.totals.panics += u64::from(fault.is_panic());
         if self.totals.differences <= DIFFERENCES_SHOWN {
-            print_case(table, question, held);
+            self.print_case(table, question, held);
             println!("  {}", fault.describe());
         }
     }
-}
 
-fn print_case(table: &[u8], question: &dyn Question, held: u64) {
-    println!("difference: {}", question.describe(held));
-    let shown = &table[..table.len().min(BYTES_SHOWN)];
-    let more = if shown.len() < table.len() { ".." } else { "" };
-    println!("  table of {} bytes: {}{}", table.len(), hex(shown), more);
+    fn print_case(&self, table: &[u8], question: &dyn Question, held: u64) {
+        println!("difference: {}", question.describe(held));
+        let shown = &table[..table.len().min(BYTES_SHOWN)];
+        let more = if shown.len() < table.len() { ".." } else { "" };
+        println!("  table of {} bytes: {}{}", table.len(), hex(shown), more);
+        if self.traces {
+            question.trace(table).iter().for_each(|step| println!("    {}", step));
+        }
+    }
 }
 
 fn hex(bytes: &[u8]) -> String {

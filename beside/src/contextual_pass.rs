@@ -1,11 +1,12 @@
-//! The contextual pass by the crate's machine, and bodies of its subtables.
+//! The contextual kind: bodies of its subtables.
 
+use crate::entries::Entry;
+use crate::line::DELETED;
 use crate::lookup_tables::{record_size, with_records, with_values, words, Record};
-use crate::morx_tables::{any_machine, machine, small_machine};
+use crate::morx_tables::{any_machine, machine, small_machine, Placed};
 use crate::noncontextual_pass;
-use crate::oracle::aat::morx::{Contextual, ContextualState, SubtableKind};
 use crate::oracle::Answer;
-use crate::pass::{make_steps, Example, Kind, Places, DELETED};
+use crate::pass::{Example, Kind};
 use crate::random::Random;
 use std::ops::Range;
 
@@ -13,14 +14,11 @@ use std::ops::Range;
 pub const KIND: Kind = Kind {
     name: "contextual",
     number: 1,
-    entry: 10,
-    pass: |subtable, places| match subtable {
-        SubtableKind::Contextual(machine) => Some(pass(machine, places)),
-        _ => None,
-    },
+    pass: Entry::ContextualPass,
     examples,
     short_bodies,
     any_body,
+    limits: |_| {},
 };
 
 const SET_MARK: u16 = 0x8000;
@@ -28,20 +26,6 @@ const STAY: u16 = 0x4000;
 
 /// No lookup for the marked or the current glyph.
 const NONE: u16 = 0xFFFF;
-
-/// The pass, each glyph written as it is handed over; a place not in the line is skipped.
-fn pass(machine: &Contextual, places: &mut Places) -> Answer<()> {
-    let mut state = ContextualState::new();
-    make_steps(places, |places, place, glyph, is_end| {
-        let write = |at: usize, glyph| {
-            if let Some(there) = places.glyphs.get_mut(at) {
-                *there = glyph;
-            }
-            Some(())
-        };
-        machine.next(&mut state, place, glyph, is_end, write).map(|()| 1)
-    })
-}
 
 /// The lookups behind the list of their offsets.
 fn substitutions(lookups: &[Vec<u8>]) -> Vec<u8> {
@@ -56,7 +40,7 @@ fn substitutions(lookups: &[Vec<u8>]) -> Vec<u8> {
 
 /// A body that does nothing but by these entries, over the classes 4 and 5 of the glyphs 10 and 11; it has a lookup to the
 /// next glyph, which turns a deleted one into 13, and one that deletes 10 and turns 11 into 10.
-fn small_body(entries: &[(u16, u16, &[u16])]) -> Vec<u8> {
+fn small_body(entries: &[Placed]) -> Vec<u8> {
     let single = |(glyph, value)| Record { first: glyph, last: glyph, value };
     let records = [(10, 11), (11, 12), (DELETED, 13)].map(single);
     let lookups = [with_records(6, record_size(6), 3, &records), with_values(8, 10, &[DELETED, 10])];
@@ -90,9 +74,9 @@ fn counts_up() -> Vec<u8> {
 /// manual part.
 fn examples() -> Vec<Example> {
     use Answer::{Done, Ended};
-    let mark: (u16, u16, &[u16]) = (0, 4, &[0, SET_MARK, NONE, NONE]);
-    let marked_at_end: (u16, u16, &[u16]) = (0, 0, &[0, 0, 0, 0]);
-    let astray: (u16, u16, &[u16]) = (0, 5, &[9_000, 0, 0, 0]);
+    let mark: Placed = (0, 4, &[0, SET_MARK, NONE, NONE]);
+    let marked_at_end: Placed = (0, 0, &[0, 0, 0, 0]);
+    let astray: Placed = (0, 5, &[9_000, 0, 0, 0]);
     vec![
         Example::new(class_past_the_last(), &[5], &[9], Done(())),
         Example::new(marked_glyph_is_kept(), &[5, 6, 7], &[9, 6, 7], Done(())),

@@ -1,61 +1,41 @@
 //! `language_index` beside the crate where a name is UTF-8, and beside the plain rule for every name.
 
-use crate::compare::{Ask, Question};
+use crate::compare::Ask;
+use crate::entries::Entry;
 use crate::language_tables::{any_ltag, any_tag, with_ranges, with_tags, Range, HEAD};
 use crate::ltag;
 use crate::oracle::{self, Answer, Fault, LONGEST_TABLE};
 use crate::pipe::lend_bytes;
 use crate::random::Random;
-use crate::reply::{describe_value, reply_value};
 use crate::strings::for_each_string;
+use crate::value::{Asked, Value};
 use std::rc::Rc;
 
-/// A call of `aat_language_index`.
+/// The index of a name.
 struct Language {
-    start: u64,
     name: Rc<[u8]>,
-    /// The answer that a document gives, for its own examples.
-    written: Option<Answer<u32>>,
 }
 
-impl Language {
-    fn answer(&self, table: &[u8]) -> Result<Answer<u32>, Fault> {
-        let plain = ltag::language_index(table, self.start, &self.name);
-        let given = match std::str::from_utf8(&self.name) {
-            Ok(name) => Some(oracle::language_index(table, self.start, name)?),
+impl Asked for Language {
+    fn entry(&self) -> Entry {
+        Entry::LanguageIndex
+    }
+
+    fn tell(&self, call: &mut Vec<u8>) {
+        lend_bytes(&self.name, call);
+    }
+
+    fn answers(&self, table: &[u8], start: u64) -> Result<(Answer<u32>, Option<Answer<u32>>), Fault> {
+        let by_crate = match std::str::from_utf8(&self.name) {
+            Ok(name) => Some(oracle::language_index(table, start, name)?),
             Err(_) => None,
         };
-        if [self.written, given].iter().flatten().any(|other| *other != plain) {
-            return Err(Fault::Disputed);
-        }
-        Ok(plain)
-    }
-}
-
-impl Question for Language {
-    fn entry(&self) -> u8 {
-        5
+        Ok((ltag::language_index(table, start, &self.name), by_crate))
     }
 
-    fn arguments(&self, held: u64, call: &mut Vec<u8>) {
-        call.extend(self.start.to_le_bytes());
-        lend_bytes(&self.name, call);
-        call.extend((held as u32).to_le_bytes());
-    }
-
-    fn reply(&self, table: &[u8], held: u64, reply: &mut Vec<u8>) -> Result<(), Fault> {
-        reply_value(self.answer(table)?, held, reply);
-        Ok(())
-    }
-
-    fn describe(&self, held: u64) -> String {
+    fn describe(&self) -> String {
         let shown = String::from_utf8_lossy(&self.name[..self.name.len().min(100)]);
-        let length = self.name.len();
-        format!("index at start {}, name {:?} of {} bytes, lent value {}", self.start, shown, length, held as u32)
-    }
-
-    fn describe_reply(&self, reply: &[u8]) -> String {
-        describe_value(reply)
+        format!("index of name {:?} of {} bytes", shown, self.name.len())
     }
 }
 
@@ -73,7 +53,7 @@ pub fn ask_all(asked: &mut dyn Ask, random: &mut Random, cases: u64) {
 
 fn ask_names<'a>(asked: &mut dyn Ask, table: &Rc<[u8]>, start: u64, names: impl IntoIterator<Item = &'a [u8]>) {
     for name in names {
-        asked.ask(table, Box::new(Language { start, name: Rc::from(name), written: None }));
+        asked.ask(table, Box::new(Value { start, asked: Language { name: Rc::from(name) }, written: None }));
     }
 }
 
@@ -100,7 +80,8 @@ fn examples(asked: &mut dyn Ask) {
         (&bad_between, b"fr", Nothing),
     ];
     for (table, name, answer) in written {
-        asked.ask(&Rc::from(table), Box::new(Language { start: 0, name: Rc::from(name), written: Some(answer) }));
+        let asked_name = Language { name: Rc::from(name) };
+        asked.ask(&Rc::from(table), Box::new(Value { start: 0, asked: asked_name, written: Some(answer) }));
     }
 }
 

@@ -39,6 +39,12 @@ impl Line {
         let (tags, rest) = rest.split_at(self.tags.len());
         format!("answer {}, {}", number(&reply[..4]), describe_slices([glyphs, tags, &rest[..self.homes.len()]]))
     }
+
+    /// The same with the used length, which the reply ends with.
+    pub fn describe_reply_with_used(&self, reply: &[u8]) -> String {
+        let used = number(&reply[reply.len() - 8..]);
+        format!("used length {}, {}", used, self.describe_reply(reply))
+    }
 }
 
 fn describe_slices(slices: [&[u16]; 3]) -> String {

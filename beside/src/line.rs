@@ -1,13 +1,16 @@
-//! Document 01's line: when it is refused, a fresh one, and its verbs as they are drawn; written from the document
-//! alone.
+//! Document 01's line: when it is refused, a fresh one, its edits, and its verbs as they are drawn; written from the
+//! document alone.
 
 use crate::oracle::Answer;
 
 /// The largest room that is not refused.
 pub const LARGEST_ROOM: usize = 4_096;
 
+/// A glyph that is deleted, and the one that the last step of a pass is told.
+pub const DELETED: u16 = 0xFFFF;
+
 /// A line as it is lent.
-#[derive(Clone, PartialEq)]
+#[derive(PartialEq)]
 pub struct Line {
     pub glyphs: Vec<u16>,
     pub tags: Vec<u16>,
@@ -15,7 +18,26 @@ pub struct Line {
     pub used: u64,
 }
 
+impl Clone for Line {
+    fn clone(&self) -> Self {
+        Line { glyphs: self.glyphs.clone(), tags: self.tags.clone(), homes: self.homes.clone(), used: self.used }
+    }
+
+    /// Takes no new memory where the parts are as long as those copied.
+    fn clone_from(&mut self, other: &Self) {
+        self.glyphs.clone_from(&other.glyphs);
+        self.tags.clone_from(&other.tags);
+        self.homes.clone_from(&other.homes);
+        self.used = other.used;
+    }
+}
+
 impl Line {
+    /// A line of no places.
+    pub fn none() -> Self {
+        Line { glyphs: Vec::new(), tags: Vec::new(), homes: Vec::new(), used: 0 }
+    }
+
     /// Whether these are the glyphs, tags and homes of a line.
     pub fn is_line(&self) -> bool {
         let room = self.glyphs.len();
@@ -31,6 +53,71 @@ impl Line {
 
     fn are_homes_in_line(&self) -> bool {
         self.homes.len() as u64 <= self.used && self.homes.iter().all(|home| u64::from(*home) < self.used)
+    }
+}
+
+/// The edits of a line.
+impl Line {
+    /// The used length.
+    pub fn length(&self) -> usize {
+        self.used as usize
+    }
+
+    /// Writes a glyph; at a place not in the line, nothing.
+    pub fn write(&mut self, place: usize, glyph: u16) {
+        if place < self.length() {
+            self.glyphs[place] = glyph;
+        }
+    }
+
+    /// The verb of this number modulo 16 on a window that does not start above the length; its end is cut to the line.
+    pub fn rearrange(&mut self, first: usize, last: usize, verb: u16) {
+        let behind = self.length().min(last.saturating_add(1));
+        for part in [&mut self.glyphs, &mut self.tags] {
+            let window = &mut part[first..behind];
+            window.copy_from_slice(&rearranged(window, verb));
+        }
+    }
+
+    /// Writes a ligature and deletes its other components, whose characters go to it; at a place not in the line, nothing.
+    pub fn ligate(&mut self, place: usize, ligature: u16, components: &[usize]) {
+        if place >= self.length() {
+            return;
+        }
+        self.glyphs[place] = ligature;
+        let tag = self.tags[place];
+        for component in components {
+            if *component != place && *component < self.length() {
+                self.glyphs[*component] = DELETED;
+                let gone = self.tags[*component];
+                self.homes.iter_mut().filter(|home| **home == gone).for_each(|home| *home = tag);
+            }
+        }
+    }
+
+    /// Puts so many glyphs in with new tags; none, and false, where the room is too small. A place above the length is the
+    /// length.
+    pub fn insert(&mut self, place: usize, count: usize, glyphs: impl Iterator<Item = u16>) -> bool {
+        let length = self.length();
+        if length + count > self.glyphs.len() {
+            return false;
+        }
+        let place = place.min(length);
+        self.glyphs.copy_within(place..length, place + count);
+        self.tags.copy_within(place..length, place + count);
+        for (more, glyph) in glyphs.enumerate() {
+            self.glyphs[place + more] = glyph;
+            self.tags[place + more] = (length + more) as u16;
+        }
+        self.used += count as u64;
+        true
+    }
+
+    /// Turns the line round.
+    pub fn reverse(&mut self) {
+        let length = self.length();
+        self.glyphs[..length].reverse();
+        self.tags[..length].reverse();
     }
 }
 
@@ -58,11 +145,7 @@ pub fn lone_verb(lent: &Line, verb: u16, start: u64, end: u64) -> (Answer<()>, L
     if start > end || start > line.used {
         return (Answer::Place, line);
     }
-    let behind = line.used.min(end.saturating_add(1));
-    for part in [&mut line.glyphs, &mut line.tags] {
-        let window = &mut part[start as usize..behind as usize];
-        window.copy_from_slice(&rearranged(window, verb));
-    }
+    line.rearrange(start as usize, end as usize, verb);
     (Answer::Done(()), line)
 }
 

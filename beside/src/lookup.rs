@@ -1,61 +1,41 @@
 //! `lookup` beside the crate, and the survey beside document 01.
 
 use crate::compare::{Ask, Question};
+use crate::entries::Entry;
 use crate::lookup_tables::{record_size, with_records, words, Made, Record};
 use crate::oracle::{self, Answer, Fault, LONGEST_TABLE};
 use crate::random::Random;
-use crate::reply::{describe_value, number, reply_value};
+use crate::reply::number;
 use crate::strings::for_each_string;
 use crate::survey::{plain_look, survey, Verdict};
+use crate::value::{Asked, Value};
 use std::rc::Rc;
 
-/// A call of `aat_lookup`.
+/// The element of a glyph.
 struct Lookup {
-    start: u64,
     glyph: u16,
-    /// The answer that a document gives, for its own examples.
-    written: Option<Answer<u16>>,
 }
 
-impl Lookup {
-    fn answer(&self, table: &[u8]) -> Result<Answer<u16>, Fault> {
-        let answer = oracle::lookup(table, self.start, self.glyph)?;
-        let others = [self.written, plain_look(table, self.start, self.glyph)];
-        if others.iter().flatten().any(|other| *other != answer) {
-            return Err(Fault::Disputed);
-        }
-        Ok(answer)
-    }
-}
-
-impl Question for Lookup {
-    fn entry(&self) -> u8 {
-        1
+impl Asked for Lookup {
+    fn entry(&self) -> Entry {
+        Entry::Lookup
     }
 
-    fn arguments(&self, held: u64, call: &mut Vec<u8>) {
-        call.extend(self.start.to_le_bytes());
+    fn tell(&self, call: &mut Vec<u8>) {
         call.extend(self.glyph.to_le_bytes());
-        call.extend((held as u32).to_le_bytes());
     }
 
-    fn reply(&self, table: &[u8], held: u64, reply: &mut Vec<u8>) -> Result<(), Fault> {
-        reply_value(self.answer(table)?, held, reply);
-        Ok(())
+    fn answers(&self, table: &[u8], start: u64) -> Result<(Answer<u32>, Option<Answer<u32>>), Fault> {
+        let plain = plain_look(table, start, self.glyph).map(|answer| answer.map(u32::from));
+        Ok((oracle::lookup(table, start, self.glyph)?.map(u32::from), plain))
     }
 
-    fn sample(&self, table: &[u8], sample: &mut Vec<u8>) -> Result<(), Fault> {
-        let answer = self.answer(table)?;
-        sample_case(sample, self.start, self.glyph, answer.number(), [answer.done().unwrap_or(0), 0]);
-        Ok(())
+    fn describe(&self) -> String {
+        format!("lookup of glyph {}", self.glyph)
     }
 
-    fn describe(&self, held: u64) -> String {
-        format!("lookup at start {}, glyph {}, lent value {}", self.start, self.glyph, held as u32)
-    }
-
-    fn describe_reply(&self, reply: &[u8]) -> String {
-        describe_value(reply)
+    fn sample(&self, start: u64, answer: Answer<u32>, sample: &mut Vec<u8>) {
+        sample_case(sample, start, self.glyph, answer.number(), [answer.done().unwrap_or(0) as u16, 0]);
     }
 }
 
@@ -65,8 +45,8 @@ struct Survey {
 }
 
 impl Question for Survey {
-    fn entry(&self) -> u8 {
-        2
+    fn entry(&self) -> Entry {
+        Entry::Survey
     }
 
     fn arguments(&self, held: u64, call: &mut Vec<u8>) {
@@ -140,7 +120,7 @@ pub fn ask_sample(asked: &mut dyn Ask, random: &mut Random) {
 fn ask_glyphs(asked: &mut dyn Ask, table: &Rc<[u8]>, start: u64, glyphs: impl IntoIterator<Item = u16>) {
     asked.ask(table, Box::new(Survey { start }));
     for glyph in glyphs {
-        asked.ask(table, Box::new(Lookup { start, glyph, written: None }));
+        asked.ask(table, Box::new(Value { start, asked: Lookup { glyph }, written: None }));
     }
 }
 
@@ -153,7 +133,7 @@ fn examples(asked: &mut dyn Ask) {
     let counted_sentinel = [6, 4, 1, 4, 0, 0, 0xFFFF, 0];
     let open_ended = [0, 1, 2, 0x1234];
     let unsorted = [6, 4, 2, 8, 1, 0, 6, 90, 5, 70];
-    let written: [(&[u16], u16, Answer<u16>); 12] = [
+    let written: [(&[u16], u16, Answer<u32>); 12] = [
         (&trimmed, 5, Done(7)),
         (&trimmed, 6, Done(9)),
         (&trimmed, 4, Nothing),
@@ -169,7 +149,7 @@ fn examples(asked: &mut dyn Ask) {
     ];
     for (numbers, glyph, answer) in written {
         let table = Rc::from(words(numbers));
-        asked.ask(&table, Box::new(Lookup { start: 0, glyph, written: Some(answer) }));
+        asked.ask(&table, Box::new(Value { start: 0, asked: Lookup { glyph }, written: Some(answer) }));
         asked.ask(&table, Box::new(Survey { start: 0 }));
     }
 }

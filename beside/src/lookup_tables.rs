@@ -25,6 +25,11 @@ pub fn words(numbers: &[u16]) -> Vec<u8> {
     numbers.iter().flat_map(|number| number.to_be_bytes()).collect()
 }
 
+/// The numbers of 16 bits that these bytes are.
+pub fn numbers(bytes: &[u8]) -> impl Iterator<Item = u16> + '_ {
+    bytes.chunks_exact(2).map(|number| u16::from_be_bytes([number[0], number[1]]))
+}
+
 /// How many bytes a record of format 2, 4 or 6 has.
 pub fn record_size(format: u16) -> u16 {
     match format {

@@ -3,9 +3,12 @@
 mod classes;
 mod compare;
 mod contextual_pass;
+mod entries;
+mod insertion_pass;
 mod language;
 mod language_tables;
 mod lent_line;
+mod ligature_pass;
 mod limit;
 mod line;
 mod lookup;
@@ -13,19 +16,28 @@ mod lookup_tables;
 mod ltag;
 mod morx_tables;
 mod noncontextual_pass;
+mod opened;
 mod oracle;
 mod pass;
 mod passes;
+mod passes_by_crate;
 mod pipe;
 mod progress;
 mod random;
 mod rearrange;
 mod rearrangement_pass;
 mod reply;
+mod run;
+mod runs;
 mod sample;
 mod state_tables;
+mod step;
+mod steps;
+mod steps_by_copy;
 mod strings;
 mod survey;
+mod trace;
+mod value;
 mod verbs;
 
 use compare::{Ask, Comparison, Count};
@@ -36,16 +48,18 @@ use random::Random;
 use sample::Sample;
 use std::process::ExitCode;
 
-const USAGE: &str = "usage: beside compare CASES SEED SECONDS BOX-COMMAND.. | beside sample FILE";
+const USAGE: &str = "usage: beside compare|trace CASES SEED SECONDS BOX-COMMAND.. | beside sample FILE";
 
 fn main() -> ExitCode {
     oracle::quiet_crate();
     let words: Vec<String> = std::env::args().skip(1).collect();
     match words.iter().map(String::as_str).collect::<Vec<_>>()[..] {
-        ["compare", cases, seed, seconds, _, ..] => match (cases.parse(), seed.parse(), seconds.parse()) {
-            (Ok(cases), Ok(seed), Ok(seconds)) => compare(cases, seed, seconds, &words[4..]),
-            _ => failed(USAGE),
-        },
+        [mode @ ("compare" | "trace"), cases, seed, seconds, _, ..] => {
+            match (cases.parse(), seed.parse(), seconds.parse()) {
+                (Ok(cases), Ok(seed), Ok(seconds)) => compare(mode == "trace", cases, seed, seconds, &words[4..]),
+                _ => failed(USAGE),
+            }
+        }
         ["sample", file] => sample(file),
         _ => failed(USAGE),
     }
@@ -60,18 +74,31 @@ fn ask_all(asked: &mut dyn Ask, cases: u64, seed: u64, seconds: u64) -> u64 {
     classes::ask_all(asked.part(), random, cases);
     language::ask_all(asked.part(), random, cases / 2);
     verbs::ask_all(asked.part(), random, cases / 5);
-    passes::ask_all(asked.part(), random, cases / 5);
+    for kind in &passes::KINDS {
+        passes::ask_own(asked.part(), kind, random, cases / 5);
+    }
+    passes::ask_general(asked.part(), random, cases / 25);
+    for machine in &step::MACHINES {
+        steps::ask_all(asked.part(), machine, random, cases / 5);
+    }
+    runs::ask_all(asked.part(), random, cases / 5);
     asked.left_out
 }
 
-fn compare(cases: u64, seed: u64, seconds: u64, command: &[String]) -> ExitCode {
+/// Compares the box with the crate; where it `traces`, shows the steps of cases that differ.
+fn compare(traces: bool, cases: u64, seed: u64, seconds: u64, command: &[String]) -> ExitCode {
+    for (why, names) in [("not declared in aat.h", entries::not_declared()), ("unknown", entries::not_asked_for())] {
+        if !names.is_empty() {
+            eprintln!("not compared, as {}: {}", why, names.join(", "));
+        }
+    }
     let mut count = Count::default();
     ask_all(&mut count, cases, seed, 0);
     let the_box = match TheBox::start(command) {
         Ok(the_box) => the_box,
         Err(error) => return failed(error),
     };
-    let mut comparison = Comparison::new(the_box, Progress::new(count.0));
+    let mut comparison = Comparison::new(the_box, Progress::new(count.0), traces);
     let left_out = ask_all(&mut comparison, cases, seed, seconds);
     let totals = comparison.finish();
     if left_out > 0 {
@@ -80,9 +107,8 @@ fn compare(cases: u64, seed: u64, seconds: u64, command: &[String]) -> ExitCode 
     if totals.panics > 0 {
         println!("the crate panicked in {} cases", totals.panics);
     }
-    if oracle::check_range_as_none() > 0 {
-        println!("a panic in check_range was taken for None in {} cases", oracle::check_range_as_none());
-    }
+    let (checks, actions) = (oracle::check_range_as_none(), oracle::last_action_as_none());
+    println!("panics taken for None: {} in check_range, {} at action 65,535", checks, actions);
     println!("{} cases, {} differences (seed {})", totals.cases, totals.differences, seed);
     ExitCode::from(u8::from(totals.differences > 0))
 }

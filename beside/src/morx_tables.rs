@@ -21,11 +21,29 @@ pub fn machine(classes: u16, parts: &[Vec<u8>]) -> Vec<u8> {
     body
 }
 
-/// A subtable with this coverage, whose low byte is its kind, and this body.
+/// A subtable with this coverage, whose low byte is its kind, and this body, which flag 1 chooses.
 pub fn subtable(coverage: u32, body: &[u8]) -> Vec<u8> {
+    chosen_subtable(coverage, 1, body)
+}
+
+/// The same, which these flags choose.
+pub fn chosen_subtable(coverage: u32, flags: u32, body: &[u8]) -> Vec<u8> {
     let length = (SUBTABLE_HEAD + body.len()) as u32;
-    let head = [length, coverage, 1].map(u32::to_be_bytes).concat();
+    let head = [length, coverage, flags].map(u32::to_be_bytes).concat();
     [&head, body].concat()
+}
+
+/// A chain with these flags, the bytes of its features, and its subtables.
+pub fn chain(flags: u32, features: &[u8], subtables: &[Vec<u8>]) -> Vec<u8> {
+    let body = [features, &subtables.concat()].concat();
+    let head = [flags, 16 + body.len() as u32, features.len() as u32 / 12, subtables.len() as u32];
+    [head.map(u32::to_be_bytes).concat(), body].concat()
+}
+
+/// A morx table of these chains.
+pub fn morx(chains: &[Vec<u8>]) -> Vec<u8> {
+    let head = [0x2_0000, chains.len() as u32].map(u32::to_be_bytes).concat();
+    [head, chains.concat()].concat()
 }
 
 /// A morx table of one chain, whose one subtable begins with these bytes, all that follow the chain's head.
@@ -35,20 +53,26 @@ pub fn in_chain(bytes: &[u8]) -> Vec<u8> {
     [&heads, bytes].concat()
 }
 
+/// How many bytes such a table has before its subtable.
+pub const CHAIN_HEADS: usize = 24;
+
+/// The body in such a table, which is written in hex.
+pub fn body_of(table: &str) -> Vec<u8> {
+    let digits = |at: usize| u8::from_str_radix(&table[at..at + 2], 16).expect("two digits");
+    (0..table.len()).step_by(2).map(digits).skip(CHAIN_HEADS + SUBTABLE_HEAD).collect()
+}
+
 /// What the crate makes of the subtable of such a table.
 pub fn the_subtable(table: &[u8]) -> Option<SubtableKind<'_>> {
     chains(table, 0).next()?.subtables().next()?.kind()
 }
 
+/// An entry as numbers, the new state first, and the state and the class that it is for.
+pub type Placed<'a> = (u16, u16, &'a [u16]);
+
 /// A machine with a class of its own for each of so many glyphs from 10 on, the first of them class 4, and so many states.
-/// It stays in its state and does `nothing`, but by these entries, each of a state and a class.
-pub fn small_machine(
-    glyphs: u16,
-    states: u16,
-    nothing: &[u16],
-    entries: &[(u16, u16, &[u16])],
-    more: &[Vec<u8>],
-) -> Vec<u8> {
+/// It stays in its state and does `nothing`, but by these entries.
+pub fn small_machine(glyphs: u16, states: u16, nothing: &[u16], entries: &[Placed], more: &[Vec<u8>]) -> Vec<u8> {
     let classes = 4 + glyphs;
     let class_of: Vec<u16> = (4..classes).collect();
     let rows: Vec<u16> = (0..states * classes).collect();

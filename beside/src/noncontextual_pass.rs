@@ -1,9 +1,10 @@
-//! The non-contextual pass by the crate's subtable, and bodies of it: lookup tables.
+//! The non-contextual kind: its bodies are lookup tables.
 
+use crate::entries::Entry;
+use crate::line::DELETED;
 use crate::lookup_tables::{any_with_values, with_values, words};
-use crate::oracle::aat::morx::{NonContextual, SubtableKind};
 use crate::oracle::Answer;
-use crate::pass::{Example, Kind, Places, DELETED};
+use crate::pass::{Example, Kind};
 use crate::random::Random;
 use crate::strings::for_each_string;
 use std::ops::Range;
@@ -12,23 +13,12 @@ use std::ops::Range;
 pub const KIND: Kind = Kind {
     name: "non-contextual",
     number: 4,
-    entry: 9,
-    pass: |subtable, places| match subtable {
-        SubtableKind::NonContextual(lookup) => Some(pass(lookup, places)),
-        _ => None,
-    },
+    pass: Entry::NoncontextualPass,
     examples,
     short_bodies,
     any_body,
+    limits: |_| {},
 };
-
-/// Each glyph by itself; there is nothing for the end of text to do.
-fn pass(lookup: &NonContextual, places: &mut Places) -> Answer<()> {
-    for glyph in places.glyphs.iter_mut() {
-        *glyph = lookup.substitute(*glyph).unwrap_or(*glyph);
-    }
-    Answer::Done(())
-}
 
 /// Document 01's table, and a deleted glyph that a record brings back.
 fn examples() -> Vec<Example> {

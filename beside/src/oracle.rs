@@ -33,8 +33,11 @@ pub enum Answer<T> {
     Table,
     Line,
     Place,
+    State,
     Head,
+    Full,
     Ended,
+    Limit,
 }
 
 impl<T: Copy> Answer<T> {
@@ -51,8 +54,27 @@ impl<T: Copy> Answer<T> {
             Answer::Table => 2,
             Answer::Line => 3,
             Answer::Place => 4,
+            Answer::State => 5,
             Answer::Head => 6,
+            Answer::Full => 7,
             Answer::Ended => 8,
+            Answer::Limit => 9,
+        }
+    }
+
+    /// The same answer, with what DONE carries changed.
+    pub fn map<U>(self, change: impl FnOnce(T) -> U) -> Answer<U> {
+        match self {
+            Answer::Done(value) => Answer::Done(change(value)),
+            Answer::Nothing => Answer::Nothing,
+            Answer::Table => Answer::Table,
+            Answer::Line => Answer::Line,
+            Answer::Place => Answer::Place,
+            Answer::State => Answer::State,
+            Answer::Head => Answer::Head,
+            Answer::Full => Answer::Full,
+            Answer::Ended => Answer::Ended,
+            Answer::Limit => Answer::Limit,
         }
     }
 
@@ -72,6 +94,8 @@ pub enum Fault {
     Panic,
     /// The crate subtracted past the end in `check_range`, which gives false in a build without overflow checks.
     CheckRange,
+    /// The crate counted on from action 65,535, where document 01 has ENDED.
+    LastAction,
     /// A document, or a plain reading of it, gives another answer.
     Disputed,
 }
@@ -82,13 +106,14 @@ impl Fault {
         match self {
             Fault::Panic => "the crate panicked",
             Fault::CheckRange => "the crate panicked in check_range",
+            Fault::LastAction => "the crate panicked at action 65,535",
             Fault::Disputed => "the crate gave another answer than a document or a plain reading of it",
         }
     }
 
     /// Whether the crate panicked.
     pub fn is_panic(self) -> bool {
-        matches!(self, Fault::Panic | Fault::CheckRange)
+        self != Fault::Disputed
     }
 }
 
@@ -96,6 +121,7 @@ thread_local! {
     static CRATE_AT_WORK: Cell<bool> = Cell::new(false);
     static LAST_PANIC: Cell<Fault> = Cell::new(Fault::Panic);
     static CHECK_RANGE_AS_NONE: Cell<u64> = Cell::new(0);
+    static LAST_ACTION_AS_NONE: Cell<u64> = Cell::new(0);
 }
 
 /// Keeps quiet about the crate's panics, which are counted by their place, and about no others.
@@ -110,18 +136,21 @@ pub fn quiet_crate() {
     }));
 }
 
-/// The fault that a panic at this place is.
+/// The fault that a panic at this place is: by the line of the crate's text, which is that of its copy, too.
 fn fault_at(place: Option<&Location>) -> Fault {
+    let (aat, parse) = (include_str!("../../docs/src/aat.rs"), include_str!("../../docs/src/parse.rs"));
+    let line_of = |text: &'static str, number: u32| text.lines().nth(number as usize - 1).map(str::trim);
     match place {
-        Some(place) if place.file().ends_with("/parse.rs") && subtracts_past_end(place.line()) => Fault::CheckRange,
+        Some(place) if place.file().ends_with("/parse.rs") => match line_of(parse, place.line()) {
+            Some("(offset < end) & (end - offset >= len)") => Fault::CheckRange,
+            _ => Fault::Panic,
+        },
+        Some(place) if place.file().ends_with("/aat.rs") => match line_of(aat, place.line()) {
+            Some("action_index += 1;") => Fault::LastAction,
+            _ => Fault::Panic,
+        },
         _ => Fault::Panic,
     }
-}
-
-/// Whether this line of parse.rs is the one of `check_range` whose `&` subtracts in any case.
-fn subtracts_past_end(line: u32) -> bool {
-    let text = include_str!("../../docs/src/parse.rs").lines().nth(line as usize - 1);
-    text.map(str::trim) == Some("(offset < end) & (end - offset >= len)")
 }
 
 /// What the crate gives, or that it panicked.
@@ -132,19 +161,26 @@ pub fn caught<T>(work: impl FnOnce() -> T) -> Result<T, Fault> {
     given.map_err(|_| LAST_PANIC.with(Cell::get))
 }
 
-/// The same, with the answer of a build without overflow checks for a panic in `check_range`.
-fn caught_unchecked<T>(work: impl FnOnce() -> Option<T>) -> Result<Option<T>, Fault> {
-    let given = caught(work);
-    if let Err(Fault::CheckRange) = given {
-        CHECK_RANGE_AS_NONE.with(|count| count.set(count.get() + 1));
-        return Ok(None);
-    }
-    given
+/// The same, with None for a panic at action 65,535 and for one in `check_range`, which is what a build without overflow
+/// checks gives there.
+pub fn caught_as_none<T>(work: impl FnOnce() -> Option<T>) -> Result<Option<T>, Fault> {
+    let counted = match caught(work) {
+        Err(Fault::CheckRange) => &CHECK_RANGE_AS_NONE,
+        Err(Fault::LastAction) => &LAST_ACTION_AS_NONE,
+        given => return given,
+    };
+    counted.with(|count| count.set(count.get() + 1));
+    Ok(None)
 }
 
-/// In how many cases so far a panic in `check_range` was taken for None.
+/// How many panics so far in `check_range` were taken for None.
 pub fn check_range_as_none() -> u64 {
     CHECK_RANGE_AS_NONE.with(Cell::get)
+}
+
+/// How many panics so far at action 65,535 were taken for None.
+pub fn last_action_as_none() -> u64 {
+    LAST_ACTION_AS_NONE.with(Cell::get)
 }
 
 /// The crate's lookup of a 16-bit element.
@@ -181,5 +217,5 @@ pub fn language_index(table: &[u8], start: u64, name: &str) -> Result<Answer<u32
         return Ok(Answer::Table);
     }
     let start = u32::try_from(start).unwrap_or(u32::MAX);
-    caught_unchecked(|| aat::morx::language_index(table, start, name)).map(Answer::of)
+    caught_as_none(|| aat::morx::language_index(table, start, name)).map(Answer::of)
 }

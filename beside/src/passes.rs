@@ -1,27 +1,44 @@
 //! Passes over a line beside the crate's machines in document 01's pass.
 
 use crate::compare::{Ask, Question};
+use crate::entries::Entry;
 use crate::lent_line::{any_line, spoil};
-use crate::line::{Line, LARGEST_ROOM};
+use crate::line::{Line, DELETED, LARGEST_ROOM};
 use crate::lookup_tables::{damage, Made};
 use crate::morx_tables::{in_chain, subtable, the_subtable, SUBTABLE_HEAD};
 use crate::oracle::{caught, Answer, Fault, LONGEST_TABLE};
-use crate::pass::{Example, Kind, DELETED};
+use crate::pass::{line_of, Example, Kind, Written};
+use crate::passes_by_crate::{caught_pass, number};
 use crate::random::Random;
-use crate::{contextual_pass, noncontextual_pass, rearrangement_pass};
+use crate::steps_by_copy::open;
+use crate::trace::describe_pass;
+use crate::{contextual_pass, insertion_pass, ligature_pass, noncontextual_pass, rearrangement_pass};
 use std::ops::Range;
 use std::rc::Rc;
 
-/// The kinds whose passes are exported.
-static KINDS: [Kind; 3] = [rearrangement_pass::KIND, noncontextual_pass::KIND, contextual_pass::KIND];
+/// The kinds of subtables.
+pub static KINDS: [Kind; 5] = [
+    rearrangement_pass::KIND,
+    noncontextual_pass::KIND,
+    contextual_pass::KIND,
+    ligature_pass::KIND,
+    insertion_pass::KIND,
+];
+
+/// A pass by subtables of a kind: the kind's own, or the one that takes every kind.
+#[derive(Clone, Copy)]
+struct By {
+    entry: Entry,
+    kind: &'static Kind,
+}
 
 /// A call of a pass.
 struct Pass {
-    kind: &'static Kind,
+    by: By,
     line: Line,
     start: u64,
-    /// The answer and the glyphs that a document gives, for examples made from its sentences.
-    written: Option<(Answer<()>, Vec<u16>)>,
+    /// What a document gives, for examples made from its sentences.
+    written: Option<Written>,
 }
 
 impl Pass {
@@ -30,10 +47,10 @@ impl Pass {
         let mut line = self.line.clone();
         let answer = match self.refusal(table) {
             Some(answer) => answer,
-            None => caught(|| self.by_crate(table, &mut line))?.unwrap_or(Answer::Head),
+            None => self.made(table, &mut line)?,
         };
         match &self.written {
-            Some((written, glyphs)) if *written != answer || *glyphs != line.glyphs => Err(Fault::Disputed),
+            Some(written) if !written.is(answer, &line) => Err(Fault::Disputed),
             _ => Ok((answer, line)),
         }
     }
@@ -48,16 +65,39 @@ impl Pass {
         }
     }
 
-    /// The pass by the crate's machine, if it can be read and is of the kind.
-    fn by_crate(&self, table: &[u8], line: &mut Line) -> Option<Answer<()>> {
-        let table = in_chain(table.get(usize::try_from(self.start).ok()?..)?);
-        (self.kind.pass)(&the_subtable(&table)?, &mut line.places())
+    /// The pass by the crate's machine, if it can be read and is of the kind; steps by its copy have to make the same.
+    fn made(&self, table: &[u8], line: &mut Line) -> Result<Answer<()>, Fault> {
+        let table = match self.bytes(table) {
+            Some(bytes) => in_chain(bytes),
+            None => return Ok(Answer::Head),
+        };
+        let subtable = match caught(|| the_subtable(&table))? {
+            Some(subtable) if self.by.entry == Entry::MorxPass || number(&subtable) == self.by.kind.number => subtable,
+            _ => return Ok(Answer::Head),
+        };
+        let mut of_steps = line.clone();
+        let answer = caught_pass(&subtable, line)?;
+        if let Some(opened) = open(&table) {
+            if opened.pass(&mut of_steps, &mut |_, _, _| {})? != answer || of_steps != *line {
+                return Err(Fault::Disputed);
+            }
+        }
+        Ok(answer)
+    }
+
+    fn bytes<'a>(&self, table: &'a [u8]) -> Option<&'a [u8]> {
+        table.get(usize::try_from(self.start).ok()?..)
+    }
+
+    /// Whether the entry is lent the used length, and so hands it back.
+    fn hands_length_back(&self) -> bool {
+        matches!(self.by.entry, Entry::InsertionPass | Entry::MorxPass)
     }
 }
 
 impl Question for Pass {
-    fn entry(&self) -> u8 {
-        self.kind.entry
+    fn entry(&self) -> Entry {
+        self.by.entry
     }
 
     fn arguments(&self, _held: u64, call: &mut Vec<u8>) {
@@ -68,120 +108,154 @@ impl Question for Pass {
     fn reply(&self, table: &[u8], _held: u64, reply: &mut Vec<u8>) -> Result<(), Fault> {
         let (answer, line) = self.after(table)?;
         line.reply(answer, reply);
+        if self.hands_length_back() {
+            reply.extend(line.used.to_le_bytes());
+        }
         Ok(())
     }
 
     fn describe(&self, _held: u64) -> String {
-        format!("{} pass at start {}, lent {}", self.kind.name, self.start, self.line.describe())
+        let entry = if self.by.entry == Entry::MorxPass { ", by the entry for all kinds," } else { "" };
+        format!("{} pass{} at start {}, lent {}", self.by.kind.name, entry, self.start, self.line.describe())
     }
 
     fn describe_reply(&self, reply: &[u8]) -> String {
-        self.line.describe_reply(reply)
+        if self.hands_length_back() {
+            self.line.describe_reply_with_used(reply)
+        } else {
+            self.line.describe_reply(reply)
+        }
+    }
+
+    fn trace(&self, table: &[u8]) -> Vec<String> {
+        match (self.refusal(table), self.bytes(table)) {
+            (None, Some(bytes)) => describe_pass(&in_chain(bytes), &self.line),
+            _ => Vec::new(),
+        }
     }
 }
 
-/// Every question about passes, with so many random ones for each kind.
-pub fn ask_all(asked: &mut dyn Ask, random: &mut Random, cases: u64) {
-    for kind in &KINDS {
-        examples(asked, kind);
-        short_bodies(asked, kind);
-        cut_subtables(asked, kind);
-        coverages(asked, kind);
-        far_starts(asked, kind);
-        far_offsets(asked, kind);
-        refused_lines(asked, kind);
-        long_tables(asked, kind);
-        long_lines(asked, kind, random);
-        random_subtables(asked, kind, random, cases);
+/// Every question about a kind's own pass, with so many random ones.
+pub fn ask_own(asked: &mut dyn Ask, kind: &'static Kind, random: &mut Random, cases: u64) {
+    let by = By { entry: kind.pass, kind };
+    if by.entry.is_declared() {
+        examples(asked, by);
+        short_bodies(asked, by);
+        limits(asked, by);
+        cut_subtables(asked, by);
+        coverages(asked, by);
+        far_starts(asked, by);
+        far_offsets(asked, by);
+        refused_lines(asked, by);
+        long_tables(asked, by);
+        long_lines(asked, by, random);
+        random_subtables(asked, by, random, cases);
     }
 }
 
-fn ask_pass(asked: &mut dyn Ask, kind: &'static Kind, table: &Rc<[u8]>, start: usize, line: &Line) {
-    asked.ask(table, Box::new(Pass { kind, line: line.clone(), start: start as u64, written: None }));
+/// Every question about the pass that takes every kind, with so many random ones for each.
+pub fn ask_general(asked: &mut dyn Ask, random: &mut Random, cases: u64) {
+    let of_kind = |kind| By { entry: Entry::MorxPass, kind };
+    if Entry::MorxPass.is_declared() {
+        for by in KINDS.iter().map(of_kind) {
+            examples(asked, by);
+            cut_subtables(asked, by);
+            coverages(asked, by);
+            random_subtables(asked, by, random, cases);
+        }
+        many_subtables(asked, random, cases);
+        far_starts(asked, of_kind(&KINDS[0]));
+        refused_lines(asked, of_kind(&KINDS[0]));
+        long_tables(asked, of_kind(&KINDS[0]));
+    }
 }
 
-/// A fresh line of these glyphs.
-fn line_of(glyphs: &[u16]) -> Line {
-    let numbers: Vec<u16> = (0..glyphs.len() as u16).collect();
-    Line { glyphs: glyphs.to_vec(), tags: numbers.clone(), homes: numbers, used: glyphs.len() as u64 }
+fn ask_pass(asked: &mut dyn Ask, by: By, table: &Rc<[u8]>, start: usize, line: &Line) {
+    asked.ask(table, Box::new(Pass { by, line: line.clone(), start: start as u64, written: None }));
 }
 
 /// The subtable of an example.
-fn whole(kind: &Kind, example: &Example) -> Vec<u8> {
-    subtable(kind.number, &example.body)
+fn whole(by: By, example: &Example) -> Vec<u8> {
+    subtable(by.kind.number, &example.body)
 }
 
-fn examples(asked: &mut dyn Ask, kind: &'static Kind) {
-    for example in (kind.examples)() {
-        let table = Rc::from(whole(kind, &example));
-        let (line, written) = (line_of(&example.before), Some((example.answer, example.after)));
-        asked.ask(&table, Box::new(Pass { kind, line, start: 0, written }));
+fn examples(asked: &mut dyn Ask, by: By) {
+    for example in (by.kind.examples)() {
+        let table = Rc::from(whole(by, &example));
+        asked.ask(&table, Box::new(Pass { by, line: example.before, start: 0, written: Some(example.written) }));
     }
 }
 
+/// The kind's bodies with lines that bring them to their limits.
+fn limits(asked: &mut dyn Ask, by: By) {
+    (by.kind.limits)(&mut |body, line| ask_pass(asked, by, &Rc::from(subtable(by.kind.number, &body)), 0, &line));
+}
+
 /// All of the kind's small bodies on a few lines each.
-fn short_bodies(asked: &mut dyn Ask, kind: &'static Kind) {
+fn short_bodies(asked: &mut dyn Ask, by: By) {
     let lines: [&[u16]; 6] =
         [&[], &[10], &[10, 11], &[11, 10, 10], &[10, 10, 11, 11, 10], &[10, DELETED, 11, 10, 12, 11]];
-    let lines = lines.map(line_of);
-    (kind.short_bodies)(&mut |body| {
-        let table = Rc::from(subtable(kind.number, &body));
+    let rooms: &[usize] = if by.kind.number == insertion_pass::KIND.number { &[0, 1, 2, 3, 60] } else { &[0] };
+    let in_rooms = |glyphs: &[u16]| rooms.iter().map(|more| line_of(glyphs, glyphs.len() + more)).collect::<Vec<_>>();
+    let lines: Vec<Line> = lines.iter().flat_map(|glyphs| in_rooms(glyphs)).collect();
+    (by.kind.short_bodies)(&mut |body| {
+        let table = Rc::from(subtable(by.kind.number, &body));
         for line in &lines {
-            ask_pass(asked, kind, &table, 0, line);
+            ask_pass(asked, by, &table, 0, line);
         }
     });
 }
 
 /// The examples cut at every byte, at their own start and behind other bytes, on their line and on an empty one.
-fn cut_subtables(asked: &mut dyn Ask, kind: &'static Kind) {
-    for example in (kind.examples)() {
+fn cut_subtables(asked: &mut dyn Ask, by: By) {
+    for example in (by.kind.examples)() {
         for before in [0, 1, 3] {
-            let table = [&[0, 8, 0][..before], &whole(kind, &example)].concat();
+            let table = [&[0, 8, 0][..before], &whole(by, &example)].concat();
             for length in 0..=table.len() {
                 let table = Rc::from(&table[..length]);
-                ask_pass(asked, kind, &table, before, &line_of(&example.before));
-                ask_pass(asked, kind, &table, before, &line_of(&[]));
+                ask_pass(asked, by, &table, before, &example.before);
+                ask_pass(asked, by, &table, before, &line_of(&[], 0));
             }
         }
     }
 }
 
 /// Every kind under coverage bits that a lone pass does not look at.
-fn coverages(asked: &mut dyn Ask, kind: &'static Kind) {
-    for example in (kind.examples)() {
+fn coverages(asked: &mut dyn Ask, by: By) {
+    for example in (by.kind.examples)() {
         for bits in [0, 0x100, 0x8000_0000, 0x5000_0000, 0xFFFF_FF00] {
             for number in 0..=255 {
                 let table = Rc::from(subtable(bits | number, &example.body));
-                ask_pass(asked, kind, &table, 0, &line_of(&example.before));
+                ask_pass(asked, by, &table, 0, &example.before);
             }
         }
     }
 }
 
 /// Starts about the end, and those that a number of fewer bits, or a sum without care, would take for one in the table.
-fn far_starts(asked: &mut dyn Ask, kind: &'static Kind) {
-    for example in (kind.examples)() {
-        let table = whole(kind, &example);
+fn far_starts(asked: &mut dyn Ask, by: By) {
+    for example in (by.kind.examples)() {
+        let table = whole(by, &example);
         let length = table.len();
         let table = Rc::from(table);
         let near = [1, length - SUBTABLE_HEAD, length - 1, length, length + 1];
         let far = [1 << 16, 1 << 31, 1 << 32, 1 << 63, usize::MAX - 11, usize::MAX - 3, usize::MAX];
         for start in near.into_iter().chain(far) {
-            ask_pass(asked, kind, &table, start, &line_of(&example.before));
+            ask_pass(asked, by, &table, start, &example.before);
         }
     }
 }
 
 /// Numbers in a body's head that fewer bits, or a sum of 32 bits, would take for the right ones or for ones in the table.
-fn far_offsets(asked: &mut dyn Ask, kind: &'static Kind) {
-    for example in (kind.examples)() {
+fn far_offsets(asked: &mut dyn Ask, by: By) {
+    for example in (by.kind.examples)() {
         for before in [0, 64] {
-            let table = [vec![0; before], whole(kind, &example)].concat();
+            let table = [vec![0; before], whole(by, &example)].concat();
             for at in (before + SUBTABLE_HEAD..table.len() - 4).step_by(4).take(7) {
                 for number in far_numbers(&table, at) {
                     let mut table = table.clone();
                     table[at..at + 4].copy_from_slice(&number.to_be_bytes());
-                    ask_pass(asked, kind, &Rc::from(table), before, &line_of(&example.before));
+                    ask_pass(asked, by, &Rc::from(table), before, &example.before);
                 }
             }
         }
@@ -200,9 +274,9 @@ fn far_numbers(table: &[u8], at: usize) -> Vec<u32> {
 }
 
 /// Lengths of all parts, most of them no line's, on a right subtable and on one that is refused by itself.
-fn refused_lines(asked: &mut dyn Ask, kind: &'static Kind) {
-    let example = &(kind.examples)()[0];
-    let right: Rc<[u8]> = Rc::from(whole(kind, example));
+fn refused_lines(asked: &mut dyn Ask, by: By) {
+    let example = &(by.kind.examples)()[0];
+    let right: Rc<[u8]> = Rc::from(whole(by, example));
     let none = Rc::from(&right[..SUBTABLE_HEAD - 1]);
     let numbers = |count: usize| (0..count as u16).collect::<Vec<u16>>();
     let lengths = [0, 1, 3, 5, LARGEST_ROOM, LARGEST_ROOM + 1];
@@ -211,8 +285,8 @@ fn refused_lines(asked: &mut dyn Ask, kind: &'static Kind) {
             for homes in [0, 1, 4] {
                 for used in [0, 1, 3, tags as u64, glyphs as u64 + 1, 1 << 32, u64::MAX] {
                     let line = Line { glyphs: vec![10; glyphs], tags: numbers(tags), homes: numbers(homes), used };
-                    ask_pass(asked, kind, &right, 0, &line);
-                    ask_pass(asked, kind, &none, 0, &line);
+                    ask_pass(asked, by, &right, 0, &line);
+                    ask_pass(asked, by, &none, 0, &line);
                 }
             }
         }
@@ -220,10 +294,10 @@ fn refused_lines(asked: &mut dyn Ask, kind: &'static Kind) {
 }
 
 /// Tables at the limit of length and above it, with a subtable at either end, on a line and on none.
-fn long_tables(asked: &mut dyn Ask, kind: &'static Kind) {
-    let example = &(kind.examples)()[0];
-    let subtable = whole(kind, example);
-    let line = line_of(&example.before);
+fn long_tables(asked: &mut dyn Ask, by: By) {
+    let example = &(by.kind.examples)()[0];
+    let subtable = whole(by, example);
+    let line = example.before.clone();
     let no_line = Line { used: line.used + 1, ..line.clone() };
     for length in [LONGEST_TABLE, LONGEST_TABLE + 1] {
         let mut table = vec![0; length];
@@ -231,57 +305,74 @@ fn long_tables(asked: &mut dyn Ask, kind: &'static Kind) {
         table[length - subtable.len()..].copy_from_slice(&subtable);
         let table = Rc::from(table);
         for start in [0, length - subtable.len(), length - 1, length, length + 1, usize::MAX] {
-            ask_pass(asked, kind, &table, start, &line);
-            ask_pass(asked, kind, &table, start, &no_line);
+            ask_pass(asked, by, &table, start, &line);
+            ask_pass(asked, by, &table, start, &no_line);
         }
     }
 }
 
-const LONG_LINES: usize = 40;
+const LONG_LINES: usize = 12;
 
 /// Lines that fill the largest room, and almost.
-fn long_lines(asked: &mut dyn Ask, kind: &'static Kind, random: &mut Random) {
+fn long_lines(asked: &mut dyn Ask, by: By, random: &mut Random) {
     for _ in 0..LONG_LINES {
         let glyphs = any_glyphs(random);
-        let table = Rc::from(subtable(kind.number, &(kind.any_body)(random, &glyphs)));
+        let table = Rc::from(subtable(by.kind.number, &(by.kind.any_body)(random, &glyphs)));
         for used in [LARGEST_ROOM - 1, LARGEST_ROOM] {
             let line = any_line_of(random, &glyphs, used, LARGEST_ROOM);
-            ask_pass(asked, kind, &table, 0, &line);
+            ask_pass(asked, by, &table, 0, &line);
         }
     }
 }
 
 const LINES_FOR_ONE_TABLE: u64 = 3;
 
-fn random_subtables(asked: &mut dyn Ask, kind: &'static Kind, random: &mut Random, cases: u64) {
+fn random_subtables(asked: &mut dyn Ask, by: By, random: &mut Random, cases: u64) {
     let mut left = cases;
     while left > 0 {
         let glyphs = any_glyphs(random);
-        let made = any_subtable(random, kind, &glyphs);
+        let made = any_subtable(random, by.kind, &glyphs);
         let table = Rc::from(&made.table[..]);
         let start = made.any_start(random);
         let lines = left.min(LINES_FOR_ONE_TABLE);
         for _ in 0..lines {
             let longest = random.among(&[2, 5, 5, 12, 12, 12, 24, 60]);
             let used = random.below(longest + 1);
-            let room = used + random.among(&[0, 0, 1, 9]);
+            let room = used + random.among(&[0, 0, 1, 9, 40]);
             let mut line = any_line_of(random, &glyphs, used, room);
             spoil(random, &mut line);
-            asked.ask(&table, Box::new(Pass { kind, line, start, written: None }));
+            asked.ask(&table, Box::new(Pass { by, line, start, written: None }));
         }
         left -= lines;
     }
 }
 
+/// Several subtables in a table, each asked for at its place.
+fn many_subtables(asked: &mut dyn Ask, random: &mut Random, cases: u64) {
+    for _ in 0..cases / 3 {
+        let glyphs = any_glyphs(random);
+        let kinds: Vec<&'static Kind> = (0..3).map(|_| &KINDS[random.below(KINDS.len())]).collect();
+        let subtables: Vec<Vec<u8>> =
+            kinds.iter().map(|kind| subtable(kind.number, &(kind.any_body)(random, &glyphs))).collect();
+        let table = Rc::from(subtables.concat());
+        let line = any_line_of(random, &glyphs, 9, 30);
+        let mut start = 0;
+        for (kind, subtable) in kinds.into_iter().zip(&subtables) {
+            ask_pass(asked, By { entry: Entry::MorxPass, kind }, &table, start, &line);
+            start += subtable.len();
+        }
+    }
+}
+
 /// A few glyphs: often low ones, sometimes the highest.
-fn any_glyphs(random: &mut Random) -> Range<u16> {
+pub fn any_glyphs(random: &mut Random) -> Range<u16> {
     let count = 1 + random.below(9) as u16;
     let first = random.among(&[0, 1, 10, 10, 10, 300, 0xFFFE - count]);
     first..first + count
 }
 
 /// Any subtable: mostly whole and of its kind, often behind other bytes.
-fn any_subtable(random: &mut Random, kind: &Kind, glyphs: &Range<u16>) -> Made {
+pub fn any_subtable(random: &mut Random, kind: &Kind, glyphs: &Range<u16>) -> Made {
     let body = (kind.any_body)(random, glyphs);
     let number = if random.once_in(30) { random.below(7) as u32 } else { kind.number };
     let bits = if random.once_in(2) { 0 } else { random.number() as u32 & !0xFF };
@@ -303,7 +394,7 @@ fn damage_head(random: &mut Random, table: &mut [u8]) {
 }
 
 /// Any line, mostly of these glyphs.
-fn any_line_of(random: &mut Random, glyphs: &Range<u16>, used: usize, room: usize) -> Line {
+pub fn any_line_of(random: &mut Random, glyphs: &Range<u16>, used: usize, room: usize) -> Line {
     let mut line = any_line(random, used, room);
     for glyph in &mut line.glyphs[..used] {
         *glyph = match random.below(20) {

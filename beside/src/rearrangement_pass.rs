@@ -1,9 +1,10 @@
-//! The rearrangement pass by the crate's machine, and bodies of its subtables.
+//! The rearrangement kind: bodies of its subtables.
 
-use crate::morx_tables::{any_machine, small_machine};
-use crate::oracle::aat::morx::{Rearrangement, RearrangementState, SubtableKind};
+use crate::entries::Entry;
+use crate::line::DELETED;
+use crate::morx_tables::{any_machine, small_machine, Placed};
 use crate::oracle::Answer;
-use crate::pass::{make_steps, Example, Kind, Places, DELETED};
+use crate::pass::{Example, Kind};
 use crate::random::Random;
 use std::ops::Range;
 
@@ -11,34 +12,19 @@ use std::ops::Range;
 pub const KIND: Kind = Kind {
     name: "rearrangement",
     number: 0,
-    entry: 8,
-    pass: |subtable, places| match subtable {
-        SubtableKind::Rearrangement(machine) => Some(pass(machine, places)),
-        _ => None,
-    },
+    pass: Entry::RearrangementPass,
     examples,
     short_bodies,
     any_body,
+    limits: |_| {},
 };
 
 const MARK_FIRST: u16 = 0x8000;
 const STAY: u16 = 0x4000;
 const MARK_LAST: u16 = 0x2000;
 
-/// The pass, each rearrangement applied to glyphs and tags as it is handed over.
-pub fn pass(machine: &Rearrangement, places: &mut Places) -> Answer<()> {
-    let mut state = RearrangementState::new();
-    make_steps(places, |places, place, glyph, is_end| {
-        machine.next(&mut state, place, glyph, is_end, |rearrange| {
-            rearrange.apply(places.glyphs);
-            rearrange.apply(places.tags);
-            Some(())
-        })
-    })
-}
-
 /// A body that does nothing but by these entries, over the classes 4, 5, 6.. of the glyphs 10, 11, 12..
-fn body(entries: &[(u16, u16, &[u16])]) -> Vec<u8> {
+fn body(entries: &[Placed]) -> Vec<u8> {
     small_machine(5, 3, &[0], entries, &[])
 }
 
@@ -46,10 +32,10 @@ fn body(entries: &[(u16, u16, &[u16])]) -> Vec<u8> {
 fn examples() -> Vec<Example> {
     use Answer::{Done, Ended};
     let five = [10, 11, 12, 13, 14];
-    let first: (u16, u16, &[u16]) = (0, 4, &[0, MARK_FIRST]);
+    let first: Placed = (0, 4, &[0, MARK_FIRST]);
     let last_stays = [0, STAY | MARK_LAST | 1];
-    let stalls: Vec<(u16, u16, &[u16])> = (4..8).map(|class| (0, class, &last_stays[..])).collect();
-    let seen_again: [(u16, u16, &[u16]); 4] =
+    let stalls: Vec<Placed> = (4..8).map(|class| (0, class, &last_stays[..])).collect();
+    let seen_again: [Placed; 4] =
         [first, (0, 5, &[1, STAY | MARK_LAST | 1]), (1, 4, &[2, 0]), (2, 6, &[2, MARK_LAST | 1])];
     vec![
         Example::new(body(&[first, (0, 8, &[0, MARK_LAST | 1])]), &five, &[11, 12, 13, 14, 10], Done(())),
@@ -71,7 +57,7 @@ fn short_bodies(hand_over: &mut dyn FnMut(Vec<u8>)) {
     for flags in all_flags(&(0..16).collect::<Vec<u16>>()) {
         for other in all_flags(&[0, 1, 7, 14]) {
             for end in [0, MARK_LAST | 13] {
-                let entries: [(u16, u16, &[u16]); 3] = [(0, 4, &[0, flags]), (0, 5, &[0, other]), (0, 0, &[0, end])];
+                let entries: [Placed; 3] = [(0, 4, &[0, flags]), (0, 5, &[0, other]), (0, 0, &[0, end])];
                 hand_over(small_machine(2, 1, &[0], &entries, &[]));
             }
         }

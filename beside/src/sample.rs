@@ -18,7 +18,7 @@ pub struct Sample {
 impl Ask for Sample {
     fn ask(&mut self, table: &Rc<[u8]>, question: Box<dyn Question>) {
         let length = u16::try_from(table.len()).expect("a short table");
-        self.bytes.push(question.entry());
+        self.bytes.push(question.entry() as u8);
         self.bytes.extend(length.to_be_bytes());
         self.bytes.extend(&table[..]);
         if let Err(fault) = question.sample(table, &mut self.bytes) {

@@ -1,38 +1,32 @@
 //! The calls of both sides, for their times.
 
+use crate::line::Line;
 use crate::random::Random;
 
-/// The places of the longest line.
-pub const PLACES: usize = 4_096;
-
-/// A line that fills the largest room.
-#[derive(Clone)]
-pub struct Line {
-    glyphs: Vec<u16>,
-    tags: Vec<u16>,
-    homes: Vec<u16>,
-}
-
 impl Line {
-    /// Any glyphs below the limit, with their tags in any order.
-    pub fn any(random: &mut Random, limit: usize) -> Self {
-        let homes: Vec<u16> = (0..PLACES as u16).collect();
+    /// So many places with any glyphs below the limit, their tags in any order, in a room.
+    pub fn any(random: &mut Random, length: usize, room: usize, limit: usize) -> Self {
+        let homes: Vec<u16> = (0..length as u16).collect();
         let mut tags = homes.clone();
         random.shuffle(&mut tags);
-        Line { glyphs: (0..PLACES).map(|_| random.below(limit) as u16).collect(), tags, homes }
+        tags.resize(room, 0);
+        let glyphs = (0..room).map(|_| random.below(limit) as u16).collect();
+        Line { glyphs, tags, homes, used: length as u64 }
     }
 
-    /// A number that depends on a few places of the line: to look at all would take a time of its own.
+    /// A number that depends on the length and a few places: to look at all would take a time of its own.
     pub fn glance(&self) -> u64 {
-        let places = [0, 1, 2, PLACES / 2, PLACES - 3, PLACES - 2, PLACES - 1];
+        let last = self.length() - 1;
+        let places = [0, 1, 2, last / 2, last - 2, last - 1, last];
         let add = |seen, place: usize| seen * 31 + u64::from(self.glyphs[place]) * 7 + u64::from(self.tags[place]);
-        places.into_iter().fold(0, add)
+        places.into_iter().fold(self.used, add)
     }
 }
 
 /// The proved entries.
 pub mod ours {
-    use super::{Line, PLACES};
+    use super::Line;
+    use crate::entries::Entry;
 
     extern "C" {
         fn aat_lookup(table: *const u8, table_len: usize, start: usize, glyph: u16, value: *mut u32) -> u32;
@@ -69,6 +63,54 @@ pub mod ours {
             homes: *const u16,
             homes_len: usize,
             used: usize,
+        ) -> u32;
+        fn aat_noncontextual_pass(
+            table: *const u8,
+            table_len: usize,
+            start: usize,
+            glyphs: *mut u16,
+            glyphs_len: usize,
+            tags: *const u16,
+            tags_len: usize,
+            homes: *const u16,
+            homes_len: usize,
+            used: usize,
+        ) -> u32;
+        fn aat_contextual_pass(
+            table: *const u8,
+            table_len: usize,
+            start: usize,
+            glyphs: *mut u16,
+            glyphs_len: usize,
+            tags: *const u16,
+            tags_len: usize,
+            homes: *const u16,
+            homes_len: usize,
+            used: usize,
+        ) -> u32;
+        fn aat_ligature_pass(
+            table: *const u8,
+            table_len: usize,
+            start: usize,
+            glyphs: *mut u16,
+            glyphs_len: usize,
+            tags: *const u16,
+            tags_len: usize,
+            homes: *mut u16,
+            homes_len: usize,
+            used: usize,
+        ) -> u32;
+        fn aat_insertion_pass(
+            table: *const u8,
+            table_len: usize,
+            start: usize,
+            glyphs: *mut u16,
+            glyphs_len: usize,
+            tags: *mut u16,
+            tags_len: usize,
+            homes: *const u16,
+            homes_len: usize,
+            used: *mut u64,
         ) -> u32;
     }
 
@@ -107,17 +149,38 @@ pub mod ours {
     #[inline(always)]
     pub fn verb(line: &mut Line, verb: u16) {
         let (glyphs, tags, homes) = (line.glyphs.as_mut_ptr(), line.tags.as_mut_ptr(), line.homes.as_ptr());
-        let answer = unsafe { aat_verb(glyphs, PLACES, tags, PLACES, homes, PLACES, PLACES, verb, 0, PLACES - 1) };
+        let (room, characters, used) = (line.glyphs.len(), line.homes.len(), line.length());
+        let answer = unsafe { aat_verb(glyphs, room, tags, room, homes, characters, used, verb, 0, used - 1) };
         assert_eq!(answer, 0, "a verb on a line");
     }
 
-    /// A pass over the whole line by the subtable that the table begins with.
+    /// A pass over the line by the subtable that the table begins with.
     #[inline(always)]
-    pub fn rearrangement_pass(line: &mut Line, table: &[u8]) {
-        let (glyphs, tags, homes) = (line.glyphs.as_mut_ptr(), line.tags.as_mut_ptr(), line.homes.as_ptr());
-        let (bytes, len) = (table.as_ptr(), table.len());
-        let answer =
-            unsafe { aat_rearrangement_pass(bytes, len, 0, glyphs, PLACES, tags, PLACES, homes, PLACES, PLACES) };
+    pub fn pass(entry: Entry, line: &mut Line, table: &[u8]) {
+        let Line { glyphs, tags, homes, used } = line;
+        let (bytes, len, room, characters) = (table.as_ptr(), table.len(), glyphs.len(), homes.len());
+        let (glyphs, tags, homes, length) =
+            (glyphs.as_mut_ptr(), tags.as_mut_ptr(), homes.as_mut_ptr(), *used as usize);
+        let answer = unsafe {
+            match entry {
+                Entry::RearrangementPass => {
+                    aat_rearrangement_pass(bytes, len, 0, glyphs, room, tags, room, homes, characters, length)
+                }
+                Entry::NoncontextualPass => {
+                    aat_noncontextual_pass(bytes, len, 0, glyphs, room, tags, room, homes, characters, length)
+                }
+                Entry::ContextualPass => {
+                    aat_contextual_pass(bytes, len, 0, glyphs, room, tags, room, homes, characters, length)
+                }
+                Entry::LigaturePass => {
+                    aat_ligature_pass(bytes, len, 0, glyphs, room, tags, room, homes, characters, length)
+                }
+                Entry::InsertionPass => {
+                    aat_insertion_pass(bytes, len, 0, glyphs, room, tags, room, homes, characters, used)
+                }
+                _ => panic!("no pass"),
+            }
+        };
         assert_eq!(answer, 0, "a pass over a line");
     }
 }
@@ -125,11 +188,10 @@ pub mod ours {
 /// The crate, each call a call as ours are, so that no part of it leaves the loop.
 pub mod theirs {
     use super::Line;
+    use crate::morx_tables::the_subtable;
     use crate::oracle::aat::{self, morx, ExtendedStateTable, StateTable};
     use crate::oracle::Bytes;
-    use crate::pass::Places;
-    use crate::rearrange::rearrangement;
-    use crate::rearrangement_pass::pass;
+    use crate::passes_by_crate;
 
     /// The element of a glyph.
     #[inline(never)]
@@ -158,15 +220,15 @@ pub mod theirs {
     /// A rearrangement of the whole line.
     #[inline(never)]
     pub fn verb(line: &mut Line, rearrange: &morx::Rearrange) {
-        rearrange.apply(&mut line.glyphs);
-        rearrange.apply(&mut line.tags);
+        let length = line.length();
+        rearrange.apply(&mut line.glyphs[..length]);
+        rearrange.apply(&mut line.tags[..length]);
     }
 
-    /// A pass over the whole line by the subtable of a morx table.
+    /// A pass over the line by the subtable of a morx table.
     #[inline(never)]
-    pub fn rearrangement_pass(line: &mut Line, table: &[u8]) {
-        let places = &mut Places { glyphs: &mut line.glyphs, tags: &mut line.tags };
-        let answer = pass(&rearrangement(table), places);
-        assert_eq!(answer.number(), 0, "a pass over a line");
+    pub fn pass(line: &mut Line, table: &[u8]) {
+        let subtable = the_subtable(table).expect("a subtable");
+        assert_eq!(passes_by_crate::pass(&subtable, line).number(), 0, "a pass over a line");
     }
 }

@@ -1,12 +1,12 @@
 //! The lone verb beside the crate and document 01, and a fresh line beside document 01.
 
 use crate::compare::{Ask, Question};
+use crate::entries::Entry;
 use crate::lent_line::{any_line, any_numbers, spoil};
 use crate::line::{fresh, lone_verb, Line, LARGEST_ROOM};
 use crate::oracle::{caught, Answer, Fault};
 use crate::random::Random;
 use crate::rearrange::rearrange;
-use crate::reply::number;
 use crate::strings::for_each_string;
 
 /// A call of `aat_fresh` with slices of these lengths; what they hold comes from the number held.
@@ -26,8 +26,8 @@ impl Fresh {
 }
 
 impl Question for Fresh {
-    fn entry(&self) -> u8 {
-        6
+    fn entry(&self) -> Entry {
+        Entry::Fresh
     }
 
     fn arguments(&self, held: u64, call: &mut Vec<u8>) {
@@ -46,8 +46,7 @@ impl Question for Fresh {
     }
 
     fn describe_reply(&self, reply: &[u8]) -> String {
-        let used = number(&reply[reply.len() - 8..]);
-        format!("used {}, {}", used, self.lent(0).describe_reply(reply))
+        self.lent(0).describe_reply_with_used(reply)
     }
 }
 
@@ -89,8 +88,8 @@ impl Verb {
 }
 
 impl Question for Verb {
-    fn entry(&self) -> u8 {
-        7
+    fn entry(&self) -> Entry {
+        Entry::Verb
     }
 
     fn arguments(&self, _held: u64, call: &mut Vec<u8>) {

@@ -16,6 +16,21 @@
                                start 8
        9 noncontextual_pass    as 8                              as 8
       10 contextual_pass       as 8                              as 8
+      11 ligature_pass         as 8                              as 8
+      12 insertion_pass        as 8                              answer 4, glyphs, tags, homes, used 8
+      13 morx_pass             as 8                              as 12
+      14 morx_run              as 8, then direction 4, heads 4   answer 4, glyphs, tags, homes, heads 4, used 8
+      15 rearrangement_step    state 4 x 8, length 8, start 8,   answer 4, state, advance 8, window
+                               index 8, glyph 2, ends 4,
+                               advance 8, window 3 x 8
+      16 contextual_step       state 4 x 8, glyphs, tags,        answer 4, glyphs, tags, homes, state, advance 8
+                               homes, used 8, start 8,
+                               index 8, glyph 2, ends 4,
+                               advance 8
+      17 ligature_step         as 16, state 66 x 8               as 16
+      18 insertion_step        state 3 x 8, length 8, room 8,    answer 4, state, advance 8, edits
+                               start 8, index 8, glyph 2,
+                               ends 4, advance 8, edits 7 x 8
 
    A name is its length 4 and the bytes. Glyphs, tags and homes are each a count 4 and so many numbers 2; a reply has the
    numbers alone.
@@ -28,7 +43,19 @@ long read(int file, void *to, size_t length);
 long write(int file, const void *from, size_t length);
 _Noreturn void exit(int status);
 
-typedef __UINT64_TYPE__ uint64_t;
+/* Entries that aat.h does not declare yet: nobody calls them, and the box is linked with stand-ins for them. A row goes from
+   here when it stands in aat.h. */
+uint32_t aat_ligature_pass(const uint8_t *, size_t, size_t, uint16_t *, size_t, const uint16_t *, size_t, uint16_t *, size_t,
+                           size_t);
+uint32_t aat_insertion_pass(const uint8_t *, size_t, size_t, uint16_t *, size_t, uint16_t *, size_t, const uint16_t *, size_t,
+                            size_t *);
+uint32_t aat_morx_pass(const uint8_t *, size_t, size_t, uint16_t *, size_t, uint16_t *, size_t, uint16_t *, size_t, size_t *);
+uint32_t aat_morx_run(const uint8_t *, size_t, size_t, uint32_t, uint16_t *, size_t, uint16_t *, size_t, uint16_t *, size_t,
+                      size_t *, uint32_t *);
+uint32_t aat_ligature_step(uint64_t[66], const uint8_t *, size_t, size_t, uint16_t *, size_t, const uint16_t *, size_t,
+                           uint16_t *, size_t, size_t, size_t, uint16_t, uint32_t, size_t *);
+uint32_t aat_insertion_step(uint64_t[3], const uint8_t *, size_t, size_t, size_t, size_t, size_t, uint16_t, uint32_t,
+                            size_t *, uint64_t[7]);
 
 /* Longer than the longest table, so that the refusal can be asked for. */
 static uint8_t table[AAT_LONGEST_TABLE + 4096];
@@ -44,6 +71,13 @@ struct slice {
 };
 
 static struct slice glyphs, tags, homes;
+static size_t used;
+
+/* A step's state, what it is told, and what it hands over. */
+static uint64_t state[66], edits[7];
+static size_t start, index, advance;
+static uint16_t glyph;
+static uint32_t ends;
 
 static uint8_t input[65536], output[65536];
 static size_t input_len, input_at, output_len;
@@ -107,12 +141,29 @@ static void take_line(void) {
     take_slice(&glyphs);
     take_slice(&tags);
     take_slice(&homes);
+    used = take(8);
 }
 
 static void put_line(void) {
     put_slice(&glyphs);
     put_slice(&tags);
     put_slice(&homes);
+}
+
+static void take_numbers(uint64_t *numbers, int count) {
+    for (int i = 0; i < count; i++) numbers[i] = take(8);
+}
+
+static void put_numbers(const uint64_t *numbers, int count) {
+    for (int i = 0; i < count; i++) put(numbers[i], 8);
+}
+
+static void take_told(void) {
+    start = take(8);
+    index = take(8);
+    glyph = (uint16_t)take(2);
+    ends = (uint32_t)take(4);
+    advance = take(8);
 }
 
 static void take_table(void) {
@@ -123,15 +174,15 @@ typedef uint32_t value_of_glyph(const uint8_t *, size_t, size_t, uint16_t, uint3
 
 /* An entry that gives the value of a glyph: lookup or one of the two classes. */
 static void look(value_of_glyph *entry) {
-    size_t start = take(8);
-    uint16_t glyph = (uint16_t)take(2);
+    start = take(8);
+    glyph = (uint16_t)take(2);
     uint32_t value = (uint32_t)take(4);
     put(entry(table, table_len, start, glyph, &value), 4);
     put(value, 4);
 }
 
 static void survey(void) {
-    size_t start = take(8);
+    start = take(8);
     uint32_t verdict = (uint32_t)take(4);
     uint32_t record = (uint32_t)take(4);
     put(aat_survey(table, table_len, start, &verdict, &record), 4);
@@ -140,7 +191,7 @@ static void survey(void) {
 }
 
 static void language_index(void) {
-    size_t start = take(8);
+    start = take(8);
     size_t name_len = take_bytes(name, sizeof name);
     uint32_t value = (uint32_t)take(4);
     put(aat_language_index(table, table_len, start, name, name_len, &value), 4);
@@ -149,7 +200,6 @@ static void language_index(void) {
 
 static void fresh(void) {
     take_line();
-    size_t used = take(8);
     put(aat_fresh(glyphs.numbers, glyphs.len, tags.numbers, tags.len, homes.numbers, homes.len, &used), 4);
     put_line();
     put(used, 8);
@@ -157,37 +207,89 @@ static void fresh(void) {
 
 static void verb(void) {
     take_line();
-    size_t used = take(8);
     uint16_t number = (uint16_t)take(2);
-    size_t start = take(8);
-    size_t end = take(8);
-    put(aat_verb(glyphs.numbers, glyphs.len, tags.numbers, tags.len, homes.numbers, homes.len, used, number, start, end), 4);
+    size_t first = take(8);
+    size_t last = take(8);
+    put(aat_verb(glyphs.numbers, glyphs.len, tags.numbers, tags.len, homes.numbers, homes.len, used, number, first, last), 4);
     put_line();
 }
 
-static void rearrangement_pass(void) {
+/* The arguments of a pass, but for the used length. */
+#define TABLE_AND_LINE \
+    table, table_len, start, glyphs.numbers, glyphs.len, tags.numbers, tags.len, homes.numbers, homes.len
+
+static void take_pass(void) {
     take_line();
-    size_t used = take(8);
-    size_t start = take(8);
-    put(aat_rearrangement_pass(table, table_len, start, glyphs.numbers, glyphs.len, tags.numbers, tags.len, homes.numbers,
-                               homes.len, used),
+    start = take(8);
+}
+
+static void put_pass(uint32_t answered) {
+    put(answered, 4);
+    put_line();
+}
+
+static void put_growing_pass(uint32_t answered) {
+    put_pass(answered);
+    put(used, 8);
+}
+
+static void morx_run(void) {
+    take_pass();
+    uint32_t right_to_left = (uint32_t)take(4);
+    uint32_t heads = (uint32_t)take(4);
+    put(aat_morx_run(table, table_len, start, right_to_left, glyphs.numbers, glyphs.len, tags.numbers, tags.len,
+                     homes.numbers, homes.len, &used, &heads),
         4);
     put_line();
+    put(heads, 4);
+    put(used, 8);
 }
 
-typedef uint32_t pass_on_glyphs(const uint8_t *, size_t, size_t, uint16_t *, size_t, const uint16_t *, size_t,
-                                const uint16_t *, size_t, size_t);
+static void rearrangement_step(void) {
+    take_numbers(state, 4);
+    size_t length = take(8);
+    take_told();
+    take_numbers(edits, 3);
+    put(aat_rearrangement_step(state, table, table_len, start, length, index, glyph, ends, &advance, edits), 4);
+    put_numbers(state, 4);
+    put(advance, 8);
+    put_numbers(edits, 3);
+}
 
-/* A pass that writes glyphs alone: non-contextual or contextual. */
-static void substitute(pass_on_glyphs *entry) {
+static void contextual_step(void) {
+    take_numbers(state, 4);
     take_line();
-    size_t used = take(8);
-    size_t start = take(8);
-    put(entry(table, table_len, start, glyphs.numbers, glyphs.len, tags.numbers, tags.len, homes.numbers, homes.len, used), 4);
+    take_told();
+    put(aat_contextual_step(state, TABLE_AND_LINE, used, index, glyph, ends, &advance), 4);
     put_line();
+    put_numbers(state, 4);
+    put(advance, 8);
+}
+
+static void ligature_step(void) {
+    take_numbers(state, 66);
+    take_line();
+    take_told();
+    put(aat_ligature_step(state, TABLE_AND_LINE, used, index, glyph, ends, &advance), 4);
+    put_line();
+    put_numbers(state, 66);
+    put(advance, 8);
+}
+
+static void insertion_step(void) {
+    take_numbers(state, 3);
+    size_t length = take(8);
+    size_t room = take(8);
+    take_told();
+    take_numbers(edits, 7);
+    put(aat_insertion_step(state, table, table_len, start, length, room, index, glyph, ends, &advance, edits), 4);
+    put_numbers(state, 3);
+    put(advance, 8);
+    put_numbers(edits, 7);
 }
 
 static void answer(uint8_t call) {
+    if (8 <= call && call <= 13) take_pass();
     switch (call) {
     case 0: take_table(); break;
     case 1: look(aat_lookup); break;
@@ -197,9 +299,17 @@ static void answer(uint8_t call) {
     case 5: language_index(); break;
     case 6: fresh(); break;
     case 7: verb(); break;
-    case 8: rearrangement_pass(); break;
-    case 9: substitute(aat_noncontextual_pass); break;
-    case 10: substitute(aat_contextual_pass); break;
+    case 8: put_pass(aat_rearrangement_pass(TABLE_AND_LINE, used)); break;
+    case 9: put_pass(aat_noncontextual_pass(TABLE_AND_LINE, used)); break;
+    case 10: put_pass(aat_contextual_pass(TABLE_AND_LINE, used)); break;
+    case 11: put_pass(aat_ligature_pass(TABLE_AND_LINE, used)); break;
+    case 12: put_growing_pass(aat_insertion_pass(TABLE_AND_LINE, &used)); break;
+    case 13: put_growing_pass(aat_morx_pass(TABLE_AND_LINE, &used)); break;
+    case 14: morx_run(); break;
+    case 15: rearrangement_step(); break;
+    case 16: contextual_step(); break;
+    case 17: ligature_step(); break;
+    case 18: insertion_step(); break;
     default: exit(1);
     }
 }

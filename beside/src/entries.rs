@@ -1,0 +1,70 @@
+//! The exported entries: their numbers on the pipe, which crates/firmware/box.c has too, and their names in aat.h.
+
+/// An exported entry.
+#[derive(Clone, Copy, PartialEq)]
+pub enum Entry {
+    Lookup = 1,
+    Survey,
+    ClassExtended,
+    ClassClassic,
+    LanguageIndex,
+    Fresh,
+    Verb,
+    RearrangementPass,
+    NoncontextualPass,
+    ContextualPass,
+    LigaturePass,
+    InsertionPass,
+    MorxPass,
+    MorxRun,
+    RearrangementStep,
+    ContextualStep,
+    LigatureStep,
+    InsertionStep,
+}
+
+/// The names, in the order of the numbers.
+const NAMES: [&str; 18] = [
+    "aat_lookup",
+    "aat_survey",
+    "aat_class_extended",
+    "aat_class_classic",
+    "aat_language_index",
+    "aat_fresh",
+    "aat_verb",
+    "aat_rearrangement_pass",
+    "aat_noncontextual_pass",
+    "aat_contextual_pass",
+    "aat_ligature_pass",
+    "aat_insertion_pass",
+    "aat_morx_pass",
+    "aat_morx_run",
+    "aat_rearrangement_step",
+    "aat_contextual_step",
+    "aat_ligature_step",
+    "aat_insertion_step",
+];
+
+impl Entry {
+    /// Whether aat.h has it. What is not declared there is not asked for; what is must be in the archive.
+    pub fn is_declared(self) -> bool {
+        declares(NAMES[self as usize - 1])
+    }
+}
+
+/// The entries that are asked for once aat.h declares them.
+pub fn not_declared() -> Vec<&'static str> {
+    NAMES.into_iter().filter(|name| !declares(name)).collect()
+}
+
+/// The entries that aat.h declares and nobody asks for.
+pub fn not_asked_for() -> Vec<&'static str> {
+    let declared = HEADER.lines().filter_map(|line| line.strip_prefix("uint32_t ")?.split_once('('));
+    declared.map(|(name, _)| name).filter(|name| !NAMES.contains(name)).collect()
+}
+
+fn declares(name: &str) -> bool {
+    HEADER.contains(&format!("\nuint32_t {}(", name))
+}
+
+const HEADER: &str = include_str!("../../crates/firmware/aat.h");
