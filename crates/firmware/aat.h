@@ -20,6 +20,7 @@ enum aat_answer {
     AAT_PLACE = 4,   /* the window's start is above its end or above the used length, or a step's index is above the length */
     AAT_STATE = 5,   /* the state lent to a step is none that its machine can have on this line */
     AAT_HEAD = 6,    /* the start is past the table, or no state table, or subtable of the kind, can be read there */
+    AAT_FULL = 7,    /* the next insertion would make the line longer than its room; what was done before it stays */
     AAT_ENDED = 8,   /* the step or pass broke off where the table has no entry, and the slices hold what it had done by then */
 };
 
@@ -73,9 +74,19 @@ uint32_t aat_noncontextual_pass(const uint8_t *table, size_t table_len, size_t s
 uint32_t aat_contextual_pass(const uint8_t *table, size_t table_len, size_t start, uint16_t *glyphs, size_t glyphs_len,
                              const uint16_t *tags, size_t tags_len, const uint16_t *homes, size_t homes_len, size_t used);
 
+/* Goes over the line by the ligature subtable, its head included, that begins at start; a component's place becomes 0xFFFF and
+   its characters go to the ligature's tag. */
+uint32_t aat_ligature_pass(const uint8_t *table, size_t table_len, size_t start, uint16_t *glyphs, size_t glyphs_len,
+                           const uint16_t *tags, size_t tags_len, uint16_t *homes, size_t homes_len, size_t used);
+
+/* Goes over the line by the insertion subtable, its head included, that begins at start; used is left to say how long the line
+   is then. Inserted glyphs get the tags from the used length up, in order. */
+uint32_t aat_insertion_pass(const uint8_t *table, size_t table_len, size_t start, uint16_t *glyphs, size_t glyphs_len,
+                            uint16_t *tags, size_t tags_len, const uint16_t *homes, size_t homes_len, size_t *used);
+
 /* A step of a machine is what its pass does at one place: index and glyph are those of the place, and ends is not 0 at end of
    text, where a pass gives the length and glyph 0xFFFF. The state, its numbers in the order named, is 0 each at the start of a
-   pass; the step leaves the new one there. The advance is how many places to go on, and 0 with AAT_ENDED. */
+   pass; the step leaves the new one there. The advance is how many places to go on, and 0 with AAT_FULL and AAT_ENDED. */
 
 /* One step by the rearrangement subtable, its head included, that begins at start, on a line of so many places. The state is
    the state table's, the first and the last mark, and the steps in a row that did not advance. window is left to say what
@@ -88,5 +99,18 @@ uint32_t aat_rearrangement_step(uint64_t state[4], const uint8_t *table, size_t 
 uint32_t aat_contextual_step(uint64_t state[4], const uint8_t *table, size_t table_len, size_t start, uint16_t *glyphs,
                              size_t glyphs_len, const uint16_t *tags, size_t tags_len, const uint16_t *homes,
                              size_t homes_len, size_t used, size_t index, uint16_t glyph, uint32_t ends, size_t *advance);
+
+/* One step by the ligature subtable, its head included, that begins at start; it writes its glyphs and homes into the line. The
+   state is the state table's, how many slots of the stack are used, 32 places and 32 glyphs. */
+uint32_t aat_ligature_step(uint64_t state[66], const uint8_t *table, size_t table_len, size_t start, uint16_t *glyphs,
+                           size_t glyphs_len, const uint16_t *tags, size_t tags_len, uint16_t *homes, size_t homes_len,
+                           size_t used, size_t index, uint16_t glyph, uint32_t ends, size_t *advance);
+
+/* One step by the insertion subtable, its head included, that begins at start, on a line of so many places in a room of so many.
+   The state is the state table's, the mark, and the steps in a row that did not advance. edits is left to say what is to be
+   inserted: how many times (0, 1 or 2), then each time the place, how many glyphs, and the byte of the table where they begin;
+   the rest of it is 0. */
+uint32_t aat_insertion_step(uint64_t state[3], const uint8_t *table, size_t table_len, size_t start, size_t length,
+                            size_t room, size_t index, uint16_t glyph, uint32_t ends, size_t *advance, uint64_t edits[7]);
 
 #endif

@@ -45,17 +45,9 @@ _Noreturn void exit(int status);
 
 /* Entries that aat.h does not declare yet: nobody calls them, and the box is linked with stand-ins for them. A row goes from
    here when it stands in aat.h. */
-uint32_t aat_ligature_pass(const uint8_t *, size_t, size_t, uint16_t *, size_t, const uint16_t *, size_t, uint16_t *, size_t,
-                           size_t);
-uint32_t aat_insertion_pass(const uint8_t *, size_t, size_t, uint16_t *, size_t, uint16_t *, size_t, const uint16_t *, size_t,
-                            size_t *);
 uint32_t aat_morx_pass(const uint8_t *, size_t, size_t, uint16_t *, size_t, uint16_t *, size_t, uint16_t *, size_t, size_t *);
 uint32_t aat_morx_run(const uint8_t *, size_t, size_t, uint32_t, uint16_t *, size_t, uint16_t *, size_t, uint16_t *, size_t,
                       size_t *, uint32_t *);
-uint32_t aat_ligature_step(uint64_t[66], const uint8_t *, size_t, size_t, uint16_t *, size_t, const uint16_t *, size_t,
-                           uint16_t *, size_t, size_t, size_t, uint16_t, uint32_t, size_t *);
-uint32_t aat_insertion_step(uint64_t[3], const uint8_t *, size_t, size_t, size_t, size_t, size_t, uint16_t, uint32_t,
-                            size_t *, uint64_t[7]);
 
 /* Longer than the longest table, so that the refusal can be asked for. */
 static uint8_t table[AAT_LONGEST_TABLE + 4096];

@@ -1,2 +1,3 @@
 -- Laws of the exported entries.
 mod Stepping
+mod Slots

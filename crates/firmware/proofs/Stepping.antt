@@ -3,10 +3,21 @@ use Prim.Native.Nat.{ℕ}
 use mathlib.Core.Path.{_≡_, refl, sym, _∙_, ap, subst}
 use mathlib.Core.Bool.{Bool, true, false}
 use mathlib.Core.List.{List}
+use lib.ListN.{set}
+use lib.Seq.{paste}
 use Rattle.answers.specs.declared.Answer.{Answer}
 use Rattle.answers.specs.Numbers.{numberOf}
-use Rattle.firmware.specs.Steps.{isRefused, unlessRefused, isFlag, rearrangementFrom, rearranged, contextualFrom, contextual, contextualLeaves}
+use Rattle.firmware.specs.Steps.{isRefused, unlessRefused, isFlag, rearrangementFrom, rearranged, contextualFrom, contextual, contextualLeaves, insertionFrom, inserted, editSlots, ligatureFrom, ligatureSlots, ligated, ligatedLeaves}
 use Rattle.line.specs.Line.{Line}
+use Rattle.ligature.specs.Ligature as Ligature′
+use Rattle.ligature.specs.Calls as Ligature
+use Rattle.ligature.specs.declared.LigatureState.{LigatureState}
+use Rattle.ligature.specs.declared.LigatureStep.{LigatureStep}
+use Rattle.insertion.specs.Calls as Insertion
+use Rattle.insertion.specs.declared.InsertionState.{InsertionState}
+use Rattle.insertion.specs.declared.InsertionStep.{InsertionStep}
+use Rattle.insertion.specs.declared.Inserted.{Inserted}
+use Rattle.insertion.specs.declared.Inserted.the-variants as Inserted′
 use Rattle.contextual.specs.Contextual.{stepOf}
 use Rattle.contextual.specs.Calls as Contextual
 use Rattle.contextual.specs.declared.ContextualState.{ContextualState}
@@ -43,3 +54,43 @@ module _ (table : List ℕ) (start : ℕ) (slots : List ℕ) (l : Line) (index g
       → glyphs ≡ contextualLeaves table start slots l index glyph ends .glyphs
   unfolding contextualLeaves
   contextual-left e = e ∙ ap (λ (s : ContextualState). Contextual.stepLeaves table start s l index glyph (isFlag ends) .glyphs) g
+
+pub inserted-is : (table : List ℕ) (start : ℕ) (slots : List ℕ) (length room index glyph ends : ℕ) {given : InsertionState} {step : InsertionStep}
+    → given ≡ insertionFrom slots → step ≡ Insertion.stepCall table start given length room index glyph (isFlag ends)
+    → step ≡ inserted table start slots length room index glyph ends
+unfolding inserted
+inserted-is table start slots length room index glyph ends g e =
+    e ∙ ap (λ (s : InsertionState). Insertion.stepCall table start s length room index glyph (isFlag ends)) g
+
+-- one insertion is told the same way, marked or current
+pub one-edit : (marked current : Inserted) → marked ≡ Inserted′.None → editSlots current Inserted′.None ≡ editSlots marked current
+unfolding editSlots
+one-edit marked Inserted′.None e = rw e
+one-edit marked (Inserted′.At place count glyphs) e = rw e
+
+pub marked-alone : {marked at : Inserted} (current : Inserted) → marked ≡ at → current ≡ Inserted′.None → editSlots at Inserted′.None ≡ editSlots marked current
+marked-alone current m e = ap (λ (x : Inserted). editSlots x Inserted′.None) (sym m) ∙ ap (editSlots _) (sym e)
+
+module _ (table : List ℕ) (start : ℕ) (slots : List ℕ) (l : Line) (index glyph ends : ℕ) {given : LigatureState} (g : given ≡ ligatureFrom slots) where
+  pub ligated-is : {step : LigatureStep} → step ≡ Ligature′.stepOf (Ligature.stepCall table start given l index glyph (isFlag ends))
+      → step ≡ Ligature′.stepOf (ligated table start slots l index glyph ends)
+  unfolding ligated
+  ligated-is e = e ∙ ap (λ (s : LigatureState). Ligature′.stepOf (Ligature.stepCall table start s l index glyph (isFlag ends))) g
+
+  pub ligated-left : {A : Type 0} (of : Line → A) {left : A} → left ≡ of (Ligature.stepLeaves table start given l index glyph (isFlag ends))
+      → left ≡ of (ligatedLeaves table start slots l index glyph ends)
+  unfolding ligatedLeaves
+  ligated-left of e = e ∙ ap (λ (s : LigatureState). of (Ligature.stepLeaves table start s l index glyph (isFlag ends))) g
+
+-- a state of many numbers is written over the one that was lent
+module _ {step whole : LigatureStep} (e : step ≡ whole) {flag : Bool} (f : flag ≡ isRefused (step .answer)) (was : List ℕ) where
+  pub kept-ligature : flag ≡ true → was ≡ unlessRefused (whole .answer) was (ligatureSlots was (whole .state))
+  kept-ligature t = kept (λ (s : LigatureStep). s .answer) e f (λ (s : LigatureStep). ligatureSlots was (s .state)) was t
+
+  pub put-ligature : {new : List ℕ} → flag ≡ false → new ≡ ligatureSlots was (step .state) → new ≡ unlessRefused (whole .answer) was (ligatureSlots was (whole .state))
+  put-ligature t n = put (λ (s : LigatureStep). s .answer) e f (λ (s : LigatureStep). ligatureSlots was (s .state)) was t n
+
+pub put-both : (was : List ℕ) (s : LigatureState) {between after : List ℕ} → between ≡ paste (set (set was 0 (s .state)) 1 (s .depth)) 2 (s .places) 32
+    → after ≡ paste between 34 (s .glyphs) 32 → after ≡ ligatureSlots was s
+unfolding ligatureSlots
+put-both was s e f = f ∙ ap (λ (x : List ℕ). paste x 34 (s .glyphs) 32) e

@@ -1,10 +1,12 @@
 -- What the exported steps leave in the numbers lent to them, and how a state crosses as numbers.
-use Prim.Native.Nat.{ℕ}
+use Prim.Native.Nat.{ℕ, _+_}
 use mathlib.Core.List.{List, [], _∷_}
 use mathlib.Core.Bool.{Bool, true, false, cond, not}
-use lib.Dec.{eqb}
-use lib.ListN.{getD}
+use lib.Dec.{eqb, ltb}
+use lib.ListN.{getD, set}
+use lib.Seq.{paste}
 use Rattle.laws.specs.Choose.{ifLt}
+use Rattle.laws.specs.Lists.{tab, every}
 use Rattle.answers.specs.declared.Answer.{Answer}
 use Rattle.answers.specs.declared.Answer.the-variants as Answer′
 use Rattle.rearrangement.specs.Rearrangement as Rearrangement
@@ -12,6 +14,13 @@ use Rattle.rearrangement.specs.declared.RearrangementState.{RearrangementState}
 use Rattle.rearrangement.specs.declared.RearrangementStep.{RearrangementStep}
 use Rattle.rearrangement.specs.declared.Window.{Window}
 use Rattle.rearrangement.specs.declared.Window.the-variants as Window′
+use Rattle.insertion.specs.Calls as Insertion
+use Rattle.insertion.specs.declared.InsertionState.{InsertionState}
+use Rattle.insertion.specs.declared.InsertionStep.{InsertionStep}
+use Rattle.insertion.specs.declared.Inserted.{Inserted}
+use Rattle.insertion.specs.declared.Inserted.the-variants as Inserted′
+use Rattle.ligature.specs.Calls as Ligature
+use Rattle.ligature.specs.declared.LigatureState.{LigatureState}
 use Rattle.line.specs.Line.{Line}
 use Rattle.machine.specs.Pass.{Stepped}
 use Rattle.contextual.specs.Calls as Contextual
@@ -80,3 +89,59 @@ contextual table start slots l index glyph ends = Contextual.stepCall table star
 
 unfoldable pub contextualLeaves : List ℕ → (start : ℕ) → (slots : List ℕ) → Line → (index glyph ends : ℕ) → Line
 contextualLeaves table start slots l index glyph ends = Contextual.stepLeaves table start (contextualFrom slots) l index glyph (isFlag ends)
+
+abbrev pub noInsertion : InsertionState
+noInsertion = record { state = 0; mark = 0; cycles = 0xFFFF }
+
+-- state, mark, cycles
+unfoldable pub insertionFrom : List ℕ → InsertionState
+insertionFrom slots =
+    ifLt 0xFFFF (getD slots 0 0) noInsertion
+    (ifLt 0xFFFF (getD slots 2 0) noInsertion
+    (record { state = getD slots 0 0; mark = getD slots 1 0; cycles = getD slots 2 0 }))
+
+abbrev pub insertionSlots : InsertionState → List ℕ
+insertionSlots s = s .state ∷ s .mark ∷ s .cycles ∷ []
+
+-- the step from the state that the numbers say
+unfoldable pub inserted : List ℕ → (start : ℕ) → (slots : List ℕ) → (length room index glyph ends : ℕ) → InsertionStep
+inserted table start slots length room index glyph ends = Insertion.stepCall table start (insertionFrom slots) length room index glyph (isFlag ends)
+
+-- how many insertions, then for each its place, its count and where its glyphs lie in the table; the rest is 0
+unfoldable pub editSlots : (marked current : Inserted) → List ℕ
+editSlots Inserted′.None Inserted′.None = 0 ∷ 0 ∷ 0 ∷ 0 ∷ 0 ∷ 0 ∷ 0 ∷ []
+editSlots (Inserted′.At place count glyphs) Inserted′.None = 1 ∷ place ∷ count ∷ glyphs ∷ 0 ∷ 0 ∷ 0 ∷ []
+editSlots Inserted′.None (Inserted′.At place count glyphs) = 1 ∷ place ∷ count ∷ glyphs ∷ 0 ∷ 0 ∷ 0 ∷ []
+editSlots (Inserted′.At place count glyphs) (Inserted′.At place₂ count₂ glyphs₂) =
+    2 ∷ place ∷ count ∷ glyphs ∷ place₂ ∷ count₂ ∷ glyphs₂ ∷ []
+
+-- more slots are used than there are
+abbrev pub noLigature : LigatureState
+noLigature = record { state = 0; places = tab (λ slot. 0) 32; glyphs = tab (λ slot. 0) 32; depth = 0xFFFF }
+
+-- the numbers of 32 slots from some place on
+unfoldable pub slotsFrom : List ℕ → (from : ℕ) → List ℕ
+slotsFrom slots from = tab (λ slot. getD slots (from + slot) 0) 32
+
+-- none of them is wider than a glyph
+unfoldable pub areGlyphs : List ℕ → (from : ℕ) → Bool
+areGlyphs slots from = every (λ slot. ltb (getD slots (from + slot) 0) 0x10000) 32
+
+-- state, depth, 32 places, 32 glyphs
+unfoldable pub ligatureFrom : List ℕ → LigatureState
+ligatureFrom slots =
+    ifLt 0xFFFF (getD slots 0 0) noLigature
+    (cond (areGlyphs slots 34)
+    (record { state = getD slots 0 0; places = slotsFrom slots 2; glyphs = slotsFrom slots 34; depth = getD slots 1 0 })
+    noLigature)
+
+-- what was lent, with the state, the depth, the places and the glyphs written over it
+unfoldable pub ligatureSlots : List ℕ → LigatureState → List ℕ
+ligatureSlots was s = paste (paste (set (set was 0 (s .state)) 1 (s .depth)) 2 (s .places) 32) 34 (s .glyphs) 32
+
+-- the step from the state that the numbers say, and the line that it leaves
+unfoldable pub ligated : List ℕ → (start : ℕ) → (slots : List ℕ) → Line → (index glyph ends : ℕ) → Stepped LigatureState
+ligated table start slots l index glyph ends = Ligature.stepCall table start (ligatureFrom slots) l index glyph (isFlag ends)
+
+unfoldable pub ligatedLeaves : List ℕ → (start : ℕ) → (slots : List ℕ) → Line → (index glyph ends : ℕ) → Line
+ligatedLeaves table start slots l index glyph ends = Ligature.stepLeaves table start (ligatureFrom slots) l index glyph (isFlag ends)

@@ -13,6 +13,8 @@ ghost use Rattle.line.specs.Entries.{freshCall, freshAnswer, freshUsed, verbCal
 ghost use Rattle.rearrangement.specs.Rearrangement.{passCall as rearranging, callLeaves as rearrangingLeaves};
 ghost use Rattle.noncontextual.specs.NonContextual.{passCall as replacing, callLeaves as replacingLeaves};
 ghost use Rattle.contextual.specs.Calls.{passCall as contextual, callLeaves as contextualLeaves};
+ghost use Rattle.insertion.specs.Calls.{passCall as inserting, callLeaves as insertingLeaves};
+ghost use Rattle.ligature.specs.Calls.{passCall as ligating, callLeaves as ligatingLeaves};
 ghost use Rattle.firmware.specs.Survey.{surveyAnswer, verdictOf, badRecord};
 
 mod steps;
@@ -194,4 +196,42 @@ pub extern "C" fn aat_contextual_pass(
     ensures glyphs { λ r. ⌜ now (glyphs .exit) ≡ contextualLeaves (now (table .entry)) start (lineOf (now (glyphs .entry)) (now (tags .entry)) (now (homes .entry)) used) .glyphs ⌝ }
 {
     answers::number(contextual::pass(table, start, glyphs, tags, homes, used))
+}
+
+// The insertion pass over a line, by the subtable at `start`.
+#[no_mangle]
+pub extern "C" fn aat_insertion_pass(
+    table: &[u8],
+    start: usize,
+    glyphs: &mut [u16],
+    tags: &mut [u16],
+    homes: &[u16],
+    used: &mut usize,
+) -> u32
+    ensures answer { λ r. ⌜ r ≡ numberOf (inserting (now (table .entry)) start (lineOf (now (glyphs .entry)) (now (tags .entry)) (now (homes .entry)) (now (used .entry))) .answer) ⌝ }
+    ensures glyphs { λ r. ⌜ now (glyphs .exit) ≡ insertingLeaves (now (table .entry)) start (lineOf (now (glyphs .entry)) (now (tags .entry)) (now (homes .entry)) (now (used .entry))) .glyphs ⌝ }
+    ensures tags { λ r. ⌜ now (tags .exit) ≡ insertingLeaves (now (table .entry)) start (lineOf (now (glyphs .entry)) (now (tags .entry)) (now (homes .entry)) (now (used .entry))) .tags ⌝ }
+    ensures used { λ r. ⌜ now (used .exit) ≡ insertingLeaves (now (table .entry)) start (lineOf (now (glyphs .entry)) (now (tags .entry)) (now (homes .entry)) (now (used .entry))) .used ⌝ }
+{
+    let passed = insertion::pass(table, start, glyphs, tags, homes, *used);
+    *used = passed.used;
+    let answer = passed.answer;
+    answers::number(answer)
+}
+
+// The ligature pass over a line, by the subtable at `start`.
+#[no_mangle]
+pub extern "C" fn aat_ligature_pass(
+    table: &[u8],
+    start: usize,
+    glyphs: &mut [u16],
+    tags: &[u16],
+    homes: &mut [u16],
+    used: usize,
+) -> u32
+    ensures answer { λ r. ⌜ r ≡ numberOf (ligating (now (table .entry)) start (lineOf (now (glyphs .entry)) (now (tags .entry)) (now (homes .entry)) used) .answer) ⌝ }
+    ensures glyphs { λ r. ⌜ now (glyphs .exit) ≡ ligatingLeaves (now (table .entry)) start (lineOf (now (glyphs .entry)) (now (tags .entry)) (now (homes .entry)) used) .glyphs ⌝ }
+    ensures homes { λ r. ⌜ now (homes .exit) ≡ ligatingLeaves (now (table .entry)) start (lineOf (now (glyphs .entry)) (now (tags .entry)) (now (homes .entry)) used) .homes ⌝ }
+{
+    answers::number(ligature::pass(table, start, glyphs, tags, homes, used))
 }

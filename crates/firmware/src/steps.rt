@@ -1,12 +1,19 @@
 // The exported steps: a state crosses as numbers, and comes back in the same place.
 use answers::Answer;
 use contextual::ContextualState;
+use insertion::Inserted;
+use insertion::InsertionState;
+use ligature::LigatureState;
 use rearrangement::RearrangementState;
 use rearrangement::Window;
 ghost use mathlib.Core.Path.{_≡_};
 ghost use Rattle.answers.specs.Numbers.{numberOf};
 ghost use Rattle.line.specs.Line.{lineOf};
-ghost use Rattle.firmware.specs.Steps.{isRefused, unlessRefused, noRearrangement, rearrangementFrom, rearrangementSlots, windowSlots, rearranged, flagNumber, noContext, contextualFrom, contextualSlots, contextual, contextualLeaves};
+ghost use Rattle.firmware.specs.Steps.{isRefused, unlessRefused, noRearrangement, rearrangementFrom, rearrangementSlots, windowSlots, rearranged, flagNumber, noContext, contextualFrom, contextualSlots, contextual, contextualLeaves, noInsertion, insertionFrom, insertionSlots, inserted, editSlots, noLigature, slotsFrom, areGlyphs, ligatureFrom, ligatureSlots, ligated, ligatedLeaves};
+ghost use Prim.Native.Nat.{_+_, _≤_};
+ghost use mathlib.Core.Bool.{true};
+ghost use lib.ListN.{length};
+ghost use lib.Seq.{paste};
 
 // The largest number of a 16-bit field.
 const WIDEST: u64 = 0xFFFF;
@@ -191,6 +198,276 @@ pub extern "C" fn aat_contextual_step(
         after.mark_index as u64,
         after.mark_id as u64,
     ];
+    *advance = step.advance;
+    answers::number(answer)
+}
+
+// The state that STATE refuses.
+fn no_insertion() -> InsertionState
+    ensures { λ r. ⌜ r ≡ noInsertion ⌝ }
+{
+    InsertionState {
+        state: 0,
+        mark: 0,
+        cycles: 0xFFFF,
+    }
+}
+
+// The state that three numbers say: state, mark, cycles.
+fn insertion_from(slots: &[u64; 3]) -> InsertionState
+    ensures { λ r. ⌜ r ≡ insertionFrom (now (slots .entry)) ⌝ }
+{
+    let state = slots[0];
+    let cycles = slots[2];
+    if WIDEST < state {
+        return no_insertion();
+    }
+    if WIDEST < cycles {
+        return no_insertion();
+    }
+    InsertionState {
+        state: state as u16,
+        mark: slots[1] as usize,
+        cycles: cycles as u16,
+    }
+}
+
+// The numbers of one insertion, the other places 0.
+fn put_insertion(slots: &mut [u64; 7], edit: Inserted)
+    ensures { λ _. ⌜ now (slots .exit) ≡ editSlots edit Inserted.None ⌝ }
+{
+    let Inserted::At {
+        place,
+        count,
+        glyphs,
+    } = edit
+    else {
+        *slots = [0, 0, 0, 0, 0, 0, 0];
+        return;
+    };
+    *slots = [1, place as u64, count as u64, glyphs as u64, 0, 0, 0];
+}
+
+// The numbers of a step's insertions: how many, then for each its place, its count and where its glyphs lie.
+fn put_insertions(slots: &mut [u64; 7], marked: Inserted, current: Inserted)
+    ensures { λ _. ⌜ now (slots .exit) ≡ editSlots marked current ⌝ }
+{
+    let Inserted::At {
+        place,
+        count,
+        glyphs,
+    } = marked
+    else {
+        put_insertion(slots, current);
+        return;
+    };
+    let Inserted::At {
+        place: place2,
+        count: count2,
+        glyphs: glyphs2,
+    } = current
+    else {
+        put_insertion(slots, marked);
+        return;
+    };
+    *slots = [
+        2,
+        place as u64,
+        count as u64,
+        glyphs as u64,
+        place2 as u64,
+        count2 as u64,
+        glyphs2 as u64,
+    ];
+}
+
+// A lone step of the insertion machine.
+#[no_mangle]
+pub extern "C" fn aat_insertion_step(
+    state: &mut [u64; 3],
+    table: &[u8],
+    start: usize,
+    length: usize,
+    room: usize,
+    index: usize,
+    glyph: u16,
+    ends: u32,
+    advance: &mut usize,
+    edits: &mut [u64; 7],
+) -> u32
+    ensures answer { λ r. ⌜ r ≡ numberOf (inserted (now (table .entry)) start (now (state .entry)) length room index glyph ends .answer) ⌝ }
+    ensures state { λ _. ⌜ now (state .exit) ≡ unlessRefused (inserted (now (table .entry)) start (now (state .entry)) length room index glyph ends .answer) (now (state .entry)) (insertionSlots (inserted (now (table .entry)) start (now (state .entry)) length room index glyph ends .state)) ⌝ }
+    ensures advance { λ _. ⌜ now (advance .exit) ≡ unlessRefused (inserted (now (table .entry)) start (now (state .entry)) length room index glyph ends .answer) (now (advance .entry)) (inserted (now (table .entry)) start (now (state .entry)) length room index glyph ends .advance) ⌝ }
+    ensures edits { λ _. ⌜ now (edits .exit) ≡ unlessRefused (inserted (now (table .entry)) start (now (state .entry)) length room index glyph ends .answer) (now (edits .entry)) (editSlots (inserted (now (table .entry)) start (now (state .entry)) length room index glyph ends .marked) (inserted (now (table .entry)) start (now (state .entry)) length room index glyph ends .current)) ⌝ }
+{
+    let given = insertion_from(state);
+    let step = given.step(table, start, length, room, index, glyph, ends != 0);
+    let answer = step.answer;
+    if is_refused(answer) {
+        return answers::number(answer);
+    }
+    let after = step.state;
+    *state = [after.state as u64, after.mark as u64, after.cycles as u64];
+    *advance = step.advance;
+    let marked = step.marked;
+    let current = step.current;
+    put_insertions(edits, marked, current);
+    answers::number(answer)
+}
+
+// The state that STATE refuses: more slots are used than there are.
+fn no_ligature() -> LigatureState
+    ensures { λ r. ⌜ r ≡ noLigature ⌝ }
+{
+    LigatureState {
+        state: 0,
+        places: [0; 32],
+        glyphs: [0; 32],
+        depth: 0xFFFF,
+    }
+}
+
+// Whether 32 numbers from some place on are no wider than a glyph.
+fn are_glyphs(slots: &[u64; 66], from: usize) -> bool
+    requires { ⌜ from ≤ 34 ⌝ }
+    ensures { λ r. ⌜ r ≡ areGlyphs (now (slots .entry)) from ⌝ }
+{
+    let mut slot = 0;
+    while slot < 32 {
+        if WIDEST < slots[from + slot] {
+            return false;
+        }
+        slot += 1;
+    }
+    true
+}
+
+// The 32 places from slot 2 on.
+fn places_from(slots: &[u64; 66]) -> [usize; 32]
+    ensures { λ r. ⌜ r ≡ slotsFrom (now (slots .entry)) 2 ⌝ }
+{
+    let mut places = [0; 32];
+    let mut slot = 0;
+    while slot < 32 {
+        places[slot] = slots[2 + slot] as usize;
+        slot += 1;
+    }
+    places
+}
+
+// The 32 glyphs from slot 34 on.
+fn glyphs_from(slots: &[u64; 66]) -> [u16; 32]
+    requires { ⌜ areGlyphs (now slots) 34 ≡ true ⌝ }
+    ensures { λ r. ⌜ r ≡ slotsFrom (now (slots .entry)) 34 ⌝ }
+{
+    let mut glyphs = [0; 32];
+    let mut slot = 0;
+    while slot < 32 {
+        glyphs[slot] = slots[34 + slot] as u16;
+        slot += 1;
+    }
+    glyphs
+}
+
+// The state that 66 numbers say: state, depth, 32 places, 32 glyphs.
+fn ligature_from(slots: &[u64; 66]) -> LigatureState
+    ensures { λ r. ⌜ r ≡ ligatureFrom (now (slots .entry)) ⌝ }
+{
+    let state = slots[0];
+    if WIDEST < state {
+        return no_ligature();
+    }
+    if !are_glyphs(slots, 34) {
+        return no_ligature();
+    }
+    LigatureState {
+        state: state as u16,
+        places: places_from(slots),
+        glyphs: glyphs_from(slots),
+        depth: slots[1] as usize,
+    }
+}
+
+// Writes 32 places, or 32 glyphs, into the slots from some place on.
+fn put_places(slots: &mut [u64], from: usize, places: &[usize])
+    requires { ⌜ (from + 32 ≤ length (now slots)) × (length (now places) ≡ 32) ⌝ }
+    ensures { λ _. ⌜ now (slots .exit) ≡ paste (now (slots .entry)) from (now (places .entry)) 32 ⌝ }
+{
+    let mut slot = 0;
+    while slot < 32 {
+        slots[from + slot] = places[slot] as u64;
+        slot += 1;
+    }
+}
+
+fn wide(glyph: u16) -> u64
+    ensures { λ r. ⌜ r ≡ glyph ⌝ }
+{
+    glyph as u64
+}
+
+fn put_glyphs(slots: &mut [u64], from: usize, glyphs: &[u16])
+    requires { ⌜ (from + 32 ≤ length (now slots)) × (length (now glyphs) ≡ 32) ⌝ }
+    ensures { λ _. ⌜ now (slots .exit) ≡ paste (now (slots .entry)) from (now (glyphs .entry)) 32 ⌝ }
+{
+    let mut slot = 0;
+    while slot < 32 {
+        slots[from + slot] = wide(glyphs[slot]);
+        slot += 1;
+    }
+}
+
+// The numbers of a state: state, depth, 32 places, 32 glyphs.
+fn put_ligature(slots: &mut [u64; 66], state: LigatureState)
+    ensures { λ _. ⌜ now (slots .exit) ≡ ligatureSlots (now (slots .entry)) state ⌝ }
+{
+    slots[0] = state.state as u64;
+    slots[1] = state.depth as u64;
+    let places = state.places;
+    let glyphs = state.glyphs;
+    put_places(slots, 2, &places);
+    put_glyphs(slots, 34, &glyphs);
+}
+
+// A lone step of the ligature machine.
+#[no_mangle]
+pub extern "C" fn aat_ligature_step(
+    state: &mut [u64; 66],
+    table: &[u8],
+    start: usize,
+    glyphs: &mut [u16],
+    tags: &[u16],
+    homes: &mut [u16],
+    used: usize,
+    index: usize,
+    glyph: u16,
+    ends: u32,
+    advance: &mut usize,
+) -> u32
+    ensures answer { λ r. ⌜ r ≡ numberOf (ligated (now (table .entry)) start (now (state .entry)) (lineOf (now (glyphs .entry)) (now (tags .entry)) (now (homes .entry)) used) index glyph ends .answer) ⌝ }
+    ensures state { λ _. ⌜ now (state .exit) ≡ unlessRefused (ligated (now (table .entry)) start (now (state .entry)) (lineOf (now (glyphs .entry)) (now (tags .entry)) (now (homes .entry)) used) index glyph ends .answer) (now (state .entry)) (ligatureSlots (now (state .entry)) (ligated (now (table .entry)) start (now (state .entry)) (lineOf (now (glyphs .entry)) (now (tags .entry)) (now (homes .entry)) used) index glyph ends .state)) ⌝ }
+    ensures glyphs { λ _. ⌜ now (glyphs .exit) ≡ ligatedLeaves (now (table .entry)) start (now (state .entry)) (lineOf (now (glyphs .entry)) (now (tags .entry)) (now (homes .entry)) used) index glyph ends .glyphs ⌝ }
+    ensures homes { λ _. ⌜ now (homes .exit) ≡ ligatedLeaves (now (table .entry)) start (now (state .entry)) (lineOf (now (glyphs .entry)) (now (tags .entry)) (now (homes .entry)) used) index glyph ends .homes ⌝ }
+    ensures advance { λ _. ⌜ now (advance .exit) ≡ unlessRefused (ligated (now (table .entry)) start (now (state .entry)) (lineOf (now (glyphs .entry)) (now (tags .entry)) (now (homes .entry)) used) index glyph ends .answer) (now (advance .entry)) (ligated (now (table .entry)) start (now (state .entry)) (lineOf (now (glyphs .entry)) (now (tags .entry)) (now (homes .entry)) used) index glyph ends .advance) ⌝ }
+{
+    let given = ligature_from(state);
+    let step = given.step(
+        table,
+        start,
+        glyphs,
+        tags,
+        homes,
+        used,
+        index,
+        glyph,
+        ends != 0,
+    );
+    let answer = step.answer;
+    if is_refused(answer) {
+        return answers::number(answer);
+    }
+    let after = step.state;
+    put_ligature(state, after);
     *advance = step.advance;
     answers::number(answer)
 }

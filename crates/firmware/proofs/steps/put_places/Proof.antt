@@ -1,0 +1,65 @@
+use mathlib.Core.Path.{refl}
+use borrow.Author.Needs.{needs}
+use Rattle.firmware.proofs.Slots.{put-more, put-done}
+use Rattle.line.proofs.Loops.{Pasting, pasting-start}
+use native.Mathlib.Omega.{arith}
+use Prim.Native.Nat.{_-_}
+use Rattle.firmware.proofs.steps.put_places.Statement.{statement}
+use Rattle.firmware.proofs.steps.put_places.Tie as tie
+
+abbrev Inv-loop : tie.InvT-loop
+Inv-loop slots₀ from places slot₀ slots slot = Pasting slots₀ from places 32 slots slot
+
+abbrev μ-loop : tie.MeasureT-loop
+μ-loop slots₀ from places slot₀ slots slot = 32 - slot
+
+loop-holds : tie.Need-loop-holds Inv-loop μ-loop
+loop-holds c = pasting-start _ _ _ _
+
+mul-slots : tie.Need-mul-slots Inv-loop μ-loop
+mul-slots c = omega arith
+
+shared-slice-read-slots : tie.Need-shared-slice-read-slots Inv-loop μ-loop
+shared-slice-read-slots c = omega arith
+
+add-slots : tie.Need-add-slots Inv-loop μ-loop
+add-slots c = omega (arith, c .before .before .before .pre .0)
+
+mul-slots-2 : tie.Need-mul-slots-2 Inv-loop μ-loop
+mul-slots-2 c = omega arith
+
+slice-write-slots : tie.Need-slice-write-slots Inv-loop μ-loop
+slice-write-slots c = omega (arith, c .before .before .loop .inv .long)
+
+add-slot : tie.Need-add-slot Inv-loop μ-loop
+add-slot c = omega arith
+
+loop-less : tie.Need-loop-less Inv-loop μ-loop
+loop-less c = omega arith
+
+loop-again : tie.Need-loop-again Inv-loop μ-loop
+loop-again c = put-more _ _ _ (c .before .before .before .pre .0) (c .before .before .before .pre .1) (c .before .before .loop .inv) (c .before .loop-test .taken) refl
+
+same-length : tie.Need-same-length Inv-loop μ-loop
+same-length c = c .before .loop .inv .long
+
+returns : tie.Need-returns Inv-loop μ-loop
+returns c = put-done _ _ _ (c .before .loop .inv) (c .loop-test .left)
+
+pub put-places-spec : {M : Type 1} → statement M
+put-places-spec =
+    tie.close
+    (tie.spec
+    Inv-loop
+    μ-loop
+    loop-holds
+    mul-slots
+    shared-slice-read-slots
+    add-slots
+    mul-slots-2
+    slice-write-slots
+    add-slot
+    loop-less
+    loop-again
+    same-length
+    returns)

@@ -1,0 +1,72 @@
+-- What passes add to the history: any sequence of them is covered by demand 3.
+use Prim.Native.Nat.{ℕ}
+use mathlib.Core.Path.{_≡_, refl}
+use mathlib.Core.Bool.{Bool}
+use mathlib.Core.List.{List}
+use native.Mathlib.Omega.{arith}
+use lib.ListN.{length, drop}
+use Rattle.state_tables.specs.declared.States.{States}
+use Rattle.line.specs.Line.{Line, Valid}
+use Rattle.line.specs.Edits.{added, inserted}
+use Rattle.line.specs.Changes.{editsOf, historyOf}
+use Rattle.line.specs.History.{Fits, Honest}
+use Rattle.machine.specs.Head.{bodyOf}
+use Rattle.insertion.specs.Lists.{countOf, changesOf}
+use Rattle.insertion.specs.Insertion.{fresh, rest, next, machine, passed}
+use Rattle.insertion.specs.Calls.{opened, worked, workLeaves, passCall, callLeaves, PassCall, WorkCall}
+use Rattle.insertion.specs.declared.Inserted.{Inserted}
+use Rattle.insertion.specs.declared.Inserted.the-variants as Inserted′
+use Rattle.insertion.specs.declared.InsertionState.{InsertionState}
+use Rattle.insertion.specs.declared.InsertionStep.{InsertionStep}
+use Rattle.insertion.proofs.Lists.{length-glyphsAt}
+use Rattle.insertion.proofs.Shapes.{next-fits}
+use Rattle.insertion.proofs.Fitting.{inserted-both, fitting-pass, fitting-made, fitting-call}
+
+-- an insertion adds as many places as it has glyphs
+inserted-edit : (bytes : List ℕ) (edit : Inserted) → inserted (historyOf (changesOf bytes edit)) ≡ countOf edit
+unfolding historyOf editsOf inserted added
+inserted-edit bytes Inserted′.None = refl
+inserted-edit bytes (Inserted′.At place count glyphs) = omega (arith, length-glyphsAt bytes glyphs count)
+
+step-fits : (bytes : List ℕ) (states : States) (s : InsertionState) (l : Line) (i g : ℕ) (e : Bool) → Valid l → Fits (machine bytes states s l i g e .changes) l
+unfolding machine
+step-fits bytes states s l i g e v =
+    let step : InsertionStep = next bytes states s (l .used) (length (l .glyphs)) i g e in
+    let f = next-fits bytes states s (l .used) (length (l .glyphs)) i g e (v .within) refl in
+    omega (
+      arith,
+      f .within,
+      inserted-both (changesOf bytes (step .marked)) (changesOf bytes (step .current)),
+      inserted-edit bytes (step .marked),
+      inserted-edit bytes (step .current),
+    )
+
+passed-fits : (bytes : List ℕ) (states : States) (l : Line) → Valid l → Fits (passed bytes states l .changes) l
+unfolding passed
+passed-fits bytes states l v = fitting-pass (machine bytes states) (step-fits bytes states) (rest fresh l 0) fresh l 0 v
+
+pub passes-honest : Honest
+    (λ (call : PassCall) l. callLeaves (call .table) (call .start) l)
+    (λ (call : PassCall) l. passCall (call .table) (call .start) l .changes)
+unfolding passCall callLeaves
+passes-honest =
+    record {
+      made = λ call l v. refl;
+      legal = λ call l v.
+          fitting-call l v (λ states. passed (bodyOf (drop (call .start) (call .table))) states l)
+          (λ states. passed-fits (bodyOf (drop (call .start) (call .table))) states l v)
+          (length (call .table)) (opened (drop (call .start) (call .table)));
+    }
+
+-- and those of a run
+pub works-honest : Honest
+    (λ (call : WorkCall) l. workLeaves (call .bytes) l)
+    (λ (call : WorkCall) l. worked (call .bytes) l .changes)
+unfolding worked workLeaves
+works-honest =
+    record {
+      made = λ call l v. refl;
+      legal = λ call l v.
+          fitting-made l v (λ states. passed (bodyOf (call .bytes)) states l) (λ states. passed-fits (bodyOf (call .bytes)) states l v)
+          (opened (call .bytes));
+    }

@@ -1,0 +1,57 @@
+use mathlib.Core.Path.{sym, _∙_}
+use Rattle.insertion.specs.Insertion.{acted}
+use Rattle.insertion.proofs.Lists.{insertion-fits}
+use borrow.Author.Needs.{needs}
+use Rattle.insertion.proofs.InsertionState.act.Statement.{statement}
+use Rattle.insertion.proofs.InsertionState.act.Tie as tie
+
+two-numbers-requires : tie.Need-two-numbers-requires
+two-numbers-requires c κs = search needs
+
+with-state-requires : tie.Need-with-state-requires
+with-state-requires c κs = search needs
+
+is-set-requires : tie.Need-is-set-requires
+is-set-requires c κs = search needs
+
+place-of-requires : tie.Need-place-of-requires
+place-of-requires c κs = search needs
+
+insertion-of-requires : tie.Need-insertion-of-requires
+insertion-of-requires c κs = search needs
+
+enum-known-tried : tie.Need-enum-known-tried
+enum-known-tried c = search needs
+
+follow-requires : tie.Need-follow-requires
+follow-requires c κs = let f = insertion-fits _ _ _ _ _ _ _ (search needs) (c .before .before .before .insertion-of .ensures) (c .before .tried .given .1) in (search needs, f .within, search needs)
+
+enum-known-tried-2 : tie.Need-enum-known-tried-2
+enum-known-tried-2 c = search needs
+
+stopped-requires : tie.Need-stopped-requires
+stopped-requires c κs = search needs
+
+returns : tie.Need-returns
+unfolding acted
+returns c = rw (← (c .before .before .before .before .before .before .before .before .two-numbers .ensures .1), ← (c .before .before .before .before .before .before .is-set .ensures), ← (c .before .before .before .before .before .place-of .ensures), sym (c .before .before .before .before .insertion-of .ensures) ∙ c .before .before .tried .given .1, c .follow .ensures, c .before .before .before .before .before .before .before .with-state .ensures, c .before .before .before .before .before .before .before .before .two-numbers .ensures .0, acted)
+
+returns-2 : tie.Need-returns-2
+unfolding acted
+returns-2 c = rw (← (c .before .before .before .before .before .before .before .before .two-numbers .ensures .1), ← (c .before .before .before .before .before .before .is-set .ensures), ← (c .before .before .before .before .before .place-of .ensures), sym (c .before .before .before .before .insertion-of .ensures) ∙ c .before .before .tried2 .given .1, c .stopped .ensures, c .before .before .before .before .before .before .before .with-state .ensures, acted)
+
+pub act-spec : {M : Type 1} → statement M
+act-spec =
+    tie.close
+    (tie.spec
+    two-numbers-requires
+    with-state-requires
+    is-set-requires
+    place-of-requires
+    insertion-of-requires
+    enum-known-tried
+    follow-requires
+    enum-known-tried-2
+    stopped-requires
+    returns
+    returns-2)

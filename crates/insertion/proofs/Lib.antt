@@ -1,0 +1,10 @@
+-- Laws of the insertion machine.
+mod Lists
+mod Shapes
+mod Edits
+pub mod Passes
+mod Steps
+mod Calls
+pub mod Fitting
+pub mod Honesty
+pub mod Manual

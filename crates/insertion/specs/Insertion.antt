@@ -1,0 +1,120 @@
+-- The insertion machine, as the crate's `next`, and its pass.
+use Prim.Native.Nat.{ℕ, _+_, _*_, _-_, _/_, _%_, min}
+use mathlib.Core.Bool.{Bool, cond}
+use mathlib.Core.List.{List}
+use lib.ListN.{length}
+use Rattle.laws.specs.Choose.{ifEq}
+use Rattle.answers.specs.declared.Answer.{Answer}
+use Rattle.answers.specs.declared.Answer.the-variants as Answer′
+use Rattle.parse.specs.Reads.{u16At}
+use Rattle.state_tables.specs.declared.States.{States}
+use Rattle.state_tables.specs.declared.entries.Entry.{Entry}
+use Rattle.state_tables.specs.Entries.{entryOf, onEntry}
+use Rattle.line.specs.Line.{Line}
+use Rattle.line.specs.Changes.{applyAll}
+use Rattle.machine.specs.Entry.{isSet, classHere}
+use Rattle.machine.specs.Stall.{stalled}
+use Rattle.machine.specs.declared.Stalled.{Stalled}
+use Rattle.machine.specs.Pass.{Machine, Passed, passOf}
+use Rattle.insertion.specs.Lists.{insertionOf, onTried, countOf, bothChanges}
+use Rattle.insertion.specs.declared.Inserted.{Inserted}
+use Rattle.insertion.specs.declared.Inserted.the-variants as Inserted′
+use Rattle.insertion.specs.declared.InsertionState.{InsertionState}
+use Rattle.insertion.specs.declared.InsertionStep.{InsertionStep}
+
+-- the state at the start of a pass
+abbrev pub fresh : InsertionState
+fresh = record { state = 0; mark = 0; cycles = 0 }
+
+-- an insertion is before a place or behind it; above the length it is at the length
+unfoldable pub placeOf : (at : ℕ) → (before : Bool) → (length : ℕ) → ℕ
+placeOf at before length = min (cond before at (at + 1)) length
+
+-- the entry's flags: 0x8000 sets the mark, 0x4000 is don't advance, 0x0800 and 0x0400 put the current and the marked glyphs before their
+-- place; then five bits each, the counts of the current and of the marked glyphs
+abbrev pub currentCount : (flags : ℕ) → ℕ
+currentCount flags = flags / 32 % 32
+
+abbrev pub markedCount : (flags : ℕ) → ℕ
+markedCount flags = flags % 32
+
+-- the advance is both counts plus 1, or the marked count alone where the stall rule does not advance
+abbrev pub advanceOf : (marked current one : ℕ) → ℕ
+advanceOf marked current one = ifEq one 0 marked (marked + current + 1)
+
+-- the state that an entry leads to
+abbrev pub withState : InsertionState → (state : ℕ) → InsertionState
+withState s state = record { state = state; mark = s .mark; cycles = s .cycles }
+
+-- the mark is set to the index as given where its flag says so
+abbrev pub withMark : InsertionState → (sets : Bool) → (index : ℕ) → InsertionState
+withMark s sets index = record { state = s .state; mark = cond sets index (s .mark); cycles = s .cycles }
+
+-- an answer before the insertion that would have been next
+abbrev pub stopped : Answer → InsertionState → Inserted → InsertionStep
+stopped answer s marked = record { answer = answer; state = s; advance = 0; marked = marked; current = Inserted′.None }
+
+-- after both insertions the stall rule
+unfoldable pub finished : InsertionState → (flags : ℕ) → (marked current : Inserted) → InsertionStep
+finished s flags marked current =
+    let to : Stalled = stalled (s .cycles) (isSet flags 0x4000) in
+    record {
+      answer = Answer′.Done;
+      state = record { state = s .state; mark = s .mark; cycles = to .cycles };
+      advance = advanceOf (countOf marked) (countOf current) (to .advance);
+      marked = marked;
+      current = current;
+    }
+
+-- after the marked glyphs the mark may be set, to the index as given; the current glyphs then go where the index stands after the
+-- marked ones, in a line that is longer by them
+unfoldable pub followed : List ℕ → InsertionState → (flags number : ℕ) → Inserted → (index length room : ℕ) → InsertionStep
+followed bytes s flags number marked index length room =
+    let s′ : InsertionState = withMark s (isSet flags 0x8000) index in
+    onTried
+    (insertionOf bytes number (currentCount flags)
+    (placeOf (index + countOf marked) (isSet flags 0x800) (length + countOf marked))
+    (length + countOf marked) room)
+    (λ current. finished s′ flags marked current)
+    (λ answer. stopped answer s′ marked)
+
+-- an entry leads to its state, and its payload is the numbers of two lists: the current glyphs', then the marked ones', which come first
+unfoldable pub acted : List ℕ → InsertionState → Entry → (index length room : ℕ) → InsertionStep
+acted bytes s entry index length room =
+    let s′ : InsertionState = withState s (entry .state) in
+    onTried
+    (insertionOf bytes (u16At bytes (entry .payload + 2)) (markedCount (entry .flags))
+    (placeOf (s .mark) (isSet (entry .flags) 0x400) length) length room)
+    (λ marked. followed bytes s′ (entry .flags) (u16At bytes (entry .payload)) marked index length room)
+    (λ answer. stopped answer s′ Inserted′.None)
+
+-- a step: class, then entry, then what the entry does; without an entry it is ENDED and the state as it was
+unfoldable pub next : List ℕ → States → InsertionState → (length room index glyph : ℕ) → (ends : Bool) → InsertionStep
+next bytes states s length room index glyph ends =
+    onEntry (entryOf bytes states (s .state) (classHere bytes states glyph ends) 4)
+    (λ entry. acted bytes s entry index length room)
+    (stopped Answer′.Ended s Inserted′.None)
+
+-- the machine that passes are made of: its room is the line's
+unfoldable pub machine : List ℕ → States → Machine InsertionState
+machine bytes states s l index glyph ends =
+    let step : InsertionStep = next bytes states s (l .used) (length (l .glyphs)) index glyph ends in
+    record {
+      answer = step .answer;
+      state = step .state;
+      advance = step .advance;
+      changes = bothChanges bytes (step .marked) (step .current);
+    }
+
+-- as many steps as a pass may have left: 18 for each place of the room that it has not passed, less those that did not advance, and the
+-- end call. Glyphs that are inserted take up room, so that the line's growth does not add any
+abbrev pub rest : InsertionState → Line → ℕ → ℕ
+rest s l i = (length (l .glyphs) - i) * 18 + (18 - s .cycles)
+
+-- the pass over a line
+unfoldable pub passed : List ℕ → States → Line → Passed
+passed bytes states l = passOf (machine bytes states) (rest fresh l 0) fresh l
+
+-- the line that it leaves
+unfoldable pub passLeaves : List ℕ → States → Line → Line
+passLeaves bytes states l = applyAll (passed bytes states l .changes) l

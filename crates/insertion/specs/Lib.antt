@@ -1,0 +1,5 @@
+-- The insertion machine.
+pub mod Lists
+pub mod Insertion
+pub mod Calls
+pub mod Manual

@@ -1,0 +1,73 @@
+-- What passes and steps add to the history: the ligatures that they make. Any sequence of them is covered by demand 3.
+use Prim.Native.Nat.{ℕ}
+use mathlib.Core.Path.{refl}
+use mathlib.Core.Bool.{Bool}
+use mathlib.Core.List.{List}
+use lib.ListN.{length, drop}
+use Rattle.answers.specs.Refuse.{refuse}
+use Rattle.answers.specs.declared.Check.{Check}
+use Rattle.answers.specs.declared.Check.the-variants as Check′
+use Rattle.state_tables.specs.declared.States.{States}
+use Rattle.state_tables.specs.declared.Made.{Made}
+use Rattle.state_tables.specs.declared.Made.the-variants as Made′
+use Rattle.line.specs.Line.{Line}
+use Rattle.line.specs.History.{Honest}
+use Rattle.machine.specs.Head.{bodyOf}
+use Rattle.machine.specs.Call.{passTests}
+use Rattle.machine.proofs.Quiet.{Quiet, quiet-none, quiet-fits, quiet-pass, quiet-made, quiet-tested}
+use Rattle.ligature.specs.Ligature.{fresh, rest, stackIn, next, machine, passed}
+use Rattle.ligature.specs.Calls.{opened, worked, workLeaves, passCall, callLeaves, stepTests, stepBy, stepCall, stepLeaves, PassCall, StepCall}
+use Rattle.ligature.specs.declared.LigatureState.{LigatureState}
+use Rattle.ligature.proofs.Ligations.{quiet-ligations}
+
+quiet-step : (bytes : List ℕ) (states : States) (s : LigatureState) (l : Line) (i g : ℕ) (e : Bool) → Quiet (machine bytes states s l i g e .changes)
+unfolding machine
+quiet-step bytes states s l i g e = quiet-ligations (next bytes states (s .state) (stackIn s) i g e .made)
+
+quiet-passed : (bytes : List ℕ) (states : States) (l : Line) → Quiet (passed bytes states l .changes)
+unfolding passed
+quiet-passed bytes states l = quiet-pass (machine bytes states) (quiet-step bytes states) (rest fresh l 0) fresh l 0
+
+pub quiet-worked : (bytes : List ℕ) (l : Line) → Quiet (worked bytes l .changes)
+unfolding worked
+quiet-worked bytes l = quiet-made (opened bytes) _ (λ states. quiet-passed (bodyOf bytes) states l)
+
+pub quiet-call : (table : List ℕ) (start : ℕ) (l : Line) → Quiet (passCall table start l .changes)
+unfolding passCall
+quiet-call table start l =
+    quiet-tested (refuse (passTests (length table) l (opened (drop start table)))) (worked (drop start table) l) (quiet-worked (drop start table) l)
+
+-- the pass by the subtable that some bytes begin with
+pub works-honest : Honest workLeaves (λ bytes l. worked bytes l .changes)
+unfolding workLeaves
+works-honest = record { made = λ bytes l v. refl; legal = λ bytes l v. quiet-fits _ l v (quiet-worked bytes l) }
+
+pub passes-honest : Honest
+    (λ (call : PassCall) l. callLeaves (call .table) (call .start) l)
+    (λ (call : PassCall) l. passCall (call .table) (call .start) l .changes)
+unfolding callLeaves
+passes-honest =
+    record {
+      made = λ call l v. refl;
+      legal = λ call l v. quiet-fits _ l v (quiet-call (call .table) (call .start) l);
+    }
+
+pub quiet-step-call : (table : List ℕ) (start : ℕ) (s : LigatureState) (l : Line) (i g : ℕ) (e : Bool) → Quiet (stepCall table start s l i g e .changes)
+unfolding stepCall
+quiet-step-call table start s l i g e = go (refuse (stepTests (length table) l i s (opened (drop start table)))) (opened (drop start table))
+  where
+    go : (check : Check) (made : Made) → Quiet (stepBy check made s (λ states. machine (bodyOf (drop start table)) states s l i g e) .changes)
+    go (Check′.Refused why) made = quiet-none
+    go Check′.Passed Made′.Short = quiet-none
+    go Check′.Passed (Made′.Ready states) = quiet-step (bodyOf (drop start table)) states s l i g e
+
+pub steps-honest : Honest
+    (λ (call : StepCall) l. stepLeaves (call .table) (call .start) (call .state) l (call .index) (call .glyph) (call .ends))
+    (λ (call : StepCall) l. stepCall (call .table) (call .start) (call .state) l (call .index) (call .glyph) (call .ends) .changes)
+unfolding stepLeaves
+steps-honest =
+    record {
+      made = λ call l v. refl;
+      legal = λ call l v.
+          quiet-fits _ l v (quiet-step-call (call .table) (call .start) (call .state) l (call .index) (call .glyph) (call .ends));
+    }

@@ -1,0 +1,11 @@
+-- Laws of the ligature machine.
+mod Offsets
+mod Ligations
+mod Acting
+mod Entering
+mod Running
+mod Scanning
+mod Passes
+mod Calls
+pub mod Manual
+pub mod Honesty

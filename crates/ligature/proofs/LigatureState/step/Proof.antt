@@ -1,0 +1,85 @@
+use Rattle.ligature.proofs.Calls.{step-fits, step-refused, step-headless, step-worked}
+use borrow.Author.Needs.{needs}
+use Rattle.ligature.proofs.LigatureState.step.Statement.{statement}
+use Rattle.ligature.proofs.LigatureState.step.Tie as tie
+
+from-requires : tie.Need-from-requires
+from-requires c κs = search needs
+
+open-requires : tie.Need-open-requires
+open-requires c κs = search needs
+
+refuse-step-requires : tie.Need-refuse-step-requires
+refuse-step-requires c κs = search needs
+
+enum-known-why : tie.Need-enum-known-why
+enum-known-why c = search needs
+
+same-length : tie.Need-same-length
+same-length c = search needs
+
+same-length-2 : tie.Need-same-length-2
+same-length-2 c = search needs
+
+returns : tie.Need-returns
+returns c = let e = step-refused _ _ _ _ _ _ _ _ _ _ (c .before .before .before .before .before .before .before .from .ensures) (c .before .before .before .before .before .before .«open» .ensures) (c .before .before .before .refuse-step .ensures) (c .before .why .given .1) in (e .answers, (e .left, e .joined))
+
+enum-told : tie.Need-enum-told
+enum-told c = search needs
+
+enum-known-made : tie.Need-enum-known-made
+enum-known-made c = search needs
+
+enum-told-2 : tie.Need-enum-told-2
+enum-told-2 c = search needs
+
+same-length-3 : tie.Need-same-length-3
+same-length-3 c = search needs
+
+same-length-4 : tie.Need-same-length-4
+same-length-4 c = search needs
+
+returns-2 : tie.Need-returns-2
+returns-2 c = let e = step-headless _ _ _ _ _ _ _ _ _ _ (c .before .before .before .before .before .before .before .before .from .ensures) (c .before .before .before .before .before .before .before .«open» .ensures) (c .before .before .before .before .refuse-step .ensures) (c .before .before .enum-told .given .1) (c .enum-told2 .given .1) in (e .answers, (e .left, e .joined))
+
+from-requires-2 : tie.Need-from-requires-2
+from-requires-2 c κs = search needs
+
+next-requires : tie.Need-next-requires
+next-requires c κs = step-fits _ _ _ _ _ _ _ _ (c .before .before .before .before .before .before .before .before .before .before .before .before .refuse-step .ensures) (c .before .before .before .before .before .before .before .before .before .before .enum-told .given .1)
+
+advance-of-requires : tie.Need-advance-of-requires
+advance-of-requires c κs = search needs
+
+same-length-5 : tie.Need-same-length-5
+same-length-5 c = search needs
+
+same-length-6 : tie.Need-same-length-6
+same-length-6 c = search needs
+
+returns-3 : tie.Need-returns-3
+returns-3 c = let e = step-worked _ _ _ _ _ _ _ _ _ _ (c .before .before .before .before .before .before .before .before .before .before .before .before .before .before .before .before .before .before .before .before .before .before .from .ensures) (c .before .before .before .before .before .before .before .before .before .before .before .before .before .before .before .before .before .before .before .before .before .«open» .ensures) (c .before .before .before .before .before .before .before .before .before .before .before .before .before .before .before .before .before .before .refuse-step .ensures) (c .before .before .before .before .before .before .before .before .before .before .before .before .before .before .before .before .enum-told .given .1) (c .before .before .before .before .before .before .before .before .before .before .before .before .before .before .made .given .1) (c .before .before .before .before .before .before .before .before .before .before .from2 .ensures) (record { answers = c .before .before .before .before .before .next .ensures .0; placed = c .before .before .before .before .before .next .ensures .1 .0; stored = c .before .before .before .before .before .next .ensures .1 .1 .0; written = c .before .before .before .before .before .next .ensures .1 .1 .1 .0; joined = c .before .before .before .before .before .next .ensures .1 .1 .1 .1 .0 }) (c .advance-of .ensures) in (e .answers, (e .left, e .joined))
+
+pub step-spec : {M : Type 1} → statement M
+step-spec =
+    tie.close
+    (tie.spec
+    from-requires
+    open-requires
+    refuse-step-requires
+    enum-known-why
+    same-length
+    same-length-2
+    returns
+    enum-told
+    enum-known-made
+    enum-told-2
+    same-length-3
+    same-length-4
+    returns-2
+    from-requires-2
+    next-requires
+    advance-of-requires
+    same-length-5
+    same-length-6
+    returns-3)

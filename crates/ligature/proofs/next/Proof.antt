@@ -1,0 +1,127 @@
+use Prim.Native.Nat.{_-_}
+use native.Mathlib.Omega.{arith}
+use borrow.Author.Needs.{needs}
+use Rattle.state_tables.proofs.Laws.{entry-payload}
+use Rattle.line.specs.Line.{lineOf}
+use Rattle.ligature.specs.Ligature.{stackOf, next}
+use Rattle.ligature.proofs.Running.{Running, running-start, running-none, running-ended, running-stops, running-spent, running-goes, running-over}
+use Rattle.ligature.proofs.next.Statement.{statement}
+use Rattle.ligature.proofs.next.Tie as tie
+
+abbrev Inv-loop : tie.InvT-loop
+Inv-loop bytes states state places₀ stack₀ depth glyphs₀ tags homes₀ used index glyph ends class at₀ deep₀ cycles₀ places stack glyphs homes at deep cycles =
+    Running bytes states index glyph class used tags (lineOf glyphs₀ tags homes₀ used) (next bytes states state (stackOf places₀ stack₀ depth) index glyph ends) places stack glyphs homes at deep cycles
+
+abbrev μ-loop : tie.MeasureT-loop
+μ-loop bytes states state places₀ stack₀ depth glyphs₀ tags homes₀ used index glyph ends class at₀ deep₀ cycles₀ places stack glyphs homes at deep cycles = 18 - cycles
+
+class-at-requires : tie.Need-class-at-requires Inv-loop μ-loop
+class-at-requires c κs = search needs
+
+loop-holds : tie.Need-loop-holds Inv-loop μ-loop
+loop-holds c = running-start _ _ _ _ _ _ _ _ _ _ _ _ _ (c .class-at .ensures) (c .before .before .before .before .before .pre .0)
+
+add-loop : tie.Need-add-loop Inv-loop μ-loop
+add-loop c = search needs
+
+entry-of-requires : tie.Need-entry-of-requires Inv-loop μ-loop
+entry-of-requires c κs = search needs
+
+enum-known-entry : tie.Need-enum-known-entry Inv-loop μ-loop
+enum-known-entry c = search needs
+
+enum-told : tie.Need-enum-told Inv-loop μ-loop
+enum-told c = search needs
+
+same-length : tie.Need-same-length Inv-loop μ-loop
+same-length c = c .before .before .before .before .loop .inv .long
+
+same-length-2 : tie.Need-same-length-2 Inv-loop μ-loop
+same-length-2 c = c .before .before .before .before .loop .inv .all
+
+returns : tie.Need-returns Inv-loop μ-loop
+returns c = let e = running-none _ _ _ _ _ _ _ _ _ (c .before .before .before .before .loop .inv) (c .before .before .entry-of .ensures) (c .enum-told .given .1) in (e .answers, (e .placed, (e .stored, (e .written, (e .joined, c .before .before .before .before .loop .inv .within)))))
+
+enter-requires : tie.Need-enter-requires Inv-loop μ-loop
+enter-requires c κs = let p = entry-payload _ _ _ _ _ (c .before .before .before .before .before .before .before .entry-of .ensures) (c .before .before .before .before .before .entry .given .1) in omega (arith, p, c .before .before .before .before .before .before .before .before .before .loop .inv .within, c .before .before .before .before .before .before .before .before .before .loop .inv .spent, c .before .before .before .before .before .before .before .before .before .loop .inv .long, c .before .before .before .before .before .before .before .before .before .before .before .before .before .before .before .pre)
+
+same-length-3 : tie.Need-same-length-3 Inv-loop μ-loop
+same-length-3 c = omega (arith, c .before .before .before .before .before .before .before .before .before .before .before .before .before .before .before .loop .inv .long, c .before .before .before .before .before .enter .kept .1 .1 .1 .1 .1 .0)
+
+same-length-4 : tie.Need-same-length-4 Inv-loop μ-loop
+same-length-4 c = omega (arith, c .before .before .before .before .before .before .before .before .before .before .before .before .before .before .before .loop .inv .all, c .before .before .before .before .before .enter .kept .1 .1 .1 .1 .1 .1 .1 .0)
+
+returns-2 : tie.Need-returns-2 Inv-loop μ-loop
+returns-2 c = let e = running-ended _ _ _ _ _ _ _ _ _ (c .before .before .before .before .before .before .before .before .before .before .before .before .before .before .before .loop .inv) (c .before .before .before .before .before .before .before .before .before .before .before .before .before .entry-of .ensures) (c .before .before .before .before .before .before .before .before .before .before .before .entry .given .1) (record { answers = c .before .before .before .before .before .enter .ensures .0; placed = c .before .before .before .before .before .enter .ensures .1 .0; stored = c .before .before .before .before .before .enter .ensures .1 .1 .0; written = c .before .before .before .before .before .enter .ensures .1 .1 .1 .0; joined = c .before .before .before .before .before .enter .ensures .1 .1 .1 .1 .0 }) (c .if1 .taken) in (e .answers, (e .placed, (e .stored, (e .written, (e .joined, c .before .before .before .before .before .enter .ensures .1 .1 .1 .1 .1 .0)))))
+
+is-set-requires : tie.Need-is-set-requires Inv-loop μ-loop
+is-set-requires c κs = search needs
+
+same-length-5 : tie.Need-same-length-5 Inv-loop μ-loop
+same-length-5 c = omega (arith, c .before .before .before .before .before .before .before .before .before .before .before .before .before .before .before .before .before .loop .inv .long, c .before .before .before .before .before .before .before .enter .kept .1 .1 .1 .1 .1 .0)
+
+same-length-6 : tie.Need-same-length-6 Inv-loop μ-loop
+same-length-6 c = omega (arith, c .before .before .before .before .before .before .before .before .before .before .before .before .before .before .before .before .before .loop .inv .all, c .before .before .before .before .before .before .before .enter .kept .1 .1 .1 .1 .1 .1 .1 .0)
+
+returns-3 : tie.Need-returns-3 Inv-loop μ-loop
+returns-3 c = let e = running-stops _ _ _ _ _ _ _ _ _ (c .before .before .before .before .before .before .before .before .before .before .before .before .before .before .before .before .before .loop .inv) (c .before .before .before .before .before .before .before .before .before .before .before .before .before .before .before .entry-of .ensures) (c .before .before .before .before .before .before .before .before .before .before .before .before .before .entry .given .1) (record { answers = c .before .before .before .before .before .before .before .enter .ensures .0; placed = c .before .before .before .before .before .before .before .enter .ensures .1 .0; stored = c .before .before .before .before .before .before .before .enter .ensures .1 .1 .0; written = c .before .before .before .before .before .before .before .enter .ensures .1 .1 .1 .0; joined = c .before .before .before .before .before .before .before .enter .ensures .1 .1 .1 .1 .0 }) (c .before .before .if1 .left) (c .before .is-set .ensures) (c .if2 .taken) in (e .answers, (e .placed, (e .stored, (e .written, (e .joined, c .before .before .before .before .before .before .before .enter .ensures .1 .1 .1 .1 .1 .0)))))
+
+same-length-7 : tie.Need-same-length-7 Inv-loop μ-loop
+same-length-7 c = omega (arith, c .before .before .before .before .before .before .before .before .before .before .before .before .before .before .before .before .before .before .before .loop .inv .long, c .before .before .before .before .before .before .before .before .before .enter .kept .1 .1 .1 .1 .1 .0)
+
+same-length-8 : tie.Need-same-length-8 Inv-loop μ-loop
+same-length-8 c = omega (arith, c .before .before .before .before .before .before .before .before .before .before .before .before .before .before .before .before .before .before .before .loop .inv .all, c .before .before .before .before .before .before .before .before .before .enter .kept .1 .1 .1 .1 .1 .1 .1 .0)
+
+returns-4 : tie.Need-returns-4 Inv-loop μ-loop
+returns-4 c = let e = running-spent _ _ _ _ _ _ _ _ _ (c .before .before .before .before .before .before .before .before .before .before .before .before .before .before .before .before .before .before .before .loop .inv) (c .before .before .before .before .before .before .before .before .before .before .before .before .before .before .before .before .before .entry-of .ensures) (c .before .before .before .before .before .before .before .before .before .before .before .before .before .before .before .entry .given .1) (record { answers = c .before .before .before .before .before .before .before .before .before .enter .ensures .0; placed = c .before .before .before .before .before .before .before .before .before .enter .ensures .1 .0; stored = c .before .before .before .before .before .before .before .before .before .enter .ensures .1 .1 .0; written = c .before .before .before .before .before .before .before .before .before .enter .ensures .1 .1 .1 .0; joined = c .before .before .before .before .before .before .before .before .before .enter .ensures .1 .1 .1 .1 .0 }) (c .before .before .before .before .if1 .left) (c .before .before .before .is-set .ensures) (c .before .before .if2 .left) (c .if3 .taken) in (e .answers, (e .placed, (e .stored, (e .written, (e .joined, c .before .before .before .before .before .before .before .before .before .enter .ensures .1 .1 .1 .1 .1 .0)))))
+
+add-cycles : tie.Need-add-cycles Inv-loop μ-loop
+add-cycles c = omega (arith, c .before .if3 .left)
+
+loop-less : tie.Need-loop-less Inv-loop μ-loop
+loop-less c = omega (arith, c .before .if3 .left, c .before .before .before .before .before .before .before .before .before .before .before .before .before .before .before .before .before .before .before .before .loop .inv .spent, c .before .before .before .before .before .before .before .before .before .before .enter .ensures .1 .1 .1 .1 .1 .1)
+
+loop-again : tie.Need-loop-again Inv-loop μ-loop
+loop-again c = running-goes _ _ _ _ _ _ _ _ _ (c .before .before .before .before .before .before .before .before .before .before .before .before .before .before .before .before .before .before .before .before .loop .inv) (c .before .before .before .before .before .before .before .before .before .before .before .before .before .before .before .before .before .before .entry-of .ensures) (c .before .before .before .before .before .before .before .before .before .before .before .before .before .before .before .before .entry .given .1) (record { answers = c .before .before .before .before .before .before .before .before .before .before .enter .ensures .0; placed = c .before .before .before .before .before .before .before .before .before .before .enter .ensures .1 .0; stored = c .before .before .before .before .before .before .before .before .before .before .enter .ensures .1 .1 .0; written = c .before .before .before .before .before .before .before .before .before .before .enter .ensures .1 .1 .1 .0; joined = c .before .before .before .before .before .before .before .before .before .before .enter .ensures .1 .1 .1 .1 .0 }) (c .before .before .before .before .before .if1 .left) (c .before .before .before .before .is-set .ensures) (c .before .before .before .if2 .left) (c .before .if3 .left) (c .before .before .before .before .before .before .before .before .before .before .enter .ensures .1 .1 .1 .1 .1 .1) (c .before .before .before .before .before .before .before .before .before .before .enter .ensures .1 .1 .1 .1 .1 .0) (c .before .before .before .before .before .before .before .before .before .before .enter .kept .1 .1 .1 .1 .1 .0) (c .before .before .before .before .before .before .before .before .before .before .enter .kept .1 .1 .1 .1 .1 .1 .1 .0)
+
+same-length-9 : tie.Need-same-length-9 Inv-loop μ-loop
+same-length-9 c = c .before .loop .inv .long
+
+same-length-10 : tie.Need-same-length-10 Inv-loop μ-loop
+same-length-10 c = c .before .loop .inv .all
+
+returns-5 : tie.Need-returns-5 Inv-loop μ-loop
+returns-5 c = running-over _ _ _ _ _ _ _ _ _ (c .before .loop .inv) (c .loop-test .left)
+
+pub next-spec : {M : Type 1} → statement M
+next-spec =
+    tie.close
+    (tie.spec
+    Inv-loop
+    μ-loop
+    class-at-requires
+    loop-holds
+    add-loop
+    entry-of-requires
+    enum-known-entry
+    enum-told
+    same-length
+    same-length-2
+    returns
+    enter-requires
+    same-length-3
+    same-length-4
+    returns-2
+    is-set-requires
+    same-length-5
+    same-length-6
+    returns-3
+    same-length-7
+    same-length-8
+    returns-4
+    add-cycles
+    loop-less
+    loop-again
+    same-length-9
+    same-length-10
+    returns-5)

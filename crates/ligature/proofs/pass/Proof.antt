@@ -1,0 +1,61 @@
+use Rattle.ligature.specs.Calls.{callLeaves}
+use Rattle.line.specs.Line.{lineOf}
+use Rattle.ligature.proofs.Calls.{call-refused, call-works, taken-fits}
+use borrow.Author.Needs.{needs}
+use Rattle.ligature.proofs.pass.Statement.{statement}
+use Rattle.ligature.proofs.pass.Tie as tie
+
+from-requires : tie.Need-from-requires
+from-requires c κs = search needs
+
+open-requires : tie.Need-open-requires
+open-requires c κs = search needs
+
+refuse-pass-requires : tie.Need-refuse-pass-requires
+refuse-pass-requires c κs = search needs
+
+enum-known-why : tie.Need-enum-known-why
+enum-known-why c = search needs
+
+same-length : tie.Need-same-length
+same-length c = search needs
+
+same-length-2 : tie.Need-same-length-2
+same-length-2 c = search needs
+
+returns : tie.Need-returns
+unfolding callLeaves
+returns c = let e = call-refused _ _ (lineOf _ _ _ _) (c .before .before .before .before .before .before .before .from .ensures) (c .before .before .before .before .«open» .ensures) (c .before .before .before .refuse-pass .ensures) (c .before .why .given .1) in (e .answers, (e .left, e .joined))
+
+enum-told : tie.Need-enum-told
+enum-told c = search needs
+
+work-requires : tie.Need-work-requires
+work-requires c κs = taken-fits _ _ _ _ _ _ (c .before .before .before .before .refuse-pass .ensures) (c .before .before .enum-told .given .1)
+
+same-length-3 : tie.Need-same-length-3
+same-length-3 c = search needs
+
+same-length-4 : tie.Need-same-length-4
+same-length-4 c = search needs
+
+returns-2 : tie.Need-returns-2
+unfolding callLeaves
+returns-2 c = let e = call-works _ _ (lineOf _ _ _ _) (c .before .before .before .before .before .before .before .before .before .before .before .before .before .from .ensures) (c .before .before .before .before .before .before .before .before .before .before .«open» .ensures) (c .before .before .before .before .before .before .before .before .before .refuse-pass .ensures) (c .before .before .before .before .before .before .before .enum-told .given .1) (c .before .before .before .before .work .ensures .0) (c .before .before .before .before .work .ensures .1 .0) (c .before .before .before .before .work .ensures .1 .1) in (e .answers, (e .left, e .joined))
+
+pub pass-spec : {M : Type 1} → statement M
+pass-spec =
+    tie.close
+    (tie.spec
+    from-requires
+    open-requires
+    refuse-pass-requires
+    enum-known-why
+    same-length
+    same-length-2
+    returns
+    enum-told
+    work-requires
+    same-length-3
+    same-length-4
+    returns-2)

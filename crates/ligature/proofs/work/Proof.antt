@@ -1,0 +1,49 @@
+use Rattle.ligature.specs.Calls.{workLeaves}
+use Rattle.line.specs.Line.{lineOf}
+use Rattle.ligature.proofs.Calls.{work-headless, work-passed}
+use borrow.Author.Needs.{needs}
+use Rattle.ligature.proofs.work.Statement.{statement}
+use Rattle.ligature.proofs.work.Tie as tie
+
+open-requires : tie.Need-open-requires
+open-requires c κs = search needs
+
+enum-known-made : tie.Need-enum-known-made
+enum-known-made c = search needs
+
+enum-told : tie.Need-enum-told
+enum-told c = search needs
+
+returns : tie.Need-returns
+unfolding workLeaves
+returns c = let e = work-headless _ (lineOf _ _ _ _) (c .before .before .«open» .ensures) (c .enum-told .given .1) in (e .answers, (e .left, e .joined))
+
+from-requires : tie.Need-from-requires
+from-requires c κs = search needs
+
+pass-line-requires : tie.Need-pass-line-requires
+pass-line-requires c κs = search needs
+
+same-length : tie.Need-same-length
+same-length c = search needs
+
+same-length-2 : tie.Need-same-length-2
+same-length-2 c = search needs
+
+returns-2 : tie.Need-returns-2
+unfolding workLeaves
+returns-2 c = let e = work-passed _ (lineOf _ _ _ _) (c .before .before .before .before .before .before .before .before .before .before .before .«open» .ensures) (c .before .before .before .before .before .before .before .before .before .made .given .1) (c .before .before .before .before .before .before .before .from .ensures) (c .before .before .before .before .pass-line .ensures .0) (c .before .before .before .before .pass-line .ensures .1 .0) (c .before .before .before .before .pass-line .ensures .1 .1) in (e .answers, (e .left, e .joined))
+
+pub work-spec : {M : Type 1} → statement M
+work-spec =
+    tie.close
+    (tie.spec
+    open-requires
+    enum-known-made
+    enum-told
+    returns
+    from-requires
+    pass-line-requires
+    same-length
+    same-length-2
+    returns-2)

@@ -1,0 +1,5 @@
+-- The ligature machine.
+pub mod Actions
+pub mod Ligature
+pub mod Calls
+pub mod Manual

@@ -1,0 +1,655 @@
+// morx kind 2: the ligature machine.
+pub mod actions;
+
+use actions::Action;
+use answers::Answer;
+use answers::Check;
+use answers::Refusal;
+use state_tables::Made;
+use state_tables::States;
+use state_tables::entries;
+use state_tables::entries::Entered;
+use state_tables::entries::Entry;
+ghost use mathlib.Core.Path.{_≡_};
+ghost use mathlib.Core.Bool.{false};
+ghost use mathlib.Core.List.{[]};
+ghost use Prim.Native.Nat.{_+_, _<_, _≤_};
+ghost use lib.ListN.{length};
+ghost use Rattle.answers.specs.Refuse.{refuse};
+ghost use Rattle.line.specs.Line.{lineOf};
+ghost use Rattle.ligature.specs.Ligature.{stackOf, fresh, ligated, ligationsOf, storedIn, turnOf, acts, didActs, overflows, pushed, entered, didWork, next, advanceOf, reached, stepOf, passed, passLeaves};
+ghost use Rattle.ligature.specs.Calls.{opened, worked, workLeaves, passCall, callLeaves, areInside, stepTests, stepCall, stepLeaves};
+
+// The state of a pass: the state table's state, and the stack, a place and a glyph for each slot, of which the first `depth` are used.
+pub struct LigatureState {
+    pub state: u16,
+    pub places: [usize; 32],
+    pub glyphs: [u16; 32],
+    pub depth: usize,
+}
+
+// What a step answers: DONE with the advance, ENDED, or a refusal; and the state that it hands back.
+pub struct LigatureStep {
+    pub answer: Answer,
+    pub state: LigatureState,
+    pub advance: usize,
+}
+
+// How the stack stands after an action: so many slots are left, with this sum, and whether the action was the last.
+enum Turn {
+    Ended,
+    On { at: usize, sum: u32, last: bool },
+}
+
+// What an entry or its actions came to: whether they ended the step, the stack's depth, and the cycle count.
+struct Did {
+    ended: bool,
+    depth: usize,
+    cycles: u16,
+}
+
+// What a step came to: its answer, the new state, and the stack's depth.
+struct Reached {
+    answer: Answer,
+    state: u16,
+    depth: usize,
+}
+
+// How the stack stands after an action at a slot.
+fn turn_of(action: Action, slot: usize) -> Turn
+    requires { ⌜ slot < 32 ⌝ }
+    ensures { λ r. ⌜ r ≡ turnOf action slot ⌝ }
+{
+    match action {
+        Action::Ended => Turn::Ended,
+        Action::Adds(sum) => Turn::On {
+            at: slot,
+            sum,
+            last: false,
+        },
+        Action::Makes {
+            sum,
+            ligature: _,
+            last,
+        } => Turn::On {
+            at: slot + 1,
+            sum,
+            last,
+        },
+    }
+}
+
+// The ligature of an action at a slot: it is written at the slot's place, takes up the places of the used slots above, and stays on the
+// stack.
+fn make(
+    action: Action,
+    places: &[usize; 32],
+    stack: &mut [u16; 32],
+    glyphs: &mut [u16],
+    tags: &[u16],
+    homes: &mut [u16],
+    used: usize,
+    slot: usize,
+    depth: usize,
+)
+    requires { ⌜ (slot < depth) × (depth ≤ 32) × (used ≤ length (now glyphs)) × (used ≤ length (now tags)) ⌝ }
+    ensures stack { λ _. ⌜ now (stack .exit) ≡ storedIn action slot (now (stack .entry)) ⌝ }
+    ensures glyphs { λ _. ⌜ now (glyphs .exit) ≡ ligated (ligationsOf action (now (places .entry)) slot depth) (lineOf (now (glyphs .entry)) (now (tags .entry)) (now (homes .entry)) used) .glyphs ⌝ }
+    ensures homes { λ _. ⌜ now (homes .exit) ≡ ligated (ligationsOf action (now (places .entry)) slot depth) (lineOf (now (glyphs .entry)) (now (tags .entry)) (now (homes .entry)) used) .homes ⌝ }
+{
+    match action {
+        Action::Ended => return,
+        Action::Adds(_) => return,
+        Action::Makes {
+            sum: _,
+            ligature,
+            last: _,
+        } => {
+            let place = places[slot];
+            let slots = &places[..];
+            let parts = &slots[slot + 1..depth];
+            line::edits::ligate(glyphs, tags, homes, used, place, ligature, parts);
+            stack[slot] = ligature;
+        }
+    }
+}
+
+// The actions from number `first` on, from the top of the stack down. One that ends the step leaves the depth as it was.
+fn act(
+    bytes: &[u8],
+    places: &[usize; 32],
+    stack: &mut [u16; 32],
+    glyphs: &mut [u16],
+    tags: &[u16],
+    homes: &mut [u16],
+    used: usize,
+    first: u16,
+    depth: usize,
+    spent: u16,
+) -> Did
+    requires { ⌜ (depth ≤ 32) × (spent ≤ 33) × (used ≤ length (now glyphs)) × (used ≤ length (now tags)) ⌝ }
+    ensures did { λ r. ⌜ r ≡ didActs (acts (now (bytes .entry)) (now (places .entry)) depth 34 first depth 0 spent (now (stack .entry)) []) ⌝ }
+    ensures stack { λ _. ⌜ now (stack .exit) ≡ acts (now (bytes .entry)) (now (places .entry)) depth 34 first depth 0 spent (now (stack .entry)) [] .glyphs ⌝ }
+    ensures glyphs { λ _. ⌜ now (glyphs .exit) ≡ ligated (acts (now (bytes .entry)) (now (places .entry)) depth 34 first depth 0 spent (now (stack .entry)) [] .made) (lineOf (now (glyphs .entry)) (now (tags .entry)) (now (homes .entry)) used) .glyphs ⌝ }
+    ensures homes { λ _. ⌜ now (homes .exit) ≡ ligated (acts (now (bytes .entry)) (now (places .entry)) depth 34 first depth 0 spent (now (stack .entry)) [] .made) (lineOf (now (glyphs .entry)) (now (tags .entry)) (now (homes .entry)) used) .homes ⌝ }
+    ensures bounds { λ r. ⌜ (r .depth ≤ depth) × (spent ≤ r .cycles) × (r .cycles ≤ 33) ⌝ }
+{
+    let mut number = first;
+    let mut at = depth;
+    let mut sum = 0;
+    let mut cycles = spent;
+    while 0 < at {
+        let slot = at - 1;
+        let action = actions::action_of(bytes, number, stack[slot], sum);
+        make(
+            action,
+            places,
+            stack,
+            glyphs,
+            tags,
+            homes,
+            used,
+            slot,
+            depth,
+        );
+        let Turn::On {
+            at: left,
+            sum: total,
+            last,
+        } = turn_of(action, slot)
+        else {
+            return Did {
+                ended: true,
+                depth,
+                cycles,
+            };
+        };
+        if last {
+            return Did {
+                ended: false,
+                depth: left,
+                cycles,
+            };
+        }
+        if LigatureState::ACTIONS < cycles {
+            return Did {
+                ended: false,
+                depth: left,
+                cycles,
+            };
+        }
+        number += 1;
+        at = left;
+        sum = total;
+        cycles += 1;
+    }
+    Did {
+        ended: false,
+        depth: at,
+        cycles,
+    }
+}
+
+// Whether a push finds the stack full.
+fn overflows(sets: bool, depth: usize) -> bool
+    ensures { λ r. ⌜ r ≡ overflows sets depth ⌝ }
+{
+    if !sets {
+        return false;
+    }
+    LigatureState::DEPTH <= depth
+}
+
+// Pushes the step's place and glyph where the entry says so. Returns the depth afterwards.
+fn push(
+    places: &mut [usize; 32],
+    stack: &mut [u16; 32],
+    depth: usize,
+    sets: bool,
+    index: usize,
+    glyph: u16,
+) -> usize
+    requires { ⌜ (overflows sets depth ≡ false) × (depth ≤ 32) ⌝ }
+    ensures depth { λ r. ⌜ r ≡ pushed sets (stackOf (now (places .entry)) (now (stack .entry)) depth) index glyph .depth ⌝ }
+    ensures places { λ _. ⌜ now (places .exit) ≡ pushed sets (stackOf (now (places .entry)) (now (stack .entry)) depth) index glyph .places ⌝ }
+    ensures stack { λ _. ⌜ now (stack .exit) ≡ pushed sets (stackOf (now (places .entry)) (now (stack .entry)) depth) index glyph .glyphs ⌝ }
+    ensures bound { λ r. ⌜ r ≤ 32 ⌝ }
+{
+    if !sets {
+        return depth;
+    }
+    places[depth] = index;
+    stack[depth] = glyph;
+    depth + 1
+}
+
+// What an entry does: the push, then the actions.
+fn enter(
+    bytes: &[u8],
+    entry: Entry,
+    places: &mut [usize; 32],
+    stack: &mut [u16; 32],
+    depth: usize,
+    glyphs: &mut [u16],
+    tags: &[u16],
+    homes: &mut [u16],
+    used: usize,
+    index: usize,
+    glyph: u16,
+    cycles: u16,
+) -> Did
+    requires { ⌜ (depth ≤ 32) × (cycles ≤ 33) × (used ≤ length (now glyphs)) × (used ≤ length (now tags)) × (entry .payload + 2 ≤ length (now bytes)) ⌝ }
+    ensures did { λ r. ⌜ r ≡ didWork (entered (now (bytes .entry)) (stackOf (now (places .entry)) (now (stack .entry)) depth) entry index glyph cycles) ⌝ }
+    ensures places { λ _. ⌜ now (places .exit) ≡ entered (now (bytes .entry)) (stackOf (now (places .entry)) (now (stack .entry)) depth) entry index glyph cycles .stack .places ⌝ }
+    ensures stack { λ _. ⌜ now (stack .exit) ≡ entered (now (bytes .entry)) (stackOf (now (places .entry)) (now (stack .entry)) depth) entry index glyph cycles .stack .glyphs ⌝ }
+    ensures glyphs { λ _. ⌜ now (glyphs .exit) ≡ ligated (entered (now (bytes .entry)) (stackOf (now (places .entry)) (now (stack .entry)) depth) entry index glyph cycles .made) (lineOf (now (glyphs .entry)) (now (tags .entry)) (now (homes .entry)) used) .glyphs ⌝ }
+    ensures homes { λ _. ⌜ now (homes .exit) ≡ ligated (entered (now (bytes .entry)) (stackOf (now (places .entry)) (now (stack .entry)) depth) entry index glyph cycles .made) (lineOf (now (glyphs .entry)) (now (tags .entry)) (now (homes .entry)) used) .homes ⌝ }
+    ensures bounds { λ r. ⌜ (r .depth ≤ 32) × (cycles ≤ r .cycles) × (r .cycles ≤ 33) ⌝ }
+{
+    let sets = machine::is_set(entry.flags, LigatureState::SET_COMPONENT);
+    if overflows(sets, depth) {
+        return Did {
+            ended: true,
+            depth,
+            cycles,
+        };
+    }
+    let deep = push(places, stack, depth, sets, index, glyph);
+    if !machine::is_set(entry.flags, LigatureState::PERFORM_ACTION) {
+        return Did {
+            ended: false,
+            depth: deep,
+            cycles,
+        };
+    }
+    let number = entries::one_number(bytes, entry.payload);
+    act(
+        bytes,
+        places,
+        stack,
+        glyphs,
+        tags,
+        homes,
+        used,
+        number,
+        deep,
+        cycles,
+    )
+}
+
+// The crate's `next`, over the bytes from the state table on, with the stack in lent arrays. Entries and their actions share one
+// cycle count.
+fn next(
+    bytes: &[u8],
+    states: States,
+    state: u16,
+    places: &mut [usize; 32],
+    stack: &mut [u16; 32],
+    depth: usize,
+    glyphs: &mut [u16],
+    tags: &[u16],
+    homes: &mut [u16],
+    used: usize,
+    index: usize,
+    glyph: u16,
+    ends: bool,
+) -> Reached
+    requires { ⌜ (depth ≤ 32) × (used ≤ length (now glyphs)) × (used ≤ length (now tags)) ⌝ }
+    ensures reached { λ r. ⌜ r ≡ reached (next (now (bytes .entry)) states state (stackOf (now (places .entry)) (now (stack .entry)) depth) index glyph ends) ⌝ }
+    ensures places { λ _. ⌜ now (places .exit) ≡ next (now (bytes .entry)) states state (stackOf (now (places .entry)) (now (stack .entry)) depth) index glyph ends .stack .places ⌝ }
+    ensures stack { λ _. ⌜ now (stack .exit) ≡ next (now (bytes .entry)) states state (stackOf (now (places .entry)) (now (stack .entry)) depth) index glyph ends .stack .glyphs ⌝ }
+    ensures glyphs { λ _. ⌜ now (glyphs .exit) ≡ ligated (next (now (bytes .entry)) states state (stackOf (now (places .entry)) (now (stack .entry)) depth) index glyph ends .made) (lineOf (now (glyphs .entry)) (now (tags .entry)) (now (homes .entry)) used) .glyphs ⌝ }
+    ensures homes { λ _. ⌜ now (homes .exit) ≡ ligated (next (now (bytes .entry)) states state (stackOf (now (places .entry)) (now (stack .entry)) depth) index glyph ends .made) (lineOf (now (glyphs .entry)) (now (tags .entry)) (now (homes .entry)) used) .homes ⌝ }
+    ensures depth { λ r. ⌜ r .depth ≤ 32 ⌝ }
+{
+    let class = machine::class_at(bytes, states, glyph, ends);
+    let mut at = state;
+    let mut deep = depth;
+    let mut cycles = 0;
+    while cycles <= LigatureState::ENTRIES + 1 {
+        let Entered::At(entry) = entries::entry_of(bytes, states, at, class, 2) else {
+            return Reached {
+                answer: Answer::Ended,
+                state: at,
+                depth: deep,
+            };
+        };
+        let did = enter(
+            bytes,
+            entry,
+            places,
+            stack,
+            deep,
+            glyphs,
+            tags,
+            homes,
+            used,
+            index,
+            glyph,
+            cycles,
+        );
+        at = entry.state;
+        deep = did.depth;
+        if did.ended {
+            return Reached {
+                answer: Answer::Ended,
+                state: at,
+                depth: deep,
+            };
+        }
+        if !machine::is_set(entry.flags, LigatureState::DONT_ADVANCE) {
+            return Reached {
+                answer: Answer::Done,
+                state: at,
+                depth: deep,
+            };
+        }
+        if LigatureState::ENTRIES < did.cycles {
+            return Reached {
+                answer: Answer::Done,
+                state: at,
+                depth: deep,
+            };
+        }
+        cycles = did.cycles + 1;
+    }
+    Reached {
+        answer: Answer::Done,
+        state: at,
+        depth: deep,
+    }
+}
+
+impl LigatureState {
+    // The kind of a ligature subtable.
+    pub const KIND: u32 = 2;
+
+    // An entry's flag that pushes the step's place and glyph.
+    pub const SET_COMPONENT: u16 = 0x8000;
+
+    // An entry's flag by which the step goes on to another entry.
+    pub const DONT_ADVANCE: u16 = 0x4000;
+
+    // An entry's flag that performs actions.
+    pub const PERFORM_ACTION: u16 = 0x2000;
+
+    // An action's flag that makes it the last.
+    pub const LAST: u32 = 0x80000000;
+
+    // An action's flag that makes a ligature.
+    pub const STORE: u32 = 0x40000000;
+
+    // The slots of the stack.
+    pub const DEPTH: usize = 32;
+
+    // The cycle count above which entries stop, and the one above which actions do.
+    pub const ENTRIES: u16 = 16;
+
+    pub const ACTIONS: u16 = 32;
+
+    // The glyph of the end call.
+    pub const END: u16 = 0xFFFF;
+
+    // The state at the start of a pass.
+    pub fn new() -> LigatureState
+        ensures { λ r. ⌜ r ≡ fresh ⌝ }
+    {
+        LigatureState {
+            state: 0,
+            places: [0; 32],
+            glyphs: [0; 32],
+            depth: 0,
+        }
+    }
+
+    // The tests before a step: TABLE, LINE, PLACE, STATE, HEAD.
+    fn refuse_step(
+        self,
+        length: usize,
+        glyphs: &[u16],
+        tags: &[u16],
+        homes: &[u16],
+        used: usize,
+        index: usize,
+        made: Made,
+    ) -> Check
+        ensures { λ r. ⌜ r ≡ refuse (stepTests length (lineOf (now (glyphs .entry)) (now (tags .entry)) (now (homes .entry)) used) index self made) ⌝ }
+    {
+        if let Check::Refused(why) = answers::refuse_table(length) {
+            return Check::Refused(why);
+        }
+        if !line::valid::takes(glyphs, tags, homes, used) {
+            return Check::Refused(Refusal::Line);
+        }
+        if used < index {
+            return Check::Refused(Refusal::Place);
+        }
+        if LigatureState::DEPTH < self.depth {
+            return Check::Refused(Refusal::State);
+        }
+        let places = self.places;
+        if !inside(&places, self.depth, used) {
+            return Check::Refused(Refusal::State);
+        }
+        if let Made::Short = made {
+            return Check::Refused(Refusal::Head);
+        }
+        Check::Passed
+    }
+
+    // One step by the subtable at `start`; a refused one hands the state back as given.
+    pub fn step(
+        self,
+        table: &[u8],
+        start: usize,
+        glyphs: &mut [u16],
+        tags: &[u16],
+        homes: &mut [u16],
+        used: usize,
+        index: usize,
+        glyph: u16,
+        ends: bool,
+    ) -> LigatureStep
+        ensures step { λ r. ⌜ r ≡ stepOf (stepCall (now (table .entry)) start self (lineOf (now (glyphs .entry)) (now (tags .entry)) (now (homes .entry)) used) index glyph ends) ⌝ }
+        ensures glyphs { λ _. ⌜ now (glyphs .exit) ≡ stepLeaves (now (table .entry)) start self (lineOf (now (glyphs .entry)) (now (tags .entry)) (now (homes .entry)) used) index glyph ends .glyphs ⌝ }
+        ensures homes { λ _. ⌜ now (homes .exit) ≡ stepLeaves (now (table .entry)) start self (lineOf (now (glyphs .entry)) (now (tags .entry)) (now (homes .entry)) used) index glyph ends .homes ⌝ }
+    {
+        let bytes = parse::from(table, start);
+        let made = open(bytes);
+        if let Check::Refused(why) = self.refuse_step(
+            table.len(),
+            glyphs,
+            tags,
+            homes,
+            used,
+            index,
+            made,
+        ) {
+            return LigatureStep {
+                answer: Answer::Refused(why),
+                state: self,
+                advance: 0,
+            };
+        }
+        let Made::Ready(states) = made else {
+            return LigatureStep {
+                answer: Answer::Refused(Refusal::Head),
+                state: self,
+                advance: 0,
+            };
+        };
+        let mut places = self.places;
+        let mut stack = self.glyphs;
+        let reached = next(
+            parse::from(bytes, 12),
+            states,
+            self.state,
+            &mut places,
+            &mut stack,
+            self.depth,
+            glyphs,
+            tags,
+            homes,
+            used,
+            index,
+            glyph,
+            ends,
+        );
+        let answer = reached.answer;
+        LigatureStep {
+            answer,
+            state: LigatureState {
+                state: reached.state,
+                places,
+                glyphs: stack,
+                depth: reached.depth,
+            },
+            advance: advance_of(answer),
+        }
+    }
+}
+
+// Whether the places of the used slots are at most the used length.
+fn inside(places: &[usize; 32], depth: usize, used: usize) -> bool
+    requires { ⌜ depth ≤ 32 ⌝ }
+    ensures { λ r. ⌜ r ≡ areInside (now (places .entry)) depth used ⌝ }
+{
+    let mut slot = 0;
+    while slot < depth {
+        if used < places[slot] {
+            return false;
+        }
+        slot += 1;
+    }
+    true
+}
+
+// A step advances by 1 when DONE.
+fn advance_of(answer: Answer) -> usize
+    ensures { λ r. ⌜ r ≡ advanceOf answer ⌝ }
+{
+    if machine::is_done(answer) {
+        return 1;
+    }
+    0
+}
+
+// The state table of the subtable that the bytes begin with; the numbers at 16, 20 and 24, where its lists are, can be read too.
+fn open(bytes: &[u8]) -> Made
+    ensures { λ r. ⌜ r ≡ opened (now (bytes .entry)) ⌝ }
+{
+    let parse::ReadU32::Got(_) = parse::read_u32(parse::from(bytes, 12), 24) else {
+        return Made::Short;
+    };
+    machine::open(bytes, LigatureState::KIND)
+}
+
+// The pass over a line that LINE has taken, with the bytes from the state table on.
+fn pass_line(
+    bytes: &[u8],
+    states: States,
+    glyphs: &mut [u16],
+    tags: &[u16],
+    homes: &mut [u16],
+    used: usize,
+) -> Answer
+    requires { ⌜ (used ≤ length (now glyphs)) × (used ≤ length (now tags)) ⌝ }
+    ensures answer { λ r. ⌜ r ≡ passed (now (bytes .entry)) states (lineOf (now (glyphs .entry)) (now (tags .entry)) (now (homes .entry)) used) .answer ⌝ }
+    ensures glyphs { λ _. ⌜ now (glyphs .exit) ≡ passLeaves (now (bytes .entry)) states (lineOf (now (glyphs .entry)) (now (tags .entry)) (now (homes .entry)) used) .glyphs ⌝ }
+    ensures homes { λ _. ⌜ now (homes .exit) ≡ passLeaves (now (bytes .entry)) states (lineOf (now (glyphs .entry)) (now (tags .entry)) (now (homes .entry)) used) .homes ⌝ }
+{
+    let fresh = LigatureState::new();
+    let mut places = fresh.places;
+    let mut stack = fresh.glyphs;
+    let mut state = fresh.state;
+    let mut depth = fresh.depth;
+    let mut place = 0;
+    while place < used {
+        let glyph = glyphs[place];
+        let reached = next(
+            bytes,
+            states,
+            state,
+            &mut places,
+            &mut stack,
+            depth,
+            glyphs,
+            tags,
+            homes,
+            used,
+            place,
+            glyph,
+            false,
+        );
+        let answer = reached.answer;
+        if !machine::is_done(answer) {
+            return answer;
+        }
+        state = reached.state;
+        depth = reached.depth;
+        place += 1;
+    }
+    let reached = next(
+        bytes,
+        states,
+        state,
+        &mut places,
+        &mut stack,
+        depth,
+        glyphs,
+        tags,
+        homes,
+        used,
+        used,
+        LigatureState::END,
+        true,
+    );
+    reached.answer
+}
+
+// The pass over a line that LINE has taken, by the subtable that the bytes begin with.
+pub fn work(
+    bytes: &[u8],
+    glyphs: &mut [u16],
+    tags: &[u16],
+    homes: &mut [u16],
+    used: usize,
+) -> Answer
+    requires { ⌜ (used ≤ length (now glyphs)) × (used ≤ length (now tags)) ⌝ }
+    ensures answer { λ r. ⌜ r ≡ worked (now (bytes .entry)) (lineOf (now (glyphs .entry)) (now (tags .entry)) (now (homes .entry)) used) .answer ⌝ }
+    ensures glyphs { λ _. ⌜ now (glyphs .exit) ≡ workLeaves (now (bytes .entry)) (lineOf (now (glyphs .entry)) (now (tags .entry)) (now (homes .entry)) used) .glyphs ⌝ }
+    ensures homes { λ _. ⌜ now (homes .exit) ≡ workLeaves (now (bytes .entry)) (lineOf (now (glyphs .entry)) (now (tags .entry)) (now (homes .entry)) used) .homes ⌝ }
+{
+    let made = open(bytes);
+    let Made::Ready(states) = made else {
+        return Answer::Refused(Refusal::Head);
+    };
+    pass_line(parse::from(bytes, 12), states, glyphs, tags, homes, used)
+}
+
+// The pass over a line, by the subtable at `start`.
+pub fn pass(
+    table: &[u8],
+    start: usize,
+    glyphs: &mut [u16],
+    tags: &[u16],
+    homes: &mut [u16],
+    used: usize,
+) -> Answer
+    ensures answer { λ r. ⌜ r ≡ passCall (now (table .entry)) start (lineOf (now (glyphs .entry)) (now (tags .entry)) (now (homes .entry)) used) .answer ⌝ }
+    ensures glyphs { λ _. ⌜ now (glyphs .exit) ≡ callLeaves (now (table .entry)) start (lineOf (now (glyphs .entry)) (now (tags .entry)) (now (homes .entry)) used) .glyphs ⌝ }
+    ensures homes { λ _. ⌜ now (homes .exit) ≡ callLeaves (now (table .entry)) start (lineOf (now (glyphs .entry)) (now (tags .entry)) (now (homes .entry)) used) .homes ⌝ }
+{
+    let bytes = parse::from(table, start);
+    if let Check::Refused(why) = machine::refuse_pass(
+        table.len(),
+        glyphs,
+        tags,
+        homes,
+        used,
+        open(bytes),
+    ) {
+        return Answer::Refused(why);
+    }
+    work(bytes, glyphs, tags, homes, used)
+}
