@@ -22,6 +22,7 @@ enum aat_answer {
     AAT_HEAD = 6,    /* the start is past the table, or no state table, or subtable of the kind, can be read there */
     AAT_FULL = 7,    /* the next insertion would make the line longer than its room; what was done before it stays */
     AAT_ENDED = 8,   /* the step or pass broke off where the table has no entry, and the slices hold what it had done by then */
+    AAT_LIMIT = 9,   /* a run has counted 65,535 heads and there is another; what was done before stays */
 };
 
 enum aat_verdict {
@@ -83,6 +84,18 @@ uint32_t aat_ligature_pass(const uint8_t *table, size_t table_len, size_t start,
    is then. Inserted glyphs get the tags from the used length up, in order. */
 uint32_t aat_insertion_pass(const uint8_t *table, size_t table_len, size_t start, uint16_t *glyphs, size_t glyphs_len,
                             uint16_t *tags, size_t tags_len, const uint16_t *homes, size_t homes_len, size_t *used);
+
+/* Goes over the line by the morx subtable, its head included, that begins at start, of whatever kind; used is left to say how
+   long the line is then. AAT_HEAD is for the kinds that are left out, too. */
+uint32_t aat_morx_pass(const uint8_t *table, size_t table_len, size_t start, uint16_t *glyphs, size_t glyphs_len,
+                       uint16_t *tags, size_t tags_len, uint16_t *homes, size_t homes_len, size_t *used);
+
+/* Runs the whole morx table that begins at start over the line, from right to left where right_to_left is not 0: every
+   subtable that its chain's default flags choose. used is left to say how long the line is then, and heads how many heads of
+   chains and subtables were read. What can't be read or opened is passed over, and a subtable that breaks off ends alone. */
+uint32_t aat_morx_run(const uint8_t *table, size_t table_len, size_t start, uint32_t right_to_left, uint16_t *glyphs,
+                      size_t glyphs_len, uint16_t *tags, size_t tags_len, uint16_t *homes, size_t homes_len, size_t *used,
+                      uint32_t *heads);
 
 /* A step of a machine is what its pass does at one place: index and glyph are those of the place, and ends is not 0 at end of
    text, where a pass gives the length and glyph 0xFFFF. The state, its numbers in the order named, is 0 each at the start of a

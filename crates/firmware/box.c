@@ -43,12 +43,6 @@ long read(int file, void *to, size_t length);
 long write(int file, const void *from, size_t length);
 _Noreturn void exit(int status);
 
-/* Entries that aat.h does not declare yet: nobody calls them, and the box is linked with stand-ins for them. A row goes from
-   here when it stands in aat.h. */
-uint32_t aat_morx_pass(const uint8_t *, size_t, size_t, uint16_t *, size_t, uint16_t *, size_t, uint16_t *, size_t, size_t *);
-uint32_t aat_morx_run(const uint8_t *, size_t, size_t, uint32_t, uint16_t *, size_t, uint16_t *, size_t, uint16_t *, size_t,
-                      size_t *, uint32_t *);
-
 /* Longer than the longest table, so that the refusal can be asked for. */
 static uint8_t table[AAT_LONGEST_TABLE + 4096];
 static size_t table_len;

@@ -1,3 +1,4 @@
 -- What the exported entries leave in the numbers lent to them.
 pub mod Survey
 pub mod Steps
+pub mod Runs

@@ -19,7 +19,7 @@ ghost use lib.Seq.{paste};
 const WIDEST: u64 = 0xFFFF;
 
 // Whether an answer is a refusal.
-fn is_refused(answer: Answer) -> bool
+pub fn is_refused(answer: Answer) -> bool
     ensures { λ r. ⌜ r ≡ isRefused answer ⌝ }
 {
     match answer {

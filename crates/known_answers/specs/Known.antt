@@ -7,6 +7,7 @@ use Rattle.answers.specs.Numbers.{numberOf, answerOf}
 use Rattle.answers.specs.Refuse.{refuse, tableTest}
 use Rattle.answers.specs.declared.Reply.{Reply}
 use Rattle.answers.specs.declared.Reply.the-variants.{Value, Nothing, Refused}
+use lib.IntN.{ℤ, pos, negsuc}
 use Rattle.laws.specs.Lists.{tab, every}
 use Rattle.verbs.specs.Verbs.{groupsOf, across, moved, fromOf, rearranged}
 use Rattle.line.specs.Line.{Line}
@@ -17,23 +18,25 @@ use Rattle.line.specs.Entries.{Left, freshOf, verbTests, verbMakes, madeBy, ans
 use Rattle.parse.specs.Reads.{inside, readU16, readU32}
 use Rattle.state_tables.specs.States.{extendedAt}
 use Rattle.state_tables.specs.Classes.{classByLookup, classOf, classIn, headTest, classReply, classExtended}
+use Rattle.ligature.specs.Actions.{offsetOf}
 use Rattle.tables.specs.Records.{formatOf}
 use Rattle.tables.specs.Lookup.{lookupReply, lookupAt, inFormat, trimmedAt, elementAt}
 
 -- what is asked: the element of a glyph in the lookup table that these bytes are; the glyphs of the line 10 to 14 after a verb on a window; the
--- class of a glyph in the extended state table that these bytes are
+-- class of a glyph in the extended state table that these bytes are; the offset of a ligature action
 pub data Asked : Type 0 where
   lookup : List ℕ → ℕ → Asked
   verb : (number start end : ℕ) → Asked
   class : List ℕ → ℕ → Asked
+  offset : ℕ → Asked
 
 -- an answer: its number, and the value where there is one
 pub record Given : Type 0 where
   pub number : ℕ
-  pub values : List ℕ
+  pub values : List ℤ
 
 abbrev given : Reply → Given
-given (Value v) = record { number = 0; values = v ∷ [] }
+given (Value v) = record { number = 0; values = pos v ∷ [] }
 given Nothing = record { number = 1; values = [] }
 given (Refused why) = record { number = numberOf (answerOf (Refused why)); values = [] }
 
@@ -42,19 +45,24 @@ abbrev line : Line
 line = freshOf (10 ∷ 11 ∷ 12 ∷ 13 ∷ 14 ∷ []) (0 ∷ 0 ∷ 0 ∷ 0 ∷ 0 ∷ []) (0 ∷ 0 ∷ 0 ∷ 0 ∷ 0 ∷ [])
 
 abbrev left : Left → Given
-left l = record { number = numberOf (l .answer); values = l .line .glyphs }
+left l = record { number = numberOf (l .answer); values = map pos (l .line .glyphs) }
 
 unfoldable pub answerTo : Asked → Given
 answerTo (lookup bytes glyph) = given (lookupReply bytes 0 glyph)
 answerTo (verb number start end) = left (verbCall line number start end)
 answerTo (class bytes glyph) = given (classExtended bytes 0 glyph)
+answerTo (offset action) = record { number = 0; values = offsetOf action ∷ [] }
 
 pub record Row : Type 0 where
   pub asked : Asked
   pub answer : Given
 
 abbrev row : Asked → ℕ → List ℕ → Row
-row asked number values = record { asked = asked; answer = record { number = number; values = values } }
+row asked number values = record { asked = asked; answer = record { number = number; values = map pos values } }
+
+-- n, or -1 less n
+abbrev offsetRow : (action : ℕ) → ℤ → Row
+offsetRow action value = record { asked = offset action; answer = record { number = 0; values = value ∷ [] } }
 
 -- 0008 0005 0002 0007 0009
 abbrev trimmed : List ℕ
@@ -76,8 +84,11 @@ rows =
     ∷ row (lookup trimmed 4) 1 []
     ∷ row (lookup trimmed 7) 1 []
     ∷ row (class classed 0xFFFF) 0 (2 ∷ [])
+    ∷ offsetRow 0x3FFFFFFF (negsuc 0)
+    ∷ offsetRow 0x20000000 (negsuc 536870911)
+    ∷ offsetRow 0x1FFFFFFF (pos 536870911)
     ∷ []
 
 pub known : map (λ (r : Row). answerTo (r .asked)) rows ≡ map (λ (r : Row). r .answer) rows
-unfolding rows answerTo extendedAt readU32 classByLookup classOf classIn headTest classReply classExtended tab every groupsOf across moved fromOf rearranged room lineTest isValid isLegal areHoused isOnceEach isNew freshOf numbersFrom verbTests verbMakes madeBy answerBy verbChanges verbCall widthOf windowed apply applyAll tableLimit refuse tableTest inside readU16 formatOf lookupReply lookupAt inFormat trimmedAt elementAt
+unfolding rows answerTo offsetOf extendedAt readU32 classByLookup classOf classIn headTest classReply classExtended tab every groupsOf across moved fromOf rearranged room lineTest isValid isLegal areHoused isOnceEach isNew freshOf numbersFrom verbTests verbMakes madeBy answerBy verbChanges verbCall widthOf windowed apply applyAll tableLimit refuse tableTest inside readU16 formatOf lookupReply lookupAt inFormat trimmedAt elementAt
 known = refl

@@ -1,0 +1,3 @@
+-- Laws of the heads of a morx table.
+mod Starts
+pub mod Manual

@@ -1,0 +1,47 @@
+use mathlib.Core.Path.{sym, _∙_}
+use borrow.Author.Tests.{eq-eqb, ne-eqb}
+use Rattle.parse.proofs.Laws.{part-short, part-inside, inside-fits}
+use Rattle.chains.specs.Lists.{nextSubtable}
+use borrow.Author.Needs.{needs}
+use Rattle.chains.proofs.subtable_from.Statement.{statement}
+use Rattle.chains.proofs.subtable_from.Tie as tie
+
+returns : tie.Need-returns
+unfolding nextSubtable
+returns c = rw (eq-eqb _ _ (c .if1 .taken), nextSubtable)
+
+read-part-requires : tie.Need-read-part-requires
+read-part-requires c κs = search needs
+
+enum-told : tie.Need-enum-told
+enum-told c = search needs
+
+enum-told-2 : tie.Need-enum-told-2
+enum-told-2 c = search needs
+
+returns-2 : tie.Need-returns-2
+unfolding nextSubtable
+returns-2 c = rw (ne-eqb _ _ (c .before .before .before .if1 .left), part-short _ _ _ (c .before .before .read-part .ensures) (c .enum-told2 .given .1), nextSubtable)
+
+sub-subtable-at : tie.Need-sub-subtable-at
+sub-subtable-at c = search needs
+
+subtable-at-requires : tie.Need-subtable-at-requires
+subtable-at-requires c κs = inside-fits _ _ _ (part-inside _ _ _ (c .before .before .before .read-part .ensures) (c .before .enum-told .given .1))
+
+returns-3 : tie.Need-returns-3
+unfolding nextSubtable
+returns-3 c = rw (ne-eqb _ _ (c .before .before .before .before .before .if1 .left), part-inside _ _ _ (c .before .before .before .before .read-part .ensures) (c .before .before .enum-told .given .1), c .subtable-at .ensures, nextSubtable)
+
+pub subtable-from-spec : {M : Type 1} → statement M
+subtable-from-spec =
+    tie.close
+    (tie.spec
+    returns
+    read-part-requires
+    enum-told
+    enum-told-2
+    returns-2
+    sub-subtable-at
+    subtable-at-requires
+    returns-3)

@@ -1,0 +1,6 @@
+-- The heads of a morx table.
+pub mod Orders
+pub mod Lists
+pub mod Entries
+pub mod Walk
+pub mod Manual

@@ -1,0 +1,77 @@
+-- The crate's iterators over chains, features and subtables, as cursors. Places are those of the whole table.
+use Prim.Native.Nat.{ℕ, _+_, _*_, _-_}
+use mathlib.Core.Bool.{Bool, cond}
+use mathlib.Core.List.{List}
+use Rattle.laws.specs.Choose.{ifEq}
+use Rattle.parse.specs.Reads.{inside, u16At, u32At, readU32}
+use Rattle.parse.specs.Use.{onU32}
+use Rattle.chains.specs.Orders.{kindOf, orderOf, isVertical}
+use Rattle.chains.specs.declared.Cursor.{Cursor}
+use Rattle.chains.specs.declared.Chain.{Chain}
+use Rattle.chains.specs.declared.Feature.{Feature}
+use Rattle.chains.specs.declared.Subtable.{Subtable}
+use Rattle.chains.specs.declared.NextChain.{NextChain}
+use Rattle.chains.specs.declared.NextChain.the-variants as Chain′
+use Rattle.chains.specs.declared.NextFeature.{NextFeature}
+use Rattle.chains.specs.declared.NextFeature.the-variants as Feature′
+use Rattle.chains.specs.declared.NextSubtable.{NextSubtable}
+use Rattle.chains.specs.declared.NextSubtable.the-variants as Subtable′
+
+abbrev pub cursor : (place left : ℕ) → Cursor
+cursor place left = record { place = place; left = left }
+
+-- the number of chains is at 4; where it can't be read there are none
+unfoldable pub chainCount : List ℕ → (start : ℕ) → ℕ
+chainCount table start = onU32 (readU32 table (start + 4)) (λ count. count) 0
+
+-- the chains begin at 8
+unfoldable pub chainsFrom : List ℕ → (start : ℕ) → Cursor
+chainsFrom table start = cursor (start + 8) (chainCount table start)
+
+-- a chain's head has 16 bytes: default flags, length, number of features, number of subtables. Its features follow, of 12 bytes each,
+-- then its subtables; the next chain begins where the length says
+unfoldable pub chainAt : List ℕ → (place left : ℕ) → Chain
+chainAt table place left =
+    record {
+      flags = u32At table place;
+      features = cursor (place + 16) (u32At table (place + 8));
+      subtables = cursor (place + 16 + u32At table (place + 8) * 12) (u32At table (place + 12));
+      next = cursor (place + u32At table (place + 4)) left;
+    }
+
+-- the next chain: none where the count is used up or its head does not lie in the table
+unfoldable pub nextChain : List ℕ → Cursor → NextChain
+nextChain table c =
+    ifEq (c .left) 0 Chain′.End (cond (inside table (c .place) 16) (Chain′.At (chainAt table (c .place) (c .left - 1))) Chain′.End)
+
+-- a feature has 12 bytes: type, setting, the flags that it enables, those that it does not disable
+unfoldable pub featureAt : List ℕ → (place left : ℕ) → Feature
+featureAt table place left =
+    record {
+      selector = u16At table place;
+      setting = u16At table (place + 2);
+      enable = u32At table (place + 4);
+      disable = u32At table (place + 8);
+      next = cursor (place + 12) left;
+    }
+
+unfoldable pub nextFeature : List ℕ → Cursor → NextFeature
+nextFeature table c =
+    ifEq (c .left) 0 Feature′.End (cond (inside table (c .place) 12) (Feature′.At (featureAt table (c .place) (c .left - 1))) Feature′.End)
+
+-- a subtable's head has 12 bytes: length, coverage, flags; the next one begins where the length says
+unfoldable pub subtableAt : List ℕ → (place left : ℕ) → Subtable
+subtableAt table place left =
+    record {
+      place = place;
+      coverage = u32At table (place + 4);
+      kind = kindOf (u32At table (place + 4));
+      order = orderOf (u32At table (place + 4));
+      vertical = isVertical (u32At table (place + 4));
+      flags = u32At table (place + 8);
+      next = cursor (place + u32At table place) left;
+    }
+
+unfoldable pub nextSubtable : List ℕ → Cursor → NextSubtable
+nextSubtable table c =
+    ifEq (c .left) 0 Subtable′.End (cond (inside table (c .place) 12) (Subtable′.At (subtableAt table (c .place) (c .left - 1))) Subtable′.End)

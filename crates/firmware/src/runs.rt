@@ -1,0 +1,62 @@
+// The exported passes by a subtable of whatever kind, and the runs over whole tables.
+use morx::Choices;
+ghost use mathlib.Core.Path.{_≡_};
+ghost use Rattle.answers.specs.Numbers.{numberOf};
+ghost use Rattle.line.specs.Line.{lineOf};
+ghost use Rattle.morx.specs.Calls.{passCall, passLeaves};
+ghost use Rattle.firmware.specs.Steps.{unlessRefused};
+ghost use Rattle.firmware.specs.Runs.{morxRun, morxLeaves};
+
+// The pass over a line, by the morx subtable at `start`, of whatever kind.
+#[no_mangle]
+pub extern "C" fn aat_morx_pass(
+    table: &[u8],
+    start: usize,
+    glyphs: &mut [u16],
+    tags: &mut [u16],
+    homes: &mut [u16],
+    used: &mut usize,
+) -> u32
+    ensures answer { λ r. ⌜ r ≡ numberOf (passCall (now (table .entry)) start (lineOf (now (glyphs .entry)) (now (tags .entry)) (now (homes .entry)) (now (used .entry))) .answer) ⌝ }
+    ensures glyphs { λ _. ⌜ now (glyphs .exit) ≡ passLeaves (now (table .entry)) start (lineOf (now (glyphs .entry)) (now (tags .entry)) (now (homes .entry)) (now (used .entry))) .glyphs ⌝ }
+    ensures tags { λ _. ⌜ now (tags .exit) ≡ passLeaves (now (table .entry)) start (lineOf (now (glyphs .entry)) (now (tags .entry)) (now (homes .entry)) (now (used .entry))) .tags ⌝ }
+    ensures homes { λ _. ⌜ now (homes .exit) ≡ passLeaves (now (table .entry)) start (lineOf (now (glyphs .entry)) (now (tags .entry)) (now (homes .entry)) (now (used .entry))) .homes ⌝ }
+    ensures used { λ _. ⌜ now (used .exit) ≡ passLeaves (now (table .entry)) start (lineOf (now (glyphs .entry)) (now (tags .entry)) (now (homes .entry)) (now (used .entry))) .used ⌝ }
+{
+    let reply = morx::pass(table, start, glyphs, tags, homes, *used);
+    *used = reply.used;
+    let answer = reply.answer;
+    answers::number(answer)
+}
+
+// The run over a line, by the morx table at `start`.
+#[no_mangle]
+pub extern "C" fn aat_morx_run(
+    table: &[u8],
+    start: usize,
+    right_to_left: u32,
+    glyphs: &mut [u16],
+    tags: &mut [u16],
+    homes: &mut [u16],
+    used: &mut usize,
+    heads: &mut u32,
+) -> u32
+    ensures answer { λ r. ⌜ r ≡ numberOf (morxRun (now (table .entry)) start «right_to_left» (lineOf (now (glyphs .entry)) (now (tags .entry)) (now (homes .entry)) (now (used .entry))) .answer) ⌝ }
+    ensures glyphs { λ _. ⌜ now (glyphs .exit) ≡ morxLeaves (now (table .entry)) start «right_to_left» (lineOf (now (glyphs .entry)) (now (tags .entry)) (now (homes .entry)) (now (used .entry))) .glyphs ⌝ }
+    ensures tags { λ _. ⌜ now (tags .exit) ≡ morxLeaves (now (table .entry)) start «right_to_left» (lineOf (now (glyphs .entry)) (now (tags .entry)) (now (homes .entry)) (now (used .entry))) .tags ⌝ }
+    ensures homes { λ _. ⌜ now (homes .exit) ≡ morxLeaves (now (table .entry)) start «right_to_left» (lineOf (now (glyphs .entry)) (now (tags .entry)) (now (homes .entry)) (now (used .entry))) .homes ⌝ }
+    ensures used { λ _. ⌜ now (used .exit) ≡ morxLeaves (now (table .entry)) start «right_to_left» (lineOf (now (glyphs .entry)) (now (tags .entry)) (now (homes .entry)) (now (used .entry))) .used ⌝ }
+    ensures heads { λ _. ⌜ now (heads .exit) ≡ unlessRefused (morxRun (now (table .entry)) start «right_to_left» (lineOf (now (glyphs .entry)) (now (tags .entry)) (now (homes .entry)) (now (used .entry))) .answer) (now (heads .entry)) (morxRun (now (table .entry)) start «right_to_left» (lineOf (now (glyphs .entry)) (now (tags .entry)) (now (homes .entry)) (now (used .entry))) .heads) ⌝ }
+{
+    let choices = Choices {
+        right_to_left: right_to_left != 0,
+    };
+    let reply = morx::run(table, start, choices, glyphs, tags, homes, *used);
+    *used = reply.used;
+    let answer = reply.answer;
+    if crate::steps::is_refused(answer) {
+        return answers::number(answer);
+    }
+    *heads = reply.heads;
+    answers::number(answer)
+}

@@ -1,0 +1,58 @@
+-- Demand 3 over calls. After any sequence of lone verbs, passes, lone steps and whole runs in either direction, each lent the line as
+-- the call before left it, the line is valid, every character belongs to exactly one place, the one that the history gives, and the
+-- length is the starting length and the glyphs inserted, never above the room. It begins with any valid line, or with a fresh one.
+use Prim.Native.Nat.{ℕ}
+use mathlib.Core.Path.{_≡_, refl}
+use mathlib.Core.List.{List}
+use lib.ListN.{length}
+use Rattle.answers.specs.Refuse.{refuse}
+use Rattle.answers.specs.declared.Check.the-variants.{Passed}
+use Rattle.line.specs.Line.{Line, Valid}
+use Rattle.line.specs.Changes.{applyAll}
+use Rattle.line.specs.Entries.{freshOf, freshTests}
+use Rattle.line.specs.History.{FromLine, FromFresh, Fits, Honest, leftBy, historyBy}
+use Rattle.line.proofs.Demand3.{over-calls, fresh-over-calls, verbs-honest}
+use Rattle.rearrangement.proofs.Honesty as Rearrangement′
+use Rattle.contextual.proofs.Honesty as Contextual′
+use Rattle.noncontextual.proofs.Honesty as NonContextual′
+use Rattle.ligature.proofs.Honesty as Ligature′
+use Rattle.insertion.proofs.Honesty as Insertion′
+use Rattle.morx.specs.Calls.{passLeaves, runLeaves}
+use Rattle.morx.specs.Sequence.{Call, leaves, makes}
+use Rattle.morx.proofs.Honesty.{pass-fits, run-fits}
+
+call-made : (call : Call) (l : Line) → Valid l → leaves call l ≡ applyAll (makes call l) l
+unfolding leaves makes passLeaves runLeaves
+call-made (Call.verb c) l v = verbs-honest .made c l v
+call-made (Call.rearrangement c) l v = Rearrangement′.passes-honest .made c l v
+call-made (Call.contextual c) l v = Contextual′.passes-honest .made c l v
+call-made (Call.contextualStep c) l v = Contextual′.steps-honest .made c l v
+call-made (Call.ligature c) l v = Ligature′.passes-honest .made c l v
+call-made (Call.ligatureStep c) l v = Ligature′.steps-honest .made c l v
+call-made (Call.noncontextual c) l v = NonContextual′.passes-honest .made c l v
+call-made (Call.insertion c) l v = Insertion′.passes-honest .made c l v
+call-made (Call.pass table start) l v = refl
+call-made (Call.run table start choices) l v = refl
+
+call-legal : (call : Call) (l : Line) → Valid l → Fits (makes call l) l
+unfolding makes
+call-legal (Call.verb c) l v = verbs-honest .legal c l v
+call-legal (Call.rearrangement c) l v = Rearrangement′.passes-honest .legal c l v
+call-legal (Call.contextual c) l v = Contextual′.passes-honest .legal c l v
+call-legal (Call.contextualStep c) l v = Contextual′.steps-honest .legal c l v
+call-legal (Call.ligature c) l v = Ligature′.passes-honest .legal c l v
+call-legal (Call.ligatureStep c) l v = Ligature′.steps-honest .legal c l v
+call-legal (Call.noncontextual c) l v = NonContextual′.passes-honest .legal c l v
+call-legal (Call.insertion c) l v = Insertion′.passes-honest .legal c l v
+call-legal (Call.pass table start) l v = pass-fits table start l v
+call-legal (Call.run table start choices) l v = run-fits table start choices l v
+
+pub calls-honest : Honest leaves makes
+calls-honest = record { made = call-made; legal = call-legal }
+
+pub demand3 : (calls : List Call) (l : Line) → Valid l → FromLine l (historyBy leaves makes calls l) (leftBy leaves makes calls l)
+demand3 = over-calls leaves makes calls-honest
+
+pub fresh-demand3 : (glyphs tags homes : List ℕ) → refuse (freshTests glyphs tags homes) ≡ Passed → (calls : List Call)
+    → FromFresh (length glyphs) (length homes) (historyBy leaves makes calls (freshOf glyphs tags homes)) (leftBy leaves makes calls (freshOf glyphs tags homes))
+fresh-demand3 glyphs tags homes taken = fresh-over-calls glyphs tags homes taken leaves makes calls-honest

@@ -1,0 +1,64 @@
+-- What passes and runs add to the history: on every valid line their changes are legal.
+use Prim.Native.Nat.{ℕ, zero, suc}
+use mathlib.Core.Path.{_≡_, refl, subst⁻¹}
+use mathlib.Core.Bool.{Bool, true, false}
+use mathlib.Core.List.{List, [], _∷_}
+use lib.ListN.{length, drop}
+use Rattle.answers.specs.Refuse.{refuse}
+use Rattle.answers.specs.declared.Check.{Check}
+use Rattle.answers.specs.declared.Check.the-variants as Check′
+use Rattle.line.specs.Line.{Line, Valid}
+use Rattle.line.specs.Changes.{Change, applyAll}
+use Rattle.line.specs.History.{Fits}
+use Rattle.machine.specs.Pass.{Passed, isDone}
+use Rattle.machine.specs.Call.{refusedCall}
+use Rattle.machine.proofs.Quiet.{quiet-none, quiet-fits}
+use Rattle.chains.specs.Walk.{walkOf}
+use Rattle.chains.specs.declared.Head.{Head}
+use Rattle.answers.specs.Limits.{headLimit}
+use Rattle.morx.specs.Kinds.{kindAt, worked}
+use Rattle.morx.specs.Run.{visit, visitLeaves, flagsAfter, Ran, runOver, ran}
+use Rattle.morx.specs.Calls.{passTests, passCall, runTests, refusedRun, runCall}
+use Rattle.morx.specs.declared.Choices.{Choices}
+use Rattle.morx.proofs.Leaves.{valid-after, fits-then}
+use Rattle.morx.proofs.Machines.{worked-fits}
+use Rattle.morx.proofs.Visits.{visit-fits}
+use Rattle.morx.proofs.Runs.{run-none, run-limit, run-stops, run-goes}
+
+none-fits : (l : Line) → Valid l → Fits [] l
+none-fits l v = quiet-fits [] l v quiet-none
+
+pub pass-fits : (table : List ℕ) (start : ℕ) (l : Line) → Valid l → Fits (passCall table start l .changes) l
+unfolding passCall
+pass-fits table start l v = go (refuse (passTests (length table) l (drop start table)))
+  where
+    go : (check : Check) → Fits (refusedCall check (worked (kindAt (drop start table)) (drop start table) l) .changes) l
+    go (Check′.Refused why) = none-fits l v
+    go Check′.Passed = worked-fits (kindAt (drop start table)) (drop start table) l v
+
+module _ (table : List ℕ) (choices : Choices) where
+  over-fits : (left flags : ℕ) (heads : List Head) (l : Line) → Valid l → Fits (runOver table choices left flags heads l .changes) l
+  unfolding visitLeaves
+  over-fits left flags [] l v = subst⁻¹ (λ (r : Ran). Fits (r .changes) l) (run-none table choices left flags l) (none-fits l v)
+  over-fits zero flags (head ∷ heads) l v = subst⁻¹ (λ (r : Ran). Fits (r .changes) l) (run-limit table choices 0 flags l head heads) (none-fits l v)
+  over-fits (suc left) flags (head ∷ heads) l v =
+      let made = visit-fits table choices flags l head v in
+      go made
+      (over-fits left (flagsAfter head flags) heads (visitLeaves table choices flags head l) (valid-after (visit table choices flags head l .changes) l v made))
+      (isDone (visit table choices flags head l .answer)) refl
+    where
+      go : Fits (visit table choices flags head l .changes) l
+          → Fits (runOver table choices left (flagsAfter head flags) heads (visitLeaves table choices flags head l) .changes) (applyAll (visit table choices flags head l .changes) l)
+          → (b : Bool) → isDone (visit table choices flags head l .answer) ≡ b → Fits (runOver table choices (suc left) flags (head ∷ heads) l .changes) l
+      go made then false e = subst⁻¹ (λ (r : Ran). Fits (r .changes) l) (run-stops table choices left flags l head heads e) made
+      go made then true e =
+          subst⁻¹ (λ (r : Ran). Fits (r .changes) l) (run-goes table choices left flags l head heads e)
+          (fits-then (visit table choices flags head l .changes) l v made _ then)
+
+pub run-fits : (table : List ℕ) (start : ℕ) (choices : Choices) (l : Line) → Valid l → Fits (runCall table start choices l .changes) l
+unfolding runCall ran
+run-fits table start choices l v = go (refuse (runTests (length table) start l))
+  where
+    go : (check : Check) → Fits (refusedRun check (ran table start choices l) .changes) l
+    go (Check′.Refused why) = none-fits l v
+    go Check′.Passed = over-fits table choices headLimit 0 (walkOf table start) l v

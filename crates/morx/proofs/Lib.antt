@@ -1,0 +1,12 @@
+-- Laws of the pass by kind and of the run.
+mod Kept
+mod Leaves
+mod Machines
+mod Visits
+mod Runs
+mod Calls
+pub mod Heads
+pub mod Closed
+mod Known
+pub mod Honesty
+pub mod Demand3

@@ -1,0 +1,90 @@
+use Rattle.contextual.specs.Calls as Contextual′
+use Rattle.ligature.specs.Calls as Ligature′
+use Rattle.insertion.specs.Calls as Insertion′
+use Rattle.morx.specs.Kinds.{openedWithPlaces, isOpen}
+use borrow.Author.Needs.{needs}
+use Rattle.morx.proofs.opens.Statement.{statement}
+use Rattle.morx.proofs.opens.Tie as tie
+
+enum-told : tie.Need-enum-told
+enum-told c = search needs
+
+open-requires : tie.Need-open-requires
+open-requires c κs = search needs
+
+is-ready-requires : tie.Need-is-ready-requires
+is-ready-requires c κs = search needs
+
+returns : tie.Need-returns
+unfolding isOpen
+returns c = rw (c .before .before .enum-told .given .1, c .is-ready .ensures, c .before .«open» .ensures, isOpen)
+
+enum-told-2 : tie.Need-enum-told-2
+enum-told-2 c = search needs
+
+opens-with-places-requires : tie.Need-opens-with-places-requires
+opens-with-places-requires c κs = search needs
+
+returns-2 : tie.Need-returns-2
+unfolding isOpen Contextual′.opened openedWithPlaces
+returns-2 c = rw (c .before .enum-told2 .given .1, c .opens-with-places .ensures, isOpen)
+
+enum-told-3 : tie.Need-enum-told-3
+enum-told-3 c = search needs
+
+opens-with-places-requires-2 : tie.Need-opens-with-places-requires-2
+opens-with-places-requires-2 c κs = search needs
+
+returns-3 : tie.Need-returns-3
+unfolding isOpen Ligature′.opened openedWithPlaces
+returns-3 c = rw (c .before .enum-told3 .given .1, c .opens-with-places2 .ensures, isOpen)
+
+enum-told-4 : tie.Need-enum-told-4
+enum-told-4 c = search needs
+
+has-kind-requires : tie.Need-has-kind-requires
+has-kind-requires c κs = search needs
+
+returns-4 : tie.Need-returns-4
+unfolding isOpen
+returns-4 c = rw (c .before .enum-told4 .given .1, c .has-kind .ensures, isOpen)
+
+enum-told-5 : tie.Need-enum-told-5
+enum-told-5 c = search needs
+
+opens-with-places-requires-3 : tie.Need-opens-with-places-requires-3
+opens-with-places-requires-3 c κs = search needs
+
+returns-5 : tie.Need-returns-5
+unfolding isOpen Insertion′.opened openedWithPlaces
+returns-5 c = rw (c .before .enum-told5 .given .1, c .opens-with-places3 .ensures, isOpen)
+
+enum-told-6 : tie.Need-enum-told-6
+enum-told-6 c = search needs
+
+returns-6 : tie.Need-returns-6
+unfolding isOpen
+returns-6 c = rw (c .enum-told6 .given .1, isOpen)
+
+pub opens-spec : {M : Type 1} → statement M
+opens-spec =
+    tie.close
+    (tie.spec
+    enum-told
+    open-requires
+    is-ready-requires
+    returns
+    enum-told-2
+    opens-with-places-requires
+    returns-2
+    enum-told-3
+    opens-with-places-requires-2
+    returns-3
+    enum-told-4
+    has-kind-requires
+    returns-4
+    enum-told-5
+    opens-with-places-requires-3
+    returns-5
+    enum-told-6
+    returns-6)

@@ -1,0 +1,147 @@
+use native.Mathlib.Omega.{arith}
+use Rattle.line.specs.Line.{lineOf}
+use Rattle.morx.specs.Kinds.{worked, workLeaves}
+use Rattle.morx.proofs.Leaves.{to-post, valid-line, fits-tags}
+use Rattle.morx.proofs.Machines.{by-rearrangement, by-contextual, by-ligature, by-noncontextual, by-insertion, by-none}
+use borrow.Author.Needs.{needs}
+use Rattle.morx.proofs.work.Statement.{statement}
+use Rattle.morx.proofs.work.Tie as tie
+
+enum-told : tie.Need-enum-told
+enum-told c = search needs
+
+work-requires : tie.Need-work-requires
+work-requires c κs = let v = valid-line (c .before .before .before .before .before .before .before .before .before .pre) in (v .within, fits-tags v, omega (arith, v .within, v .limited))
+
+same-length : tie.Need-same-length
+same-length c = search needs
+
+same-length-2 : tie.Need-same-length-2
+same-length-2 c = search needs
+
+same-length-3 : tie.Need-same-length-3
+same-length-3 c = search needs
+
+returns : tie.Need-returns
+unfolding workLeaves
+returns c = to-post (worked _ _ (lineOf _ _ _ _)) (lineOf _ _ _ _) _ _ _ _ (by-rearrangement _ _ _ _ _ _ (c .before .before .before .before .before .before .before .before .enum-told .given .1) (c .before .before .before .before .work .ensures .0) (c .before .before .before .before .work .ensures .1 .0) (c .before .before .before .before .work .ensures .1 .1))
+
+enum-told-2 : tie.Need-enum-told-2
+enum-told-2 c = search needs
+
+work-requires-2 : tie.Need-work-requires-2
+work-requires-2 c κs = valid-line (c .before .before .before .before .before .before .before .before .before .pre) .within
+
+same-length-4 : tie.Need-same-length-4
+same-length-4 c = search needs
+
+same-length-5 : tie.Need-same-length-5
+same-length-5 c = search needs
+
+same-length-6 : tie.Need-same-length-6
+same-length-6 c = search needs
+
+returns-2 : tie.Need-returns-2
+unfolding workLeaves
+returns-2 c = to-post (worked _ _ (lineOf _ _ _ _)) (lineOf _ _ _ _) _ _ _ _ (by-contextual _ _ _ _ _ _ (c .before .before .before .before .before .before .enum-told2 .given .1) (c .before .before .work2 .ensures .0) (c .before .before .work2 .ensures .1))
+
+enum-told-3 : tie.Need-enum-told-3
+enum-told-3 c = search needs
+
+work-requires-3 : tie.Need-work-requires-3
+work-requires-3 c κs = let v = valid-line (c .before .before .before .before .before .before .before .before .before .pre) in (v .within, fits-tags v)
+
+same-length-7 : tie.Need-same-length-7
+same-length-7 c = search needs
+
+same-length-8 : tie.Need-same-length-8
+same-length-8 c = search needs
+
+same-length-9 : tie.Need-same-length-9
+same-length-9 c = search needs
+
+returns-3 : tie.Need-returns-3
+unfolding workLeaves
+returns-3 c = to-post (worked _ _ (lineOf _ _ _ _)) (lineOf _ _ _ _) _ _ _ _ (by-ligature _ _ _ _ _ _ (c .before .before .before .before .before .before .before .before .enum-told3 .given .1) (c .before .before .before .before .work3 .ensures .0) (c .before .before .before .before .work3 .ensures .1 .0) (c .before .before .before .before .work3 .ensures .1 .1))
+
+enum-told-4 : tie.Need-enum-told-4
+enum-told-4 c = search needs
+
+work-requires-4 : tie.Need-work-requires-4
+work-requires-4 c κs = valid-line (c .before .before .before .before .before .before .before .before .before .pre) .within
+
+same-length-10 : tie.Need-same-length-10
+same-length-10 c = search needs
+
+same-length-11 : tie.Need-same-length-11
+same-length-11 c = search needs
+
+same-length-12 : tie.Need-same-length-12
+same-length-12 c = search needs
+
+returns-4 : tie.Need-returns-4
+unfolding workLeaves
+returns-4 c = to-post (worked _ _ (lineOf _ _ _ _)) (lineOf _ _ _ _) _ _ _ _ (by-noncontextual _ _ _ _ _ _ (c .before .before .before .before .before .before .enum-told4 .given .1) (c .before .before .work4 .ensures .0) (c .before .before .work4 .ensures .1))
+
+enum-told-5 : tie.Need-enum-told-5
+enum-told-5 c = search needs
+
+work-requires-5 : tie.Need-work-requires-5
+work-requires-5 c κs = let v = valid-line (c .before .before .before .before .before .before .before .before .before .pre) in (v .within, v .paired, v .limited)
+
+same-length-13 : tie.Need-same-length-13
+same-length-13 c = search needs
+
+same-length-14 : tie.Need-same-length-14
+same-length-14 c = search needs
+
+same-length-15 : tie.Need-same-length-15
+same-length-15 c = search needs
+
+returns-5 : tie.Need-returns-5
+unfolding workLeaves
+returns-5 c = to-post (worked _ _ (lineOf _ _ _ _)) (lineOf _ _ _ _) _ _ _ _ (by-insertion _ _ _ _ _ _ (c .before .before .before .before .before .before .before .before .enum-told5 .given .1) (c .before .before .before .before .work5 .ensures .0) (c .before .before .before .before .work5 .ensures .1 .0) (c .before .before .before .before .work5 .ensures .1 .1 .0) (c .before .before .before .before .work5 .ensures .1 .1 .1))
+
+enum-told-6 : tie.Need-enum-told-6
+enum-told-6 c = search needs
+
+returns-6 : tie.Need-returns-6
+unfolding workLeaves
+returns-6 c = to-post (worked _ _ (lineOf _ _ _ _)) (lineOf _ _ _ _) _ _ _ _ (by-none _ _ _ _ _ _ (c .enum-told6 .given .1))
+
+pub work-spec : {M : Type 1} → statement M
+work-spec =
+    tie.close
+    (tie.spec
+    enum-told
+    work-requires
+    same-length
+    same-length-2
+    same-length-3
+    returns
+    enum-told-2
+    work-requires-2
+    same-length-4
+    same-length-5
+    same-length-6
+    returns-2
+    enum-told-3
+    work-requires-3
+    same-length-7
+    same-length-8
+    same-length-9
+    returns-3
+    enum-told-4
+    work-requires-4
+    same-length-10
+    same-length-11
+    same-length-12
+    returns-4
+    enum-told-5
+    work-requires-5
+    same-length-13
+    same-length-14
+    same-length-15
+    returns-5
+    enum-told-6
+    returns-6)

@@ -1,0 +1,68 @@
+-- The pass by a subtable of whatever kind.
+use Prim.Native.Nat.{ℕ, _%_}
+use mathlib.Core.Bool.{Bool, true, false, not, cond}
+use mathlib.Core.List.{List, []}
+use Rattle.laws.specs.Choose.{ifEq}
+use Rattle.answers.specs.declared.Answer.the-variants as Answer′
+use Rattle.answers.specs.declared.Refusal.the-variants as Refusal′
+use Rattle.parse.specs.Reads.{inside, u32At, readU32}
+use Rattle.parse.specs.Use.{onU32}
+use Rattle.state_tables.specs.declared.Made.{Made}
+use Rattle.state_tables.specs.declared.Made.the-variants as Made′
+use Rattle.line.specs.Line.{Line}
+use Rattle.line.specs.Changes.{applyAll}
+use Rattle.machine.specs.Head.{hasKind, bodyOf}
+use Rattle.machine.specs.Pass.{Passed}
+use Rattle.machine.specs.Call.{isShort, opened}
+use Rattle.rearrangement.specs.Rearrangement as Rearrangement′
+use Rattle.contextual.specs.Calls as Contextual′
+use Rattle.noncontextual.specs.NonContextual as NonContextual′
+use Rattle.ligature.specs.Calls as Ligature′
+use Rattle.insertion.specs.Calls as Insertion′
+use Rattle.morx.specs.declared.Kind.{Kind}
+use Rattle.morx.specs.declared.Kind.the-variants.{Rearrangement, Contextual, Ligature, NonContextual, Insertion, LeftOut}
+use Rattle.morx.specs.declared.PassReply.{PassReply}
+
+-- the kinds 0, 1, 2, 4 and 5 are taken
+unfoldable pub kindOf : ℕ → Kind
+kindOf n =
+    ifEq n 0 Rearrangement
+    (ifEq n 1 Contextual
+    (ifEq n 2 Ligature
+    (ifEq n 4 NonContextual
+    (ifEq n 5 Insertion LeftOut))))
+
+-- of the bytes that a subtable begins with: its head has 12, and the kind is the low byte of the coverage at 4
+unfoldable pub kindAt : List ℕ → Kind
+kindAt bytes = cond (inside bytes 0 12) (kindOf (u32At bytes 4 % 256)) LeftOut
+
+-- the state table of a subtable of this kind, where the last of the places that it tells behind the state table's head can be read,
+-- too: the machines' own `opened`
+unfoldable pub openedWithPlaces : List ℕ → (kind last : ℕ) → Made
+openedWithPlaces bytes kind last = onU32 (readU32 (bodyOf bytes) last) (λ place. opened bytes kind) Made′.Short
+
+-- the crate's `kind` gives the subtable: its kind is taken and its machine can open it
+unfoldable pub isOpen : Kind → List ℕ → Bool
+isOpen Rearrangement bytes = not (isShort (opened bytes 0))
+isOpen Contextual bytes = not (isShort (Contextual′.opened bytes))
+isOpen Ligature bytes = not (isShort (Ligature′.opened bytes))
+isOpen NonContextual bytes = hasKind bytes 4
+isOpen Insertion bytes = not (isShort (Insertion′.opened bytes))
+isOpen LeftOut bytes = false
+
+-- the pass of a subtable of a kind, over its bytes, the head included; HEAD where the kind is left out or can't be opened
+unfoldable pub worked : Kind → List ℕ → Line → Passed
+worked Rearrangement bytes l = Rearrangement′.worked bytes l
+worked Contextual bytes l = Contextual′.worked bytes l
+worked Ligature bytes l = Ligature′.worked bytes l
+worked NonContextual bytes l = NonContextual′.worked bytes l
+worked Insertion bytes l = Insertion′.worked bytes l
+worked LeftOut bytes l = record { answer = Answer′.Refused Refusal′.Head; changes = [] }
+
+-- the line that it leaves
+unfoldable pub workLeaves : Kind → List ℕ → Line → Line
+workLeaves kind bytes l = applyAll (worked kind bytes l .changes) l
+
+-- what a pass answers: its answer, and the used length after its changes
+abbrev pub replyOf : Passed → Line → PassReply
+replyOf p l = record { answer = p .answer; used = applyAll (p .changes) l .used }

@@ -1,0 +1,6 @@
+-- morx: the pass by kind, and the whole run.
+pub mod Kinds
+pub mod Run
+pub mod Heads
+pub mod Calls
+pub mod Sequence

@@ -1,0 +1,450 @@
+// morx: the pass by a subtable of whatever kind, and the whole run over a table.
+use answers::Answer;
+use answers::Check;
+use answers::HEADS;
+use answers::Refusal;
+use chains::Head;
+use chains::NextHead;
+use chains::Subtable;
+use contextual::ContextualState;
+use insertion::InsertionState;
+use ligature::LigatureState;
+use rearrangement::RearrangementState;
+use state_tables::Made;
+ghost use mathlib.Core.Path.{_≡_};
+ghost use mathlib.Core.Bool.{true, not};
+ghost use Prim.Native.Nat.{_≤_};
+ghost use lib.ListN.{length, drop};
+ghost use Rattle.answers.specs.Refuse.{refuse};
+ghost use Rattle.line.specs.Line.{lineOf};
+ghost use Rattle.line.specs.Test.{isValid};
+ghost use Rattle.machine.specs.Call.{isShort};
+ghost use Rattle.morx.specs.Kinds.{kindOf, kindAt, openedWithPlaces, isOpen, worked, workLeaves, replyOf};
+ghost use Rattle.morx.specs.Run.{shareBit, isPassedOver, turnedWork, turnedLeaves, settledAnswer, flagsAfter, visit, visitLeaves, visitSubtable, subtableLeaves, ran, ranLeaves, runReplyOf};
+ghost use Rattle.morx.specs.Calls.{lineTests, passCall, passLeaves, runTests, runCall, runLeaves};
+
+// The kinds of subtables; those that are left out are one.
+pub enum Kind {
+    Rearrangement,
+    Contextual,
+    Ligature,
+    NonContextual,
+    Insertion,
+    LeftOut,
+}
+
+// What a pass answers, and the used length afterwards.
+pub struct PassReply {
+    pub answer: Answer,
+    pub used: usize,
+}
+
+// What a run is told beside the table and the line: whether the line goes from right to left.
+pub struct Choices {
+    pub right_to_left: bool,
+}
+
+// What a run answers, the used length afterwards, and how many heads it read.
+pub struct RunReply {
+    pub answer: Answer,
+    pub used: usize,
+    pub heads: u32,
+}
+
+// The kind of this number.
+fn kind_of(number: u32) -> Kind
+    ensures { λ r. ⌜ r ≡ kindOf number ⌝ }
+{
+    if number == 0 {
+        return Kind::Rearrangement;
+    }
+    if number == 1 {
+        return Kind::Contextual;
+    }
+    if number == 2 {
+        return Kind::Ligature;
+    }
+    if number == 4 {
+        return Kind::NonContextual;
+    }
+    if number == 5 {
+        return Kind::Insertion;
+    }
+    Kind::LeftOut
+}
+
+// The kind of the subtable that the bytes begin with; one whose head is cut short has none that is taken.
+fn kind_at(bytes: &[u8]) -> Kind
+    ensures { λ r. ⌜ r ≡ kindAt (now (bytes .entry)) ⌝ }
+{
+    let parse::ReadPart::Until(_) = parse::read_part(bytes, 0, 12) else {
+        return Kind::LeftOut;
+    };
+    let parse::ReadU32::Got(coverage) = parse::read_u32(bytes, 4) else {
+        return Kind::LeftOut;
+    };
+    kind_of(coverage % 256)
+}
+
+// The pass by a subtable of a kind, on a line that LINE has taken; HEAD where it can't be opened.
+fn work(
+    kind: Kind,
+    bytes: &[u8],
+    glyphs: &mut [u16],
+    tags: &mut [u16],
+    homes: &mut [u16],
+    used: usize,
+) -> PassReply
+    requires { ⌜ isValid (lineOf (now glyphs) (now tags) (now homes) used) ≡ true ⌝ }
+    ensures reply { λ r. ⌜ r ≡ replyOf (worked kind (now (bytes .entry)) (lineOf (now (glyphs .entry)) (now (tags .entry)) (now (homes .entry)) used)) (lineOf (now (glyphs .entry)) (now (tags .entry)) (now (homes .entry)) used) ⌝ }
+    ensures glyphs { λ _. ⌜ now (glyphs .exit) ≡ workLeaves kind (now (bytes .entry)) (lineOf (now (glyphs .entry)) (now (tags .entry)) (now (homes .entry)) used) .glyphs ⌝ }
+    ensures tags { λ _. ⌜ now (tags .exit) ≡ workLeaves kind (now (bytes .entry)) (lineOf (now (glyphs .entry)) (now (tags .entry)) (now (homes .entry)) used) .tags ⌝ }
+    ensures homes { λ _. ⌜ now (homes .exit) ≡ workLeaves kind (now (bytes .entry)) (lineOf (now (glyphs .entry)) (now (tags .entry)) (now (homes .entry)) used) .homes ⌝ }
+{
+    match kind {
+        Kind::Rearrangement => {
+            let answer = rearrangement::work(bytes, glyphs, tags, homes, used);
+            return PassReply { answer, used };
+        }
+        Kind::Contextual => {
+            let answer = contextual::work(bytes, glyphs, tags, homes, used);
+            return PassReply { answer, used };
+        }
+        Kind::Ligature => {
+            let answer = ligature::work(bytes, glyphs, tags, homes, used);
+            return PassReply { answer, used };
+        }
+        Kind::NonContextual => {
+            let answer = noncontextual::work(bytes, glyphs, tags, homes, used);
+            return PassReply { answer, used };
+        }
+        Kind::Insertion => {
+            let done = insertion::work(bytes, glyphs, tags, homes, used);
+            let answer = done.answer;
+            return PassReply {
+                answer,
+                used: done.used,
+            };
+        }
+        Kind::LeftOut => {
+            return PassReply {
+                answer: Answer::Refused(Refusal::Head),
+                used,
+            };
+        }
+    }
+}
+
+// Whether a state table was made.
+fn is_ready(made: Made) -> bool
+    ensures { λ r. ⌜ r ≡ not (isShort made) ⌝ }
+{
+    match made {
+        Made::Ready(_) => true,
+        Made::Short => false,
+    }
+}
+
+// Whether a machine's subtable can be opened that tells further places behind its state table's head, the last of them at `last`.
+fn opens_with_places(bytes: &[u8], kind: u32, last: usize) -> bool
+    ensures { λ r. ⌜ r ≡ not (isShort (openedWithPlaces (now (bytes .entry)) kind last)) ⌝ }
+{
+    let parse::ReadU32::Got(_) = parse::read_u32(parse::from(bytes, 12), last) else {
+        return false;
+    };
+    is_ready(machine::open(bytes, kind))
+}
+
+// Whether the subtable of a kind that the bytes begin with can be opened.
+fn opens(kind: Kind, bytes: &[u8]) -> bool
+    ensures { λ r. ⌜ r ≡ isOpen kind (now (bytes .entry)) ⌝ }
+{
+    match kind {
+        Kind::Rearrangement => {
+            return is_ready(machine::open(bytes, RearrangementState::KIND));
+        }
+        Kind::Contextual => {
+            return opens_with_places(bytes, ContextualState::KIND, 16);
+        }
+        Kind::Ligature => {
+            return opens_with_places(bytes, LigatureState::KIND, 24);
+        }
+        Kind::NonContextual => {
+            return machine::has_kind(bytes, noncontextual::KIND);
+        }
+        Kind::Insertion => {
+            return opens_with_places(bytes, InsertionState::KIND, 16);
+        }
+        Kind::LeftOut => {
+            return false;
+        }
+    }
+}
+
+// The pass on the line, turned round where that is asked for; it is turned back however the pass ends.
+fn turn_and_work(
+    turned: bool,
+    kind: Kind,
+    bytes: &[u8],
+    glyphs: &mut [u16],
+    tags: &mut [u16],
+    homes: &mut [u16],
+    used: usize,
+) -> PassReply
+    requires { ⌜ isValid (lineOf (now glyphs) (now tags) (now homes) used) ≡ true ⌝ }
+    ensures reply { λ r. ⌜ r ≡ replyOf (turnedWork turned kind (now (bytes .entry)) (lineOf (now (glyphs .entry)) (now (tags .entry)) (now (homes .entry)) used)) (lineOf (now (glyphs .entry)) (now (tags .entry)) (now (homes .entry)) used) ⌝ }
+    ensures glyphs { λ _. ⌜ now (glyphs .exit) ≡ turnedLeaves turned kind (now (bytes .entry)) (lineOf (now (glyphs .entry)) (now (tags .entry)) (now (homes .entry)) used) .glyphs ⌝ }
+    ensures tags { λ _. ⌜ now (tags .exit) ≡ turnedLeaves turned kind (now (bytes .entry)) (lineOf (now (glyphs .entry)) (now (tags .entry)) (now (homes .entry)) used) .tags ⌝ }
+    ensures homes { λ _. ⌜ now (homes .exit) ≡ turnedLeaves turned kind (now (bytes .entry)) (lineOf (now (glyphs .entry)) (now (tags .entry)) (now (homes .entry)) used) .homes ⌝ }
+{
+    if !turned {
+        return work(kind, bytes, glyphs, tags, homes, used);
+    }
+    line::edits::reverse(glyphs, tags, used);
+    let reply = work(kind, bytes, glyphs, tags, homes, used);
+    line::edits::reverse(glyphs, tags, reply.used);
+    reply
+}
+
+// Whether two numbers have some common bit.
+fn share_bit(a: u32, b: u32) -> bool
+    ensures { λ r. ⌜ r ≡ shareBit a b ⌝ }
+{
+    a & b != 0
+}
+
+// Whether a run passes over a subtable, whose bytes these are.
+fn passes_over(flags: u32, subtable: Subtable, bytes: &[u8]) -> bool
+    ensures { λ r. ⌜ r ≡ isPassedOver flags subtable (now (bytes .entry)) ⌝ }
+{
+    if !share_bit(flags, subtable.flags) {
+        return true;
+    }
+    if subtable.vertical {
+        return true;
+    }
+    !opens(kind_of(subtable.kind), bytes)
+}
+
+// What a pass's answer is to its run: FULL ends that, any other end is the subtable's own.
+fn settle(answer: Answer) -> Answer
+    ensures { λ r. ⌜ r ≡ settledAnswer answer ⌝ }
+{
+    match answer {
+        Answer::Full => Answer::Full,
+        Answer::Done => Answer::Done,
+        Answer::Nothing => Answer::Done,
+        Answer::Ended => Answer::Done,
+        Answer::Limit => Answer::Done,
+        Answer::Refused(_) => Answer::Done,
+    }
+}
+
+// A run's visit of a subtable, under its chain's flags.
+fn visit_subtable(
+    table: &[u8],
+    choices: Choices,
+    flags: u32,
+    subtable: Subtable,
+    glyphs: &mut [u16],
+    tags: &mut [u16],
+    homes: &mut [u16],
+    used: usize,
+) -> PassReply
+    requires { ⌜ isValid (lineOf (now glyphs) (now tags) (now homes) used) ≡ true ⌝ }
+    ensures reply { λ r. ⌜ r ≡ replyOf (visitSubtable (now (table .entry)) choices flags subtable (lineOf (now (glyphs .entry)) (now (tags .entry)) (now (homes .entry)) used)) (lineOf (now (glyphs .entry)) (now (tags .entry)) (now (homes .entry)) used) ⌝ }
+    ensures glyphs { λ _. ⌜ now (glyphs .exit) ≡ subtableLeaves (now (table .entry)) choices flags subtable (lineOf (now (glyphs .entry)) (now (tags .entry)) (now (homes .entry)) used) .glyphs ⌝ }
+    ensures tags { λ _. ⌜ now (tags .exit) ≡ subtableLeaves (now (table .entry)) choices flags subtable (lineOf (now (glyphs .entry)) (now (tags .entry)) (now (homes .entry)) used) .tags ⌝ }
+    ensures homes { λ _. ⌜ now (homes .exit) ≡ subtableLeaves (now (table .entry)) choices flags subtable (lineOf (now (glyphs .entry)) (now (tags .entry)) (now (homes .entry)) used) .homes ⌝ }
+{
+    let bytes = parse::from(table, subtable.place);
+    if passes_over(flags, subtable, bytes) {
+        return PassReply {
+            answer: Answer::Done,
+            used,
+        };
+    }
+    let order = subtable.order;
+    let turned = chains::should_reverse(order, choices.right_to_left);
+    let kind = kind_of(subtable.kind);
+    let reply = turn_and_work(turned, kind, bytes, glyphs, tags, homes, used);
+    let answer = reply.answer;
+    PassReply {
+        answer: settle(answer),
+        used: reply.used,
+    }
+}
+
+// A run's visit of a head: at a chain there is nothing to do.
+fn visit(
+    table: &[u8],
+    choices: Choices,
+    flags: u32,
+    head: Head,
+    glyphs: &mut [u16],
+    tags: &mut [u16],
+    homes: &mut [u16],
+    used: usize,
+) -> PassReply
+    requires { ⌜ isValid (lineOf (now glyphs) (now tags) (now homes) used) ≡ true ⌝ }
+    ensures reply { λ r. ⌜ r ≡ replyOf (visit (now (table .entry)) choices flags head (lineOf (now (glyphs .entry)) (now (tags .entry)) (now (homes .entry)) used)) (lineOf (now (glyphs .entry)) (now (tags .entry)) (now (homes .entry)) used) ⌝ }
+    ensures glyphs { λ _. ⌜ now (glyphs .exit) ≡ visitLeaves (now (table .entry)) choices flags head (lineOf (now (glyphs .entry)) (now (tags .entry)) (now (homes .entry)) used) .glyphs ⌝ }
+    ensures tags { λ _. ⌜ now (tags .exit) ≡ visitLeaves (now (table .entry)) choices flags head (lineOf (now (glyphs .entry)) (now (tags .entry)) (now (homes .entry)) used) .tags ⌝ }
+    ensures homes { λ _. ⌜ now (homes .exit) ≡ visitLeaves (now (table .entry)) choices flags head (lineOf (now (glyphs .entry)) (now (tags .entry)) (now (homes .entry)) used) .homes ⌝ }
+{
+    let Head::Subtable(subtable) = head else {
+        return PassReply {
+            answer: Answer::Done,
+            used,
+        };
+    };
+    visit_subtable(table, choices, flags, subtable, glyphs, tags, homes, used)
+}
+
+// The flags that choose behind a head: those of the last chain.
+fn flags_after(head: Head, flags: u32) -> u32
+    ensures { λ r. ⌜ r ≡ flagsAfter head flags ⌝ }
+{
+    let Head::Chain(chain) = head else {
+        return flags;
+    };
+    chain.flags
+}
+
+// The run over a line that LINE has taken, and a table whose start is not past its end.
+fn run_line(
+    table: &[u8],
+    start: usize,
+    choices: Choices,
+    glyphs: &mut [u16],
+    tags: &mut [u16],
+    homes: &mut [u16],
+    used: usize,
+) -> RunReply
+    requires { ⌜ (isValid (lineOf (now glyphs) (now tags) (now homes) used) ≡ true) × (start ≤ length (now table)) ⌝ }
+    ensures reply { λ r. ⌜ r ≡ runReplyOf (ran (now (table .entry)) start choices (lineOf (now (glyphs .entry)) (now (tags .entry)) (now (homes .entry)) used)) (lineOf (now (glyphs .entry)) (now (tags .entry)) (now (homes .entry)) used) ⌝ }
+    ensures glyphs { λ _. ⌜ now (glyphs .exit) ≡ ranLeaves (now (table .entry)) start choices (lineOf (now (glyphs .entry)) (now (tags .entry)) (now (homes .entry)) used) .glyphs ⌝ }
+    ensures tags { λ _. ⌜ now (tags .exit) ≡ ranLeaves (now (table .entry)) start choices (lineOf (now (glyphs .entry)) (now (tags .entry)) (now (homes .entry)) used) .tags ⌝ }
+    ensures homes { λ _. ⌜ now (homes .exit) ≡ ranLeaves (now (table .entry)) start choices (lineOf (now (glyphs .entry)) (now (tags .entry)) (now (homes .entry)) used) .homes ⌝ }
+{
+    let mut walk = chains::walk_from(table, start);
+    let mut flags: u32 = 0;
+    let mut heads: u32 = 0;
+    let mut length = used;
+    while heads < HEADS {
+        let NextHead::At { head, next } = chains::next_head(table, walk) else {
+            return RunReply {
+                answer: Answer::Done,
+                used: length,
+                heads,
+            };
+        };
+        let reply = visit(table, choices, flags, head, glyphs, tags, homes, length);
+        heads += 1;
+        length = reply.used;
+        let answer = reply.answer;
+        if !machine::is_done(answer) {
+            return RunReply {
+                answer,
+                used: length,
+                heads,
+            };
+        }
+        flags = flags_after(head, flags);
+        walk = next;
+    }
+    let NextHead::At { head: _, next: _ } = chains::next_head(table, walk) else {
+        return RunReply {
+            answer: Answer::Done,
+            used: length,
+            heads,
+        };
+    };
+    RunReply {
+        answer: Answer::Limit,
+        used: length,
+        heads,
+    }
+}
+
+// The tests before a pass: TABLE, LINE.
+fn refuse_line(length: usize, glyphs: &[u16], tags: &[u16], homes: &[u16], used: usize) -> Check
+    ensures { λ r. ⌜ r ≡ refuse (lineTests length (lineOf (now (glyphs .entry)) (now (tags .entry)) (now (homes .entry)) used)) ⌝ }
+{
+    if let Check::Refused(why) = answers::refuse_table(length) {
+        return Check::Refused(why);
+    }
+    if !line::valid::takes(glyphs, tags, homes, used) {
+        return Check::Refused(Refusal::Line);
+    }
+    Check::Passed
+}
+
+// The pass over a line, by the subtable at `start`, of whatever kind.
+pub fn pass(
+    table: &[u8],
+    start: usize,
+    glyphs: &mut [u16],
+    tags: &mut [u16],
+    homes: &mut [u16],
+    used: usize,
+) -> PassReply
+    ensures reply { λ r. ⌜ r ≡ replyOf (passCall (now (table .entry)) start (lineOf (now (glyphs .entry)) (now (tags .entry)) (now (homes .entry)) used)) (lineOf (now (glyphs .entry)) (now (tags .entry)) (now (homes .entry)) used) ⌝ }
+    ensures glyphs { λ _. ⌜ now (glyphs .exit) ≡ passLeaves (now (table .entry)) start (lineOf (now (glyphs .entry)) (now (tags .entry)) (now (homes .entry)) used) .glyphs ⌝ }
+    ensures tags { λ _. ⌜ now (tags .exit) ≡ passLeaves (now (table .entry)) start (lineOf (now (glyphs .entry)) (now (tags .entry)) (now (homes .entry)) used) .tags ⌝ }
+    ensures homes { λ _. ⌜ now (homes .exit) ≡ passLeaves (now (table .entry)) start (lineOf (now (glyphs .entry)) (now (tags .entry)) (now (homes .entry)) used) .homes ⌝ }
+{
+    if let Check::Refused(why) = refuse_line(table.len(), glyphs, tags, homes, used) {
+        return PassReply {
+            answer: Answer::Refused(why),
+            used,
+        };
+    }
+    let bytes = parse::from(table, start);
+    work(kind_at(bytes), bytes, glyphs, tags, homes, used)
+}
+
+// The tests before a run: TABLE, LINE, HEAD.
+fn refuse_run(
+    length: usize,
+    start: usize,
+    glyphs: &[u16],
+    tags: &[u16],
+    homes: &[u16],
+    used: usize,
+) -> Check
+    ensures { λ r. ⌜ r ≡ refuse (runTests length start (lineOf (now (glyphs .entry)) (now (tags .entry)) (now (homes .entry)) used)) ⌝ }
+{
+    if let Check::Refused(why) = refuse_line(length, glyphs, tags, homes, used) {
+        return Check::Refused(why);
+    }
+    if length < start {
+        return Check::Refused(Refusal::Head);
+    }
+    Check::Passed
+}
+
+// The whole run over a line, by the table at `start`.
+pub fn run(
+    table: &[u8],
+    start: usize,
+    choices: Choices,
+    glyphs: &mut [u16],
+    tags: &mut [u16],
+    homes: &mut [u16],
+    used: usize,
+) -> RunReply
+    ensures reply { λ r. ⌜ r ≡ runReplyOf (runCall (now (table .entry)) start choices (lineOf (now (glyphs .entry)) (now (tags .entry)) (now (homes .entry)) used)) (lineOf (now (glyphs .entry)) (now (tags .entry)) (now (homes .entry)) used) ⌝ }
+    ensures glyphs { λ _. ⌜ now (glyphs .exit) ≡ runLeaves (now (table .entry)) start choices (lineOf (now (glyphs .entry)) (now (tags .entry)) (now (homes .entry)) used) .glyphs ⌝ }
+    ensures tags { λ _. ⌜ now (tags .exit) ≡ runLeaves (now (table .entry)) start choices (lineOf (now (glyphs .entry)) (now (tags .entry)) (now (homes .entry)) used) .tags ⌝ }
+    ensures homes { λ _. ⌜ now (homes .exit) ≡ runLeaves (now (table .entry)) start choices (lineOf (now (glyphs .entry)) (now (tags .entry)) (now (homes .entry)) used) .homes ⌝ }
+{
+    if let Check::Refused(why) = refuse_run(table.len(), start, glyphs, tags, homes, used) {
+        return RunReply {
+            answer: Answer::Refused(why),
+            used,
+            heads: 0,
+        };
+    }
+    run_line(table, start, choices, glyphs, tags, homes, used)
+}
