@@ -19,6 +19,7 @@ use Rattle.tables.specs.Order.{Good, InOrder, Holds, TheOne, firstOf, la
 use Rattle.tables.specs.Lookup.{elementAt, elementOf, elementIn, inRecords, trimmedAt, inFormat, lookupAt}
 use Rattle.tables.specs.ManualLookup.{Layout, simpleArray, units, trimmedArray, extendedTrimmedArray, formatNumber, unitSize, unitCount, unitPlace, UnitHolds, elementPlace, Lies, Alike, AsManual}
 use Rattle.tables.specs.declared.records.Format.the-variants.{Simple, Records, Trimmed}
+use Rattle.tables.specs.declared.records.Keys.the-variants.{Glyphs}
 use Rattle.tables.specs.declared.records.Kind.{Kind}
 use Rattle.tables.specs.declared.records.Kind.the-variants.{Ranges, Arrays, Singles}
 use Rattle.tables.specs.declared.records.Spot.{Spot}
@@ -133,7 +134,7 @@ module _ (bytes : List ℕ) (kind : Kind) (glyph : ℕ) (sizes : unitSize bytes 
   same-place i = ap (λ (n : ℕ). 12 + i * n) sizes
 
   -- a unit of the manual is a record of the crate; below 0xFFFF none is a sentinel
-  to-record : (i : ℕ) → UnitHolds bytes kind glyph i → Holds bytes kind (unitCount bytes) glyph i
+  to-record : (i : ℕ) → UnitHolds bytes kind glyph i → Holds (firstOf bytes kind) (lastOf bytes kind) (unitCount bytes) glyph i
   to-record i u =
       record {
         counted = u .counted;
@@ -141,7 +142,7 @@ module _ (bytes : List ℕ) (kind : Kind) (glyph : ℕ) (sizes : unitSize bytes 
         below = subst (λ (p : ℕ). glyph ≤ lastAt bytes p) (same-place i) (u .below);
       }
 
-  to-unit : glyph < 65535 → (i : ℕ) → Holds bytes kind (unitCount bytes) glyph i → UnitHolds bytes kind glyph i
+  to-unit : glyph < 65535 → (i : ℕ) → Holds (firstOf bytes kind) (lastOf bytes kind) (unitCount bytes) glyph i → UnitHolds bytes kind glyph i
   to-unit small i r =
       let low : firstAt bytes kind (unitPlace bytes i) ≤ glyph = subst⁻¹ (λ (p : ℕ). firstAt bytes kind p ≤ glyph) (same-place i) (r .above) in
       record {
@@ -169,15 +170,15 @@ module _ (bytes : List ℕ) (glyphs glyph : ℕ) (kind : Kind) (e : lookupAt byt
     (all : InOrder bytes kind (unitCount bytes)) where
   units-as-manual : AsManual bytes glyphs glyph (units kind)
   unfolding inRecords elementIn Lies TheOne
-  units-as-manual = go (searched bytes 12 kind (unitCount bytes) glyph) refl
+  units-as-manual = go (searched bytes 12 (Glyphs kind) (unitCount bytes) glyph) refl
     where
-      found-is : (s : Spot) → searched bytes 12 kind (unitCount bytes) glyph ≡ s → lookupAt bytes glyph ≡ elementIn bytes kind glyph s
+      found-is : (s : Spot) → searched bytes 12 (Glyphs kind) (unitCount bytes) glyph ≡ s → lookupAt bytes glyph ≡ elementIn bytes kind glyph s
       found-is s f = e ∙ rw (count, f, inRecords)
 
-      right : (s : Spot) → searched bytes 12 kind (unitCount bytes) glyph ≡ s → TheOne bytes kind (unitCount bytes) glyph s
-      right s f = subst (TheOne bytes kind (unitCount bytes) glyph) f (search-finds bytes kind (unitCount bytes) glyph all)
+      right : (s : Spot) → searched bytes 12 (Glyphs kind) (unitCount bytes) glyph ≡ s → TheOne (firstOf bytes kind) (lastOf bytes kind) (unitCount bytes) glyph s
+      right s f = subst (TheOne (firstOf bytes kind) (lastOf bytes kind) (unitCount bytes) glyph) f (search-finds bytes kind (unitCount bytes) glyph all)
 
-      go : (s : Spot) → searched bytes 12 kind (unitCount bytes) glyph ≡ s → AsManual bytes glyphs glyph (units kind)
+      go : (s : Spot) → searched bytes 12 (Glyphs kind) (unitCount bytes) glyph ≡ s → AsManual bytes glyphs glyph (units kind)
       go Spot′.Cut f = absurd (right Spot′.Cut f)
       go Spot′.Absent f =
           no-place bytes glyphs glyph (units kind) NotCovered (found-is Spot′.Absent f)

@@ -12,6 +12,7 @@ use Rattle.tables.specs.Records.{recordPlace, formatOf}
 use Rattle.tables.specs.declared.records.Format.{Format}
 use Rattle.tables.specs.declared.records.Format.the-variants.{Simple, Records, Trimmed, Unknown}
 use Rattle.tables.specs.Search.{searched}
+use Rattle.tables.specs.declared.records.Keys.the-variants.{Glyphs}
 use Rattle.tables.specs.declared.records.Kind.{Kind}
 use Rattle.tables.specs.declared.records.Kind.the-variants.{Ranges, Arrays, Singles}
 use Rattle.tables.specs.declared.records.Spot.{Spot}
@@ -43,7 +44,7 @@ elementIn bytes kind glyph Spot′.Cut = Nothing CutShort
 -- formats 2, 4 and 6: the count is at 4, the records begin at 12
 unfoldable pub inRecords : List ℕ → Kind → ℕ → Found
 inRecords bytes kind glyph =
-    onU16 (readU16 bytes 4) (λ count. elementIn bytes kind glyph (searched bytes 12 kind count glyph)) (Nothing CutShort)
+    onU16 (readU16 bytes 4) (λ count. elementIn bytes kind glyph (searched bytes 12 (Glyphs kind) count glyph)) (Nothing CutShort)
 
 -- formats 8 and 10: first and count at `head`, the elements behind them
 unfoldable pub trimmedAt : List ℕ → ℕ → ℕ → Found

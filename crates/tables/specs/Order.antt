@@ -31,14 +31,14 @@ pub record FirstBad (bytes : List ℕ) (kind : Kind) (count i : ℕ) : Type 0 wh
   pub bad : Good bytes kind i → ⊥
   pub before : (j : ℕ) → j < i → Good bytes kind j
 
--- record i is one of so many and holds a glyph
-pub record Holds (bytes : List ℕ) (kind : Kind) (count glyph i : ℕ) : Type 0 where
+-- one of so many records, the i-th, holds a key; of each is told the first and the last that it holds
+pub record Holds (first last : ℕ → ℕ) (count key i : ℕ) : Type 0 where
   pub counted : i < count
-  pub above : firstOf bytes kind i ≤ glyph
-  pub below : glyph ≤ lastOf bytes kind i
+  pub above : first i ≤ key
+  pub below : key ≤ last i
 
--- what a search is to find: the one record that holds the glyph, or that there is none
-unfoldable pub TheOne : List ℕ → Kind → ℕ → ℕ → Spot → Type 0
-TheOne bytes kind count glyph (At i) = Holds bytes kind count glyph i × ((j : ℕ) → Holds bytes kind count glyph j → j ≡ i)
-TheOne bytes kind count glyph Absent = (j : ℕ) → Holds bytes kind count glyph j → ⊥
-TheOne bytes kind count glyph Cut = ⊥
+-- what a search is to find: the one record that holds the key, or that there is none
+unfoldable pub TheOne : (first last : ℕ → ℕ) → ℕ → ℕ → Spot → Type 0
+TheOne first last count key (At i) = Holds first last count key i × ((j : ℕ) → Holds first last count key j → j ≡ i)
+TheOne first last count key Absent = (j : ℕ) → Holds first last count key j → ⊥
+TheOne first last count key Cut = ⊥

@@ -28,6 +28,10 @@ strideOf Singles = 4
 abbrev pub recordPlace : ℕ → Kind → ℕ → ℕ
 recordPlace base kind i = base + i * strideOf kind
 
+-- where kerning pair i begins, the first being at `base`: left glyph, right glyph and number, of 16 bits each
+abbrev pub pairPlace : ℕ → ℕ → ℕ
+pairPlace base i = base + i * 6
+
 -- the last glyph of the record at a place
 abbrev pub lastAt : List ℕ → ℕ → ℕ
 lastAt bytes place = u16At bytes place

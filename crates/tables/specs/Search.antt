@@ -4,11 +4,13 @@ use mathlib.Core.Bool.{Bool, true, false}
 use mathlib.Core.List.{List}
 use lib.Dec.{ltb}
 use Rattle.laws.specs.Choose.{ifLt}
-use Rattle.parse.specs.Reads.{readU16}
-use Rattle.parse.specs.Use.{onU16}
-use Rattle.tables.specs.Records.{recordPlace}
+use Rattle.parse.specs.Reads.{readU16, readU32}
+use Rattle.parse.specs.Use.{onU16, onU32}
+use Rattle.tables.specs.Records.{recordPlace, pairPlace}
 use Rattle.tables.specs.declared.records.Kind.{Kind}
 use Rattle.tables.specs.declared.records.Kind.the-variants.{Ranges, Arrays, Singles}
+use Rattle.tables.specs.declared.records.Keys.{Keys}
+use Rattle.tables.specs.declared.records.Keys.the-variants.{Glyphs, Pairs}
 use Rattle.tables.specs.declared.records.Side.{Side}
 use Rattle.tables.specs.declared.records.Side.the-variants.{Left, Here, Right, Cut}
 use Rattle.tables.specs.declared.records.Spot.{Spot}
@@ -34,11 +36,20 @@ sideOfArray bytes place key =
 unfoldable pub sideOfSingle : List ℕ → ℕ → ℕ → Side
 sideOfSingle bytes place key = onU16 (readU16 bytes place) (λ glyph. against key glyph glyph) Cut
 
--- where a key lies from record i
-unfoldable pub sideOf : List ℕ → ℕ → Kind → ℕ → ℕ → Side
-sideOf bytes base Ranges key i = sideOfRange bytes (recordPlace base Ranges i) key
-sideOf bytes base Arrays key i = sideOfArray bytes (recordPlace base Arrays i) key
-sideOf bytes base Singles key i = sideOfSingle bytes (recordPlace base Singles i) key
+-- a kerning pair has one key, both glyphs as one number of 32 bits
+unfoldable pub sideOfPair : List ℕ → ℕ → ℕ → Side
+sideOfPair bytes place key = onU32 (readU32 bytes place) (λ pair. against key pair pair) Cut
+
+-- where a glyph lies from record i of a lookup table
+unfoldable pub sideOfRecord : List ℕ → ℕ → Kind → ℕ → ℕ → Side
+sideOfRecord bytes base Ranges key i = sideOfRange bytes (recordPlace base Ranges i) key
+sideOfRecord bytes base Arrays key i = sideOfArray bytes (recordPlace base Arrays i) key
+sideOfRecord bytes base Singles key i = sideOfSingle bytes (recordPlace base Singles i) key
+
+-- where a key lies from record or pair i
+unfoldable pub sideOf : List ℕ → ℕ → Keys → ℕ → ℕ → Side
+sideOf bytes base (Glyphs kind) key i = sideOfRecord bytes base kind key i
+sideOf bytes base Pairs key i = sideOfPair bytes (pairPlace base i) key
 
 -- halving between lo and hi, by the side on which the key lies from the record in the middle; `turns` bounds how often
 unfoldable pub find : (ℕ → Side) → ℕ → ℕ → ℕ → Spot
@@ -55,6 +66,6 @@ find side (suc turns) lo hi =
           ]
     ]
 
--- over `count` records, of which each turn leaves fewer
-unfoldable pub searched : List ℕ → ℕ → Kind → ℕ → ℕ → Spot
-searched bytes base kind count key = find (sideOf bytes base kind key) count 0 count
+-- over `count` records or pairs, of which each turn leaves fewer
+unfoldable pub searched : List ℕ → ℕ → Keys → ℕ → ℕ → Spot
+searched bytes base keys count key = find (sideOf bytes base keys key) count 0 count

@@ -1,6 +1,7 @@
 // The crate's `lookup` of 16-bit elements.
 use crate::records;
 use crate::records::Format;
+use crate::records::Keys;
 use crate::records::Kind;
 use crate::records::Spot;
 use answers::Check;
@@ -75,7 +76,7 @@ fn in_records(bytes: &[u8], kind: Kind, glyph: u16) -> Found
     let parse::ReadU16::Got(count) = parse::read_u16(bytes, 4) else {
         return Found::Nothing(Why::CutShort);
     };
-    let spot = records::search(bytes, 12, kind, count as u32, glyph as u32);
+    let spot = records::search(bytes, 12, Keys::Glyphs(kind), count as u32, glyph as u32);
     match spot {
         Spot::At(index) => element_of(bytes, kind, records::record_place(12, kind, index), glyph),
         Spot::Absent => Found::Nothing(Why::NotCovered),

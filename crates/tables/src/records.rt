@@ -1,14 +1,20 @@
-// The sorted records of a lookup table, and the one search over them.
+// Sorted records, those of a lookup table and kerning pairs, and the one search over them.
 ghost use mathlib.Core.Path.{_≡_};
 ghost use Prim.Native.Nat.{_<_, _^_};
-ghost use Rattle.tables.specs.Records.{recordPlace, formatOf};
-ghost use Rattle.tables.specs.Search.{sideOfRange, sideOfArray, sideOfSingle, sideOf, searched};
+ghost use Rattle.tables.specs.Records.{recordPlace, pairPlace, formatOf};
+ghost use Rattle.tables.specs.Search.{sideOfRange, sideOfArray, sideOfSingle, sideOfRecord, sideOfPair, sideOf, searched};
 
 // The records of formats 2, 4 and 6: last, first, element; last, first, offset; glyph, element.
 pub enum Kind {
     Ranges,
     Arrays,
     Singles,
+}
+
+// What a search looks for: a glyph in the records of a lookup table, or a kerning pair, whose key is both its glyphs.
+pub enum Keys {
+    Glyphs(Kind),
+    Pairs,
 }
 
 // How a lookup table is laid out; of a trimmed array, where its first glyph stands.
@@ -58,6 +64,13 @@ pub fn record_place(base: u16, kind: Kind, index: u32) -> usize
         Kind::Arrays => base as usize + index as usize * 6,
         Kind::Singles => base as usize + index as usize * 4,
     }
+}
+
+// Where kerning pair `index` begins, the first pair being at `base`.
+pub fn pair_place(base: u16, index: u32) -> usize
+    ensures { λ r. ⌜ (r ≡ pairPlace base index) × (r < 2 ^ 36) ⌝ }
+{
+    base as usize + index as usize * 6
 }
 
 // Against last alone where that decides, as the crate reads format 2.
@@ -114,9 +127,25 @@ fn side_of_single(bytes: &[u8], place: usize, key: u32) -> Side
     Side::Here
 }
 
-// Where a key lies from record `index`.
-pub fn side_of(bytes: &[u8], base: u16, kind: Kind, key: u32, index: u32) -> Side
-    ensures { λ r. ⌜ r ≡ sideOf (now (bytes .entry)) base kind key index ⌝ }
+// Both glyphs of a pair are one key, left before right.
+fn side_of_pair(bytes: &[u8], place: usize, key: u32) -> Side
+    ensures { λ r. ⌜ r ≡ sideOfPair (now (bytes .entry)) place key ⌝ }
+{
+    let parse::ReadU32::Got(pair) = parse::read_u32(bytes, place) else {
+        return Side::Cut;
+    };
+    if pair < key {
+        return Side::Right;
+    }
+    if key < pair {
+        return Side::Left;
+    }
+    Side::Here
+}
+
+// Where a glyph lies from record `index` of a lookup table.
+fn side_of_record(bytes: &[u8], base: u16, kind: Kind, key: u32, index: u32) -> Side
+    ensures { λ r. ⌜ r ≡ sideOfRecord (now (bytes .entry)) base kind key index ⌝ }
 {
     let place = record_place(base, kind, index);
     match kind {
@@ -126,15 +155,25 @@ pub fn side_of(bytes: &[u8], base: u16, kind: Kind, key: u32, index: u32) -> Sid
     }
 }
 
-// The crate's search by halves over `count` records.
-pub fn search(bytes: &[u8], base: u16, kind: Kind, count: u32, key: u32) -> Spot
-    ensures { λ r. ⌜ r ≡ searched (now (bytes .entry)) base kind count key ⌝ }
+// Where a key lies from record or pair `index`.
+fn side_of(bytes: &[u8], base: u16, keys: Keys, key: u32, index: u32) -> Side
+    ensures { λ r. ⌜ r ≡ sideOf (now (bytes .entry)) base keys key index ⌝ }
+{
+    match keys {
+        Keys::Glyphs(kind) => side_of_record(bytes, base, kind, key, index),
+        Keys::Pairs => side_of_pair(bytes, pair_place(base, index), key),
+    }
+}
+
+// The crate's search by halves over `count` records or pairs.
+pub fn search(bytes: &[u8], base: u16, keys: Keys, count: u32, key: u32) -> Spot
+    ensures { λ r. ⌜ r ≡ searched (now (bytes .entry)) base keys count key ⌝ }
 {
     let mut lo: usize = 0;
     let mut hi = count as usize;
     while lo < hi {
         let mid = (lo + hi) / 2;
-        let side = side_of(bytes, base, kind, key, mid as u32);
+        let side = side_of(bytes, base, keys, key, mid as u32);
         match side {
             Side::Left => hi = mid,
             Side::Right => lo = mid + 1,

@@ -8,11 +8,11 @@ use Rattle.tables.proofs.records.search.Statement.{statement}
 use Rattle.tables.proofs.records.search.Tie as tie
 
 abbrev Inv-loop : tie.InvT-loop
-Inv-loop bytes base kind count key lo₀ hi₀ lo hi =
-    Going (sideOf bytes base kind key) count (searched bytes base kind count key) lo hi
+Inv-loop bytes base keys count key lo₀ hi₀ lo hi =
+    Going (sideOf bytes base keys key) count (searched bytes base keys count key) lo hi
 
 abbrev μ-loop : tie.MeasureT-loop
-μ-loop bytes base kind count key lo₀ hi₀ lo hi = hi - lo
+μ-loop bytes base keys count key lo₀ hi₀ lo hi = hi - lo
 
 loop-holds : tie.Need-loop-holds Inv-loop μ-loop
 unfolding searched

@@ -3,50 +3,37 @@ use borrow.Author.Needs.{needs}
 use Rattle.tables.proofs.records.side_of.Statement.{statement}
 use Rattle.tables.proofs.records.side_of.Tie as tie
 
-record-place-requires : tie.Need-record-place-requires
-record-place-requires c κs = search needs
+enum-known-keys : tie.Need-enum-known-keys
+enum-known-keys c = search needs
+
+side-of-record-requires : tie.Need-side-of-record-requires
+side-of-record-requires c κs = search needs
 
 enum-told : tie.Need-enum-told
 enum-told c = search needs
 
-side-of-range-requires : tie.Need-side-of-range-requires
-side-of-range-requires c κs = search needs
+pair-place-requires : tie.Need-pair-place-requires
+pair-place-requires c κs = search needs
 
-enum-told-2 : tie.Need-enum-told-2
-enum-told-2 c = search needs
-
-side-of-array-requires : tie.Need-side-of-array-requires
-side-of-array-requires c κs = search needs
-
-enum-told-3 : tie.Need-enum-told-3
-enum-told-3 c = search needs
-
-side-of-single-requires : tie.Need-side-of-single-requires
-side-of-single-requires c κs = search needs
+side-of-pair-requires : tie.Need-side-of-pair-requires
+side-of-pair-requires c κs = search needs
 
 returns : tie.Need-returns
 unfolding sideOf
-returns c = rw (c .side-of-range .ensures, c .before .before .before .record-place .ensures .0, c .before .enum-told .given .1, sideOf)
+returns c = rw (c .side-of-record .ensures, c .before .before .keys .given .1, sideOf)
 
 returns-2 : tie.Need-returns-2
 unfolding sideOf
-returns-2 c = rw (c .side-of-array .ensures, c .before .before .before .record-place .ensures .0, c .before .enum-told2 .given .1, sideOf)
-
-returns-3 : tie.Need-returns-3
-unfolding sideOf
-returns-3 c = rw (c .side-of-single .ensures, c .before .before .before .record-place .ensures .0, c .before .enum-told3 .given .1, sideOf)
+returns-2 c = rw (c .side-of-pair .ensures, c .before .pair-place .ensures .0, c .before .before .enum-told .given .1, sideOf)
 
 pub side-of-spec : {M : Type 1} → statement M
 side-of-spec =
     tie.close
     (tie.spec
-    record-place-requires
+    enum-known-keys
+    side-of-record-requires
     enum-told
-    side-of-range-requires
-    enum-told-2
-    side-of-array-requires
-    enum-told-3
-    side-of-single-requires
+    pair-place-requires
+    side-of-pair-requires
     returns
-    returns-2
-    returns-3)
+    returns-2)
