@@ -1,0 +1,47 @@
+use Rattle.line.specs.Line.{lineOf}
+use Rattle.kerning_lists.proofs.Calls.{pass-ready, pass-modest}
+use Rattle.kern.proofs.Calls.{pass-refused, pass-passed}
+use borrow.Author.Needs.{needs}
+use Rattle.kern.proofs.pass.Statement.{statement}
+use Rattle.kern.proofs.pass.Tie as tie
+
+refuse-pass-requires : tie.Need-refuse-pass-requires
+refuse-pass-requires c κs = search needs
+
+enum-known-why : tie.Need-enum-known-why
+enum-known-why c = search needs
+
+same-length : tie.Need-same-length
+same-length c = search needs
+
+returns : tie.Need-returns
+returns c = let w = pass-refused _ _ _ (lineOf _ _ _ _) _ (c .before .before .before .refuse-pass .ensures) (c .before .why .given .1) in (w .answers, w .leaves)
+
+enum-told : tie.Need-enum-told
+enum-told c = search needs
+
+from-requires : tie.Need-from-requires
+from-requires c κs = search needs
+
+pass-in-requires : tie.Need-pass-in-requires
+pass-in-requires c κs = let r = pass-ready _ _ _ _ _ _ _ (c .before .before .before .before .refuse-pass .ensures) (c .before .before .enum-told .given .1) in (r .inside, r .long, r .limited, pass-modest _ _ _ _ _ _ _ (c .before .before .before .before .refuse-pass .ensures) (c .before .before .enum-told .given .1))
+
+same-length-2 : tie.Need-same-length-2
+same-length-2 c = search needs
+
+returns-2 : tie.Need-returns-2
+returns-2 c = let w = pass-passed _ _ _ (lineOf _ _ _ _) _ (c .before .before .before .before .before .before .refuse-pass .ensures) (c .before .before .before .before .enum-told .given .1) (c .before .before .before .from .ensures) (c .before .pass-in .ensures .0) (c .before .pass-in .ensures .1) in (w .answers, w .leaves)
+
+pub pass-spec : {M : Type 1} → statement M
+pass-spec =
+    tie.close
+    (tie.spec
+    refuse-pass-requires
+    enum-known-why
+    same-length
+    returns
+    enum-told
+    from-requires
+    pass-in-requires
+    same-length-2
+    returns-2)

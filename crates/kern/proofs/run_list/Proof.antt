@@ -1,0 +1,84 @@
+use mathlib.Core.Path.{sym, _∙_}
+use native.Mathlib.Omega.{arith}
+use borrow.Author.Needs.{needs}
+use Rattle.kerning_lists.specs.Walk.{heads as headsOf}
+use Rattle.kerning_lists.proofs.Runs.{Running, running-start, running-next, running-limit, running-cut, running-done, contribution-little, limit-small, limit-reached, limit-ahead, run-small}
+use Rattle.kern.specs.Heads.{headAt}
+use Rattle.kern.specs.Kern.{adds}
+use Rattle.kern.proofs.Heads.{head-plain}
+use Rattle.kern.proofs.Works.{worked-little}
+use Rattle.kern.proofs.run_list.Statement.{statement}
+use Rattle.kern.proofs.run_list.Tie as tie
+
+abbrev Inv-loop : tie.InvT-loop
+Inv-loop bytes list glyphs used along₀ heads₀ left₀ at₀ along heads left at = Running (adds bytes (list .version) used) glyphs used (headAt bytes (list .version)) (headsOf (headAt bytes (list .version)) (list .count) (list .first)) along₀ along heads left at
+
+abbrev μ-loop : tie.MeasureT-loop
+μ-loop bytes list glyphs used along₀ heads₀ left₀ at₀ along heads left at = left
+
+loop-holds : tie.Need-loop-holds Inv-loop μ-loop
+loop-holds c = running-start _ _ _ _ _ _ _ (c .before .before .pre .3)
+
+head-at-requires : tie.Need-head-at-requires Inv-loop μ-loop
+head-at-requires c κs = search needs
+
+enum-known-subtable : tie.Need-enum-known-subtable Inv-loop μ-loop
+enum-known-subtable c = search needs
+
+enum-told : tie.Need-enum-told Inv-loop μ-loop
+enum-told c = search needs
+
+same-length : tie.Need-same-length Inv-loop μ-loop
+same-length c = c .before .before .before .before .loop .inv .long
+
+returns : tie.Need-returns Inv-loop μ-loop
+returns c = let e = running-cut _ _ _ _ _ _ (c .before .before .before .before .loop .inv) (sym (c .before .before .head-at .ensures) ∙ c .enum-told .given .1) in (e .answers, (e .counts, e .leaves))
+
+same-length-2 : tie.Need-same-length-2 Inv-loop μ-loop
+same-length-2 c = c .before .before .before .before .before .before .loop .inv .long
+
+returns-2 : tie.Need-returns-2 Inv-loop μ-loop
+returns-2 c = let e = running-limit _ _ _ _ _ _ (c .before .before .before .before .before .before .loop .inv) (c .before .before .before .before .before .loop-test .taken) (sym (c .before .before .before .before .head-at .ensures) ∙ c .before .before .subtable .given .1) (limit-reached (c .if1 .taken)) in (e .answers, (e .counts, e .leaves))
+
+visit-requires : tie.Need-visit-requires Inv-loop μ-loop
+visit-requires c κs = (c .before .before .before .before .before .before .before .before .before .before .pre .0, omega (arith, c .before .before .before .before .before .before .before .loop .inv .long, c .before .before .before .before .before .before .before .before .before .before .pre .1), c .before .before .before .before .before .before .before .before .before .before .pre .2, run-small (c .before .before .before .before .before .before .before .loop .inv .within) (c .before .before .before .before .before .before .before .loop .inv .small), head-plain _ _ _ (sym (c .before .before .before .before .before .head-at .ensures) ∙ c .before .before .before .subtable .given .1))
+
+add-heads : tie.Need-add-heads Inv-loop μ-loop
+add-heads c = omega (arith, limit-small, c .before .before .before .before .before .before .before .before .before .loop .inv .within)
+
+sub-left : tie.Need-sub-left Inv-loop μ-loop
+sub-left c = omega arith
+
+loop-less : tie.Need-loop-less Inv-loop μ-loop
+loop-less c = omega arith
+
+loop-again : tie.Need-loop-again Inv-loop μ-loop
+loop-again c = running-next _ _ _ _ _ _ (c .before .before .before .before .before .before .before .before .before .loop .inv) (c .before .before .before .before .before .before .before .before .loop-test .taken) (sym (c .before .before .before .before .before .before .before .head-at .ensures) ∙ c .before .before .before .before .before .subtable .given .1) (limit-ahead (c .before .before .before .before .before .before .before .before .before .loop .inv .within) (c .before .before .before .if1 .left)) (c .before .visit .ensures) (contribution-little _ _ _ (λ s gs b along w. worked-little _ _ _ _ _ b along (c .before .before .before .before .before .before .before .before .before .before .before .before .pre .2) w) _ _ (omega (arith, c .before .before .before .before .before .before .before .before .before .loop .inv .long, c .before .before .before .before .before .before .before .before .before .before .before .before .pre .1)) (c .before .before .before .before .before .before .before .before .before .loop .inv .small))
+
+same-length-3 : tie.Need-same-length-3 Inv-loop μ-loop
+same-length-3 c = c .before .loop .inv .long
+
+returns-3 : tie.Need-returns-3 Inv-loop μ-loop
+returns-3 c = let e = running-done _ _ _ _ _ _ (c .before .loop .inv) (c .loop-test .left) in (e .answers, (e .counts, e .leaves))
+
+pub run-list-spec : {M : Type 1} → statement M
+run-list-spec =
+    tie.close
+    (tie.spec
+    Inv-loop
+    μ-loop
+    loop-holds
+    head-at-requires
+    enum-known-subtable
+    enum-told
+    same-length
+    returns
+    same-length-2
+    returns-2
+    visit-requires
+    add-heads
+    sub-left
+    loop-less
+    loop-again
+    same-length-3
+    returns-3)

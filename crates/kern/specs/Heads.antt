@@ -1,0 +1,61 @@
+-- kern's list and the heads of its subtables, in both editions, over the bytes from the table's own start on.
+use Prim.Native.Nat.{ℕ, _+_, _/_, _%_}
+use mathlib.Core.Bool.{false, not}
+use mathlib.Core.List.{List}
+use lib.ListN.{drop}
+use Rattle.laws.specs.Choose.{ifEq}
+use Rattle.parse.specs.Reads.{readU16, readU32}
+use Rattle.parse.specs.Use.{onU16, onU32}
+use Rattle.machine.specs.Entry.{isSet}
+use Rattle.kerning_lists.specs.Walk.{either, u16OrZero, u32OrZero, heads}
+use Rattle.kerning_lists.specs.declared.Subtable.{Subtable}
+use Rattle.kerning_lists.specs.declared.Head.{Head}
+use Rattle.kerning_lists.specs.declared.Head.the-variants.{At, Cut}
+use Rattle.kern.specs.declared.List.{List as KernList}
+
+-- version 0 is the old edition, any other the new one: 6 and 8 bytes of a head
+abbrev pub headSize : (version : ℕ) → ℕ
+headSize version = ifEq version 0 6 8
+
+-- old edition: a run passes over what is not horizontal (bit 0 clear) and what is cross-stream (bit 2); the high byte is the format
+unfoldable pub oldSubtable : (at size coverage : ℕ) → Subtable
+oldSubtable at size coverage =
+    record {
+      «passed_over» = either (not (isSet coverage 1)) (isSet coverage 4);
+      turned = false;
+      format = coverage / 256;
+      body = at;
+      next = at + size;
+    }
+
+-- new edition: what is vertical (0x8000) and what is cross-stream (0x4000); the low byte is the format
+unfoldable pub newSubtable : (at size coverage : ℕ) → Subtable
+newSubtable at size coverage =
+    record {
+      «passed_over» = either (isSet coverage 0x8000) (isSet coverage 0x4000);
+      turned = false;
+      format = coverage % 256;
+      body = at;
+      next = at + size;
+    }
+
+-- the head at a place, by the bytes from there on: its size is at 2 or at 0, its coverage at 4; the new edition's tuple index isn't looked at
+unfoldable pub headIn : (version at : ℕ) → (part : List ℕ) → Head
+headIn version at part =
+    ifEq version 0
+    (onU16 (readU16 part 2) (λ size. onU16 (readU16 part 4) (λ coverage. At (oldSubtable at size coverage)) Cut) Cut)
+    (onU32 (readU32 part 0) (λ size. onU16 (readU16 part 4) (λ coverage. At (newSubtable at size coverage)) Cut) Cut)
+
+abbrev pub headAt : List ℕ → (version at : ℕ) → Head
+headAt bytes version at = headIn version at (drop at bytes)
+
+-- the list: its version; in the old edition a 16-bit count at 2 and the first subtable at 4, in the new one a 32-bit count at 4 and the first at 8
+unfoldable pub listOf : List ℕ → KernList
+listOf bytes =
+    ifEq (u16OrZero bytes 0) 0
+    (record { version = 0; count = u16OrZero bytes 2; first = 4 })
+    (record { version = u16OrZero bytes 0; count = u32OrZero bytes 4; first = 8 })
+
+-- the walk of the list
+unfoldable pub walkOf : List ℕ → List Subtable
+walkOf bytes = heads (headAt bytes (listOf bytes .version)) (listOf bytes .count) (listOf bytes .first)

@@ -1,0 +1,4 @@
+-- The kern table.
+pub mod Heads
+pub mod Kern
+pub mod Manual

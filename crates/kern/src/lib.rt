@@ -1,0 +1,317 @@
+// The kern table, in both its editions: the list of subtables, the pass by one of them, and the whole run.
+use answers::Answer;
+use answers::Check;
+use answers::Refusal;
+use kerning_lists::Head;
+use kerning_lists::Run;
+use kerning_lists::Subtable;
+use pairs::PairReply;
+ghost use mathlib.Core.Path.{_≡_};
+ghost use mathlib.Core.Bool.{false};
+ghost use Prim.Native.Nat.{_<_, _≤_, _^_};
+ghost use lib.ListN.{length};
+ghost use Rattle.answers.specs.Limits.{room};
+ghost use Rattle.line.specs.Line.{lineOf};
+ghost use Rattle.kerning.specs.Additions.{addAll, Within};
+ghost use Rattle.kerning_lists.specs.Walk.{walkAnswer, visited, heads};
+ghost use Rattle.kerning_lists.specs.Run.{contribution, contributions, usedPart};
+ghost use Rattle.kern.specs.Heads.{headSize, oldSubtable, newSubtable, headIn, headAt, listOf, walkOf};
+ghost use Rattle.kern.specs.Kern.{worked, passed, passCall, pairIn, pairCall, adds, runCall};
+
+// The bits of an old edition's coverage: horizontal, cross-stream.
+const HORIZONTAL: u16 = 1;
+
+const OLD_CROSS_STREAM: u16 = 4;
+
+// The bits of a new edition's coverage.
+const VERTICAL: u16 = 0x8000;
+
+const CROSS_STREAM: u16 = 0x4000;
+
+// The list of subtables: its version, how many it counts, and where the first begins.
+pub struct List {
+    pub version: u16,
+    pub count: u32,
+    pub first: usize,
+}
+
+// The bytes of a head.
+fn head_size(version: u16) -> u16
+    ensures { λ r. ⌜ (r ≡ headSize version) × (r < 9) ⌝ }
+{
+    if version == 0 {
+        return 6;
+    }
+    8
+}
+
+fn old_subtable(at: usize, size: u16, coverage: u16) -> Subtable
+    requires { ⌜ at < 2 ^ 63 ⌝ }
+    ensures { λ r. ⌜ r ≡ oldSubtable at size coverage ⌝ }
+{
+    Subtable {
+        passed_over: kerning_lists::one_of(
+            !machine::is_set(coverage, HORIZONTAL),
+            machine::is_set(coverage, OLD_CROSS_STREAM),
+        ),
+        turned: false,
+        format: (coverage / 256) as u32,
+        body: at,
+        next: at + size as usize,
+    }
+}
+
+fn new_subtable(at: usize, size: u32, coverage: u16) -> Subtable
+    requires { ⌜ at < 2 ^ 63 ⌝ }
+    ensures { λ r. ⌜ r ≡ newSubtable at size coverage ⌝ }
+{
+    Subtable {
+        passed_over: kerning_lists::one_of(
+            machine::is_set(coverage, VERTICAL),
+            machine::is_set(coverage, CROSS_STREAM),
+        ),
+        turned: false,
+        format: (coverage % 256) as u32,
+        body: at,
+        next: at + size as usize,
+    }
+}
+
+// The head at a place, by the bytes from there on.
+fn head_in(version: u16, at: usize, part: &[u8]) -> Head
+    requires { ⌜ at < 2 ^ 63 ⌝ }
+    ensures { λ r. ⌜ r ≡ headIn version at (now (part .entry)) ⌝ }
+{
+    if version == 0 {
+        let parse::ReadU16::Got(size) = parse::read_u16(part, 2) else {
+            return Head::Cut;
+        };
+        let parse::ReadU16::Got(coverage) = parse::read_u16(part, 4) else {
+            return Head::Cut;
+        };
+        return Head::At(old_subtable(at, size, coverage));
+    }
+    let parse::ReadU32::Got(size) = parse::read_u32(part, 0) else {
+        return Head::Cut;
+    };
+    let parse::ReadU16::Got(coverage) = parse::read_u16(part, 4) else {
+        return Head::Cut;
+    };
+    Head::At(new_subtable(at, size, coverage))
+}
+
+// The head at a place of the list; there is none at or past the table's end.
+fn head_at(bytes: &[u8], version: u16, at: usize) -> Head
+    ensures { λ r. ⌜ r ≡ headAt (now (bytes .entry)) version at ⌝ }
+{
+    if bytes.len() <= at {
+        return Head::Cut;
+    }
+    head_in(version, at, parse::from(bytes, at))
+}
+
+// The list at the start of a table's bytes.
+fn list_of(bytes: &[u8]) -> List
+    ensures { λ r. ⌜ r ≡ listOf (now (bytes .entry)) ⌝ }
+{
+    let version = kerning_lists::u16_or_zero(bytes, 0);
+    if version == 0 {
+        return List {
+            version: 0,
+            count: kerning_lists::u16_or_zero(bytes, 2) as u32,
+            first: 4,
+        };
+    }
+    List {
+        version,
+        count: kerning_lists::u32_or_zero(bytes, 4),
+        first: 8,
+    }
+}
+
+// The pass by the subtable that begins with `bytes`, of a format.
+fn work(
+    bytes: &[u8],
+    version: u16,
+    format: u32,
+    glyphs: &[u16],
+    used: usize,
+    along: &mut [i64],
+) -> Answer
+    requires { ⌜ (used ≤ length (now glyphs)) × (used ≤ length (now along)) × (used ≤ room) × Within (2 ^ 60) (now along) ⌝ }
+    ensures answer { λ r. ⌜ r ≡ worked (now (bytes .entry)) version format (now (glyphs .entry)) used .answer ⌝ }
+    ensures along { λ _. ⌜ now (along .exit) ≡ addAll (worked (now (bytes .entry)) version format (now (glyphs .entry)) used .additions) (now (along .entry)) ⌝ }
+{
+    if format == 0 {
+        let opened = pairs::ordered_kern(bytes, head_size(version));
+        return pairs::work(bytes, opened, glyphs, used, along);
+    }
+    if format == 1 {
+        return kern_machine::work(bytes, version, glyphs, used, along);
+    }
+    Answer::Refused(Refusal::Head)
+}
+
+// The answer for a pair by the subtable that begins with `bytes`.
+fn pair_in(bytes: &[u8], version: u16, left: u16, right: u16) -> PairReply
+    ensures { λ r. ⌜ r ≡ pairIn (now (bytes .entry)) version left right ⌝ }
+{
+    let Head::At(subtable) = head_in(version, 0, bytes) else {
+        return PairReply::Refused(Refusal::Head);
+    };
+    if subtable.format == 0 {
+        let opened = pairs::ordered_kern(bytes, head_size(version));
+        return pairs::reply(bytes, opened, left, right);
+    }
+    PairReply::Refused(Refusal::Head)
+}
+
+// What a pair of glyphs adds, by the subtable at `start` of a list of this version.
+pub fn pair(table: &[u8], start: usize, version: u16, left: u16, right: u16) -> PairReply
+    ensures { λ r. ⌜ r ≡ pairCall (now (table .entry)) start version left right ⌝ }
+{
+    if let Check::Refused(why) = answers::refuse_table(table.len()) {
+        return PairReply::Refused(why);
+    }
+    pair_in(parse::from(table, start), version, left, right)
+}
+
+// A subtable of the list adds its own, unless the run passes over it.
+fn visit(
+    bytes: &[u8],
+    version: u16,
+    subtable: Subtable,
+    glyphs: &[u16],
+    used: usize,
+    along: &mut [i64],
+)
+    requires { ⌜ (used ≤ length (now glyphs)) × (used ≤ length (now along)) × (used ≤ room) × Within (2 ^ 60) (now along) × (subtable .turned ≡ false) ⌝ }
+    ensures { λ _. ⌜ now (along .exit) ≡ addAll (contribution (adds (now (bytes .entry)) version used) (now (glyphs .entry)) used subtable) (now (along .entry)) ⌝ }
+{
+    if subtable.passed_over {
+        return;
+    }
+    let part = parse::from(bytes, subtable.body);
+    let _ = work(part, version, subtable.format, glyphs, used, along);
+}
+
+// The subtables one after the other, from the first on.
+fn run_list(bytes: &[u8], list: List, glyphs: &[u16], used: usize, along: &mut [i64]) -> Run
+    requires { ⌜ (used ≤ length (now glyphs)) × (used ≤ length (now along)) × (used ≤ room) × Within 0 (now along) ⌝ }
+    ensures answer { λ r. ⌜ r .answer ≡ walkAnswer (heads (headAt (now (bytes .entry)) (list .version)) (list .count) (list .first)) ⌝ }
+    ensures heads { λ r. ⌜ r .heads ≡ length (visited (heads (headAt (now (bytes .entry)) (list .version)) (list .count) (list .first))) ⌝ }
+    ensures along { λ _. ⌜ now (along .exit) ≡ addAll (contributions (adds (now (bytes .entry)) (list .version) used) (now (glyphs .entry)) used (visited (heads (headAt (now (bytes .entry)) (list .version)) (list .count) (list .first)))) (now (along .entry)) ⌝ }
+{
+    let mut heads = 0;
+    let mut left = list.count;
+    let mut at = list.first;
+    while 0 < left {
+        let Head::At(subtable) = head_at(bytes, list.version, at) else {
+            return Run {
+                answer: Answer::Done,
+                heads,
+            };
+        };
+        if heads == answers::HEADS {
+            return Run {
+                answer: Answer::Limit,
+                heads,
+            };
+        }
+        visit(bytes, list.version, subtable, glyphs, used, along);
+        heads += 1;
+        left -= 1;
+        at = subtable.next;
+    }
+    Run {
+        answer: Answer::Done,
+        heads,
+    }
+}
+
+// The used adjustments, zeroed first, with what the list's subtables add.
+fn run_part(bytes: &[u8], glyphs: &[u16], along: &mut [i64]) -> Run
+    requires { ⌜ (length (now along) ≤ length (now glyphs)) × (length (now along) ≤ room) ⌝ }
+    ensures answer { λ r. ⌜ r .answer ≡ walkAnswer (walkOf (now (bytes .entry))) ⌝ }
+    ensures heads { λ r. ⌜ r .heads ≡ length (visited (walkOf (now (bytes .entry)))) ⌝ }
+    ensures along { λ _. ⌜ now (along .exit) ≡ usedPart (walkOf (now (bytes .entry))) (adds (now (bytes .entry)) (listOf (now (bytes .entry)) .version) (length (now (along .entry)))) (now (glyphs .entry)) (length (now (along .entry))) ⌝ }
+{
+    kerning_lists::zero(along);
+    let used = along.len();
+    run_list(bytes, list_of(bytes), glyphs, used, along)
+}
+
+// A whole run over the list at `start`.
+pub fn run(
+    table: &[u8],
+    start: usize,
+    glyphs: &[u16],
+    tags: &[u16],
+    homes: &[u16],
+    used: usize,
+    along: &mut [i64],
+) -> Run
+    ensures answer { λ r. ⌜ r .answer ≡ runCall (now (table .entry)) start (lineOf (now (glyphs .entry)) (now (tags .entry)) (now (homes .entry)) used) (now (along .entry)) .answer ⌝ }
+    ensures heads { λ r. ⌜ r .heads ≡ runCall (now (table .entry)) start (lineOf (now (glyphs .entry)) (now (tags .entry)) (now (homes .entry)) used) (now (along .entry)) .heads ⌝ }
+    ensures along { λ _. ⌜ now (along .exit) ≡ runCall (now (table .entry)) start (lineOf (now (glyphs .entry)) (now (tags .entry)) (now (homes .entry)) used) (now (along .entry)) .along ⌝ }
+{
+    if let Check::Refused(why) = kerning_lists::refuse_run(
+        table.len(),
+        start,
+        glyphs,
+        tags,
+        homes,
+        used,
+        along,
+    ) {
+        return Run {
+            answer: Answer::Refused(why),
+            heads: 0,
+        };
+    }
+    run_part(
+        kerning_lists::list_bytes(table, start),
+        glyphs,
+        &mut along[..used],
+    )
+}
+
+// The pass by the subtable that begins with `bytes`, its head included.
+fn pass_in(bytes: &[u8], version: u16, glyphs: &[u16], used: usize, along: &mut [i64]) -> Answer
+    requires { ⌜ (used ≤ length (now glyphs)) × (used ≤ length (now along)) × (used ≤ room) × Within (2 ^ 60) (now along) ⌝ }
+    ensures answer { λ r. ⌜ r ≡ passed (now (bytes .entry)) version (now (glyphs .entry)) used .answer ⌝ }
+    ensures along { λ _. ⌜ now (along .exit) ≡ addAll (passed (now (bytes .entry)) version (now (glyphs .entry)) used .additions) (now (along .entry)) ⌝ }
+{
+    let Head::At(subtable) = head_in(version, 0, bytes) else {
+        return Answer::Refused(Refusal::Head);
+    };
+    work(bytes, version, subtable.format, glyphs, used, along)
+}
+
+// The pass over a line, by the subtable at `start` of a list of this version; HEAD is the pass's own answer.
+pub fn pass(
+    table: &[u8],
+    start: usize,
+    version: u16,
+    glyphs: &[u16],
+    tags: &[u16],
+    homes: &[u16],
+    used: usize,
+    along: &mut [i64],
+) -> Answer
+    ensures answer { λ r. ⌜ r ≡ passCall (now (table .entry)) start version (lineOf (now (glyphs .entry)) (now (tags .entry)) (now (homes .entry)) used) (now (along .entry)) .answer ⌝ }
+    ensures along { λ _. ⌜ now (along .exit) ≡ addAll (passCall (now (table .entry)) start version (lineOf (now (glyphs .entry)) (now (tags .entry)) (now (homes .entry)) used) (now (along .entry)) .additions) (now (along .entry)) ⌝ }
+{
+    if let Check::Refused(why) = kerning::refuse_pass(
+        table.len(),
+        glyphs,
+        tags,
+        homes,
+        used,
+        along,
+        false,
+    ) {
+        return Answer::Refused(why);
+    }
+    pass_in(parse::from(table, start), version, glyphs, used, along)
+}

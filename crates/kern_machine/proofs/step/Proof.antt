@@ -1,0 +1,38 @@
+use Rattle.kern_machine.specs.Machine.{stepCall}
+use borrow.Author.Needs.{needs}
+use Rattle.kern_machine.proofs.step.Statement.{statement}
+use Rattle.kern_machine.proofs.step.Tie as tie
+
+from-requires : tie.Need-from-requires
+from-requires c κs = search needs
+
+open-requires : tie.Need-open-requires
+open-requires c κs = search needs
+
+head-size-requires : tie.Need-head-size-requires
+head-size-requires c κs = search needs
+
+from-requires-2 : tie.Need-from-requires-2
+from-requires-2 c κs = search needs
+
+step-requires : tie.Need-step-requires
+step-requires c κs = search needs
+
+same-length : tie.Need-same-length
+same-length c = search needs
+
+returns : tie.Need-returns
+unfolding stepCall
+returns c = rw (← (c .before .before .before .before .before .before .from .ensures), ← (c .before .before .before .before .before .«open» .ensures), ← (c .before .before .before .before .head-size .ensures), ← (c .before .before .before .from2 .ensures)) (c .before .step .ensures .0, c .before .step .ensures .1)
+
+pub step-spec : {M : Type 1} → statement M
+step-spec =
+    tie.close
+    (tie.spec
+    from-requires
+    open-requires
+    head-size-requires
+    from-requires-2
+    step-requires
+    same-length
+    returns)

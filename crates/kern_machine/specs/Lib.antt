@@ -1,0 +1,3 @@
+-- kern format 1.
+pub mod Machine
+pub mod Manual

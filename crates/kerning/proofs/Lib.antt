@@ -1,0 +1,7 @@
+-- Laws that kerning's proofs cite.
+pub mod Signs
+pub mod Adding
+pub mod Scans
+pub mod Ruling
+pub mod Walking
+pub mod Calls

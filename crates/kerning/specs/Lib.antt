@@ -1,0 +1,4 @@
+-- What the kerning of kern and of kerx share.
+pub mod Additions
+pub mod Line
+pub mod Lists

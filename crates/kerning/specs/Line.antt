@@ -1,0 +1,56 @@
+-- The LINE test of kerning calls, and the tests of a lone pass.
+use Prim.Native.Nat.{ℕ, _≤_}
+use mathlib.Core.Bool.{Bool, not}
+use mathlib.Core.Path.{_≡_}
+use mathlib.Core.List.{List, [], _∷_}
+use lib.Dec.{leb, eqb}
+use lib.IntN.{ℤ, pos, natAbs}
+use lib.ListN.{length, getD}
+use Rattle.laws.specs.Lists.{both, every}
+use Rattle.answers.specs.Refuse.{Test, tableTest}
+use Rattle.answers.specs.declared.Refusal.the-variants as Refusal′
+use Rattle.line.specs.Line.{Line, Valid}
+use Rattle.line.specs.Test.{isValid}
+use Rattle.kerning.specs.Additions.{Within}
+
+-- how large a lent adjustment may be: 2^40
+abbrev pub bound : ℕ
+bound = 1099511627776
+
+-- no adjustment of the room is beyond ±2^40
+unfoldable pub isModest : List ℤ → Bool
+isModest along = every (λ p. leb (natAbs (getD along p (pos 0))) bound) (length along)
+
+-- the line's own test, and as many adjustments as the room: what a whole run tests
+unfoldable pub isKernable : Line → List ℤ → Bool
+isKernable l along = both (eqb (length along) (length (l .glyphs))) (isValid l)
+
+-- and the bound on lent adjustments: what a lone pass tests
+unfoldable pub isTaken : Line → List ℤ → Bool
+isTaken l along = both (isKernable l along) (isModest along)
+
+-- LINE of a whole run
+unfoldable pub kernableTest : Line → List ℤ → Test
+kernableTest l along = record { holds = not (isKernable l along); refusal = Refusal′.Line }
+
+-- LINE of a lone pass
+unfoldable pub takenTest : Line → List ℤ → Test
+takenTest l along = record { holds = not (isTaken l along); refusal = Refusal′.Line }
+
+-- HEAD
+abbrev pub headTest : Bool → Test
+headTest headless = record { holds = headless; refusal = Refusal′.Head }
+
+-- the tests of a lone pass: TABLE, LINE, HEAD
+unfoldable pub kerningTests : (tableLength : ℕ) → Line → List ℤ → (headless : Bool) → List Test
+kerningTests tableLength l along headless = tableTest tableLength ∷ takenTest l along ∷ headTest headless ∷ []
+
+-- what a line and adjustments are that a run takes
+pub record Kernable (l : Line) (along : List ℤ) : Type 0 where
+  pub valid : Valid l
+  pub long : length along ≡ length (l .glyphs)
+
+-- and those that a lone pass takes
+pub record Taken (l : Line) (along : List ℤ) : Type 0 where
+  pub kernable : Kernable l along
+  pub modest : Within bound along

@@ -1,0 +1,7 @@
+-- Laws of runs over kerning lists.
+pub mod Turns
+pub mod Tests
+pub mod Runs
+pub mod Starts
+pub mod Calls
+pub mod Manual

@@ -1,0 +1,123 @@
+// What the lists of kern and kerx share: a subtable's head in one shape, and what a whole run does besides the subtables' own work.
+use answers::Answer;
+use answers::Check;
+use answers::Refusal;
+ghost use mathlib.Core.Path.{_≡_};
+ghost use Prim.Native.Nat.{_≤_};
+ghost use lib.ListN.{length};
+ghost use Rattle.laws.specs.Backward.{backward};
+ghost use Rattle.answers.specs.Refuse.{refuse};
+ghost use Rattle.line.specs.Line.{lineOf};
+ghost use Rattle.kerning_lists.specs.Walk.{either, u16OrZero, u32OrZero, listBytes};
+ghost use Rattle.kerning_lists.specs.Run.{zeros, runTests};
+
+// A subtable by its head: whether a run passes over it, whether it goes the other way round, its format, where it begins and where the next does.
+pub struct Subtable {
+    pub passed_over: bool,
+    pub turned: bool,
+    pub format: u32,
+    pub body: usize,
+    pub next: usize,
+}
+
+// What reading a head gives.
+pub enum Head {
+    At(Subtable),
+    Cut,
+}
+
+// What a whole run answers, with the heads that it read.
+pub struct Run {
+    pub answer: Answer,
+    pub heads: u32,
+}
+
+// Whether one of two tests holds.
+pub fn one_of(a: bool, b: bool) -> bool
+    ensures { λ r. ⌜ r ≡ either a b ⌝ }
+{
+    if a {
+        return true;
+    }
+    b
+}
+
+// A number of a list's own head, 0 where it can't be read.
+pub fn u16_or_zero(bytes: &[u8], at: usize) -> u16
+    ensures { λ r. ⌜ r ≡ u16OrZero (now (bytes .entry)) at ⌝ }
+{
+    let parse::ReadU16::Got(number) = parse::read_u16(bytes, at) else {
+        return 0;
+    };
+    number
+}
+
+pub fn u32_or_zero(bytes: &[u8], at: usize) -> u32
+    ensures { λ r. ⌜ r ≡ u32OrZero (now (bytes .entry)) at ⌝ }
+{
+    let parse::ReadU32::Got(number) = parse::read_u32(bytes, at) else {
+        return 0;
+    };
+    number
+}
+
+// The bytes of a list that begins at `start`; a start of 0 means no table.
+pub fn list_bytes(table: &[u8], start: usize) -> &[u8]
+    ensures { λ r. ⌜ now r ≡ listBytes (now (table .entry)) start ⌝ }
+{
+    if start == 0 {
+        return parse::from(table, table.len());
+    }
+    parse::from(table, start)
+}
+
+// The lent adjustments become zero.
+pub fn zero(along: &mut [i64])
+    ensures { λ _. ⌜ now (along .exit) ≡ zeros (length (now (along .entry))) ⌝ }
+{
+    let mut place = 0;
+    while place < along.len() {
+        along[place] = 0;
+        place += 1;
+    }
+}
+
+// Turns the used adjustments round.
+pub fn turn(along: &mut [i64], used: usize)
+    requires { ⌜ used ≤ length (now along) ⌝ }
+    ensures { λ _. ⌜ now (along .exit) ≡ backward used (now (along .entry)) ⌝ }
+{
+    let mut low = 0;
+    let mut high = used;
+    while low < high {
+        high -= 1;
+        let first = along[low];
+        along[low] = along[high];
+        along[high] = first;
+        low += 1;
+    }
+}
+
+// The tests before a run: TABLE, LINE, HEAD.
+pub fn refuse_run(
+    length: usize,
+    start: usize,
+    glyphs: &[u16],
+    tags: &[u16],
+    homes: &[u16],
+    used: usize,
+    along: &[i64],
+) -> Check
+    ensures { λ r. ⌜ r ≡ refuse (runTests length start (lineOf (now (glyphs .entry)) (now (tags .entry)) (now (homes .entry)) used) (now (along .entry))) ⌝ }
+{
+    if let Check::Refused(why) = answers::refuse_table(length) {
+        return Check::Refused(why);
+    }
+    if !kerning::kernable(glyphs, tags, homes, used, along) {
+        return Check::Refused(Refusal::Line);
+    }
+    if length < start {
+        return Check::Refused(Refusal::Head);
+    }
+    Check::Passed
+}

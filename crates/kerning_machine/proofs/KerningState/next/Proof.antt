@@ -1,0 +1,55 @@
+use Rattle.kerning_machine.proofs.Acting.{next-ended, next-acts}
+use native.Mathlib.Omega.{arith}
+use Rattle.state_tables.proofs.Laws.{entry-payload}
+use borrow.Author.Needs.{needs}
+use Rattle.kerning_machine.proofs.KerningState.next.Statement.{statement}
+use Rattle.kerning_machine.proofs.KerningState.next.Tie as tie
+
+class-of-requires : tie.Need-class-of-requires
+class-of-requires c κs = search needs
+
+payload-of-requires : tie.Need-payload-of-requires
+payload-of-requires c κs = search needs
+
+entry-of-requires : tie.Need-entry-of-requires
+entry-of-requires c κs = search needs
+
+enum-known-entry : tie.Need-enum-known-entry
+enum-known-entry c = search needs
+
+enum-told : tie.Need-enum-told
+enum-told c = search needs
+
+stopped-requires : tie.Need-stopped-requires
+stopped-requires c κs = search needs
+
+returns : tie.Need-returns
+returns c = let e = next-ended _ _ _ _ _ _ _ (c .before .before .before .before .before .class-of .ensures) (c .before .before .before .before .payload-of .ensures) (c .before .before .before .entry-of .ensures) (c .before .enum-told .given .1) (c .stopped .ensures) in (e .steps, e .leaves)
+
+orders-of-requires : tie.Need-orders-of-requires
+orders-of-requires c κs = omega (arith, entry-payload _ _ _ _ _ (c .before .before .before .entry-of .ensures) (c .before .entry .given .1), c .before .before .before .before .payload-of .ensures)
+
+act-requires : tie.Need-act-requires
+act-requires c κs = search needs
+
+same-length : tie.Need-same-length
+same-length c = search needs
+
+returns-2 : tie.Need-returns-2
+returns-2 c = let e = next-acts _ _ _ _ _ _ _ (c .before .before .before .before .before .before .before .before .before .class-of .ensures) (c .before .before .before .before .before .before .before .before .payload-of .ensures) (c .before .before .before .before .before .before .before .entry-of .ensures) (c .before .before .before .before .before .entry .given .1) (c .before .before .before .orders-of .ensures) (c .before .act .ensures .0) (c .before .act .ensures .1) in (e .steps, e .leaves)
+
+pub next-spec : {M : Type 1} → statement M
+next-spec =
+    tie.close
+    (tie.spec
+    class-of-requires
+    payload-of-requires
+    entry-of-requires
+    enum-known-entry
+    enum-told
+    stopped-requires
+    returns
+    orders-of-requires
+    act-requires
+    same-length
+    returns-2)

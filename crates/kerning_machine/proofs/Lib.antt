@@ -1,0 +1,7 @@
+-- Laws of the machine of format 1.
+mod Readings
+mod Acting
+pub mod Sound
+mod Passes
+mod Steps
+pub mod Calls

@@ -1,0 +1,2 @@
+-- The machine of format 1.
+pub mod Machine

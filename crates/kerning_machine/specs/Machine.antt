@@ -1,0 +1,249 @@
+-- The machine of format 1, as the crate's two `next`, and its pass.
+use Prim.Native.Nat.{ℕ, zero, suc, _+_, _*_, _-_, _%_, _^_}
+use mathlib.Core.Bool.{Bool, true, false, cond, not}
+use mathlib.Core.List.{List, [], _∷_}
+use lib.Dec.{ltb, leb, eqb}
+use lib.IntN.{ℤ}
+use lib.ListN.{length, getD, set}
+use Rattle.laws.specs.Choose.{ifLt, ifEq}
+use Rattle.laws.specs.Lists.{both, every}
+use Rattle.parse.specs.Reads.{u16At}
+use Rattle.answers.specs.Limits.{room}
+use Rattle.answers.specs.Refuse.{Test, refuse, tableTest}
+use Rattle.answers.specs.declared.Answer.{Answer}
+use Rattle.answers.specs.declared.Answer.the-variants as Answer′
+use Rattle.answers.specs.declared.Refusal.the-variants as Refusal′
+use Rattle.answers.specs.declared.Check.{Check}
+use Rattle.answers.specs.declared.Check.the-variants as Check′
+use Rattle.state_tables.specs.declared.States.{States}
+use Rattle.state_tables.specs.declared.entries.Entry.{Entry}
+use Rattle.state_tables.specs.Classes.{classOf}
+use Rattle.state_tables.specs.Entries.{entryOf, onEntry}
+use Rattle.line.specs.Line.{Line}
+use Rattle.machine.specs.Entry.{isSet}
+use Rattle.machine.specs.Stall.{stalled}
+use Rattle.machine.specs.Pass.{isDone}
+use Rattle.kerning.specs.Additions.{Addition, Kerned, after, nothingAdded, calledBy}
+use Rattle.kerning.specs.Line.{isModest, headTest, kerningTests}
+use Rattle.kerning.specs.Lists.{Walk, leaves, walk}
+use Rattle.kerning.specs.declared.lists.Rule.{Rule}
+use Rattle.kerning.specs.declared.lists.Rule.the-variants.{Odd, Never}
+use Rattle.kerning_machine.specs.declared.Reading.{Reading}
+use Rattle.kerning_machine.specs.declared.Reading.the-variants.{Kern, Kerx}
+use Rattle.kerning_machine.specs.declared.Start.{Start}
+use Rattle.kerning_machine.specs.declared.Start.the-variants as Start′
+use Rattle.kerning_machine.specs.declared.Orders.{Orders}
+use Rattle.kerning_machine.specs.declared.Kerning.{Kerning}
+use Rattle.kerning_machine.specs.declared.Opened.{Opened}
+use Rattle.kerning_machine.specs.declared.Opened.the-variants as Opened′
+use Rattle.kerning_machine.specs.declared.KerningState.{KerningState}
+use Rattle.kerning_machine.specs.declared.KerningStep.{KerningStep}
+
+-- the state at the start of a pass
+abbrev pub fresh : KerningState
+fresh = record { state = 0; stack = 0 ∷ 0 ∷ 0 ∷ 0 ∷ 0 ∷ 0 ∷ 0 ∷ 0 ∷ []; depth = 0; cycles = 0 }
+
+-- kern's entries are flags alone, kerx's have an index behind them
+abbrev pub payloadOf : Reading → ℕ
+payloadOf (Kern crossed) = 0
+payloadOf (Kerx values tuples) = 2
+
+abbrev pub ruleOf : Reading → Rule
+ruleOf (Kern crossed) = Odd crossed
+ruleOf (Kerx values tuples) = Never
+
+-- kerx: the tuple size is twice the tuple count, 0 of which counts as 1
+unfoldable pub sizeOf : ℕ → ℕ
+sizeOf tuples = ifEq tuples 0 2 (tuples * 2)
+
+abbrev pub strideOf : Reading → ℕ
+strideOf (Kern crossed) = 2
+strideOf (Kerx values tuples) = sizeOf tuples
+
+-- kern: the flags but the highest two are the list's place from the state table on; 0 is none
+unfoldable pub kernStart : ℕ → Start
+kernStart flags = ifEq (flags % 0x4000) 0 Start′.None (Start′.At (flags % 0x4000))
+
+-- kerx, as the crate has it: (value table + index) times the tuple size, where that is a 64-bit number; 0xFFFF is none
+unfoldable pub kerxStart : (values tuples index : ℕ) → Start
+kerxStart values tuples index =
+    ifEq index 0xFFFF Start′.None
+    (ifLt ((values + index) * sizeOf tuples) (2 ^ 64) (Start′.At ((values + index) * sizeOf tuples)) Start′.Nowhere)
+
+-- an entry's flags: 0x8000 pushes the index, 0x4000 is don't advance; in kern, a whole flags word of 0 empties the stack, and in kerx 0x2000 does so
+-- behind the list
+unfoldable pub ordersOf : List ℕ → Reading → Entry → Orders
+ordersOf bytes (Kern crossed) entry =
+    record {
+      state = entry .state;
+      pushes = isSet (entry .flags) 0x8000;
+      clears = eqb (entry .flags) 0;
+      start = kernStart (entry .flags);
+      resets = false;
+      stays = isSet (entry .flags) 0x4000;
+    }
+ordersOf bytes (Kerx values tuples) entry =
+    record {
+      state = entry .state;
+      pushes = isSet (entry .flags) 0x8000;
+      clears = false;
+      start = kerxStart values tuples (u16At bytes (entry .payload));
+      resets = isSet (entry .flags) 0x2000;
+      stays = isSet (entry .flags) 0x4000;
+    }
+
+-- the 9th push
+abbrev pub isFull : (pushes : Bool) → (depth : ℕ) → Bool
+isFull pushes depth = both pushes (eqb depth 8)
+
+-- the state with another depth of its stack; what the slots above it held stays in them
+abbrev pub popped : KerningState → ℕ → KerningState
+popped s depth = record { state = s .state; stack = s .stack; depth = depth; cycles = s .cycles }
+
+-- the state with the index pushed, or with an empty stack, or as it is
+unfoldable pub stacked : KerningState → (pushes clears : Bool) → (index : ℕ) → KerningState
+stacked s true clears index = record { state = s .state; stack = set (s .stack) (s .depth) index; depth = s .depth + 1; cycles = s .cycles }
+stacked s false true index = popped s 0
+stacked s false false index = s
+
+-- a step that ends here, in this state
+abbrev pub stopped : KerningState → Answer → KerningStep
+stopped s answer = record { answer = answer; state = s; advance = 0 }
+
+-- what a list does: none leaves the stack; one at no 64-bit place ends the step, with an empty stack too
+unfoldable pub followed : List ℕ → Reading → Start → (stack : List ℕ) → (depth used : ℕ) → Walk
+followed bytes reading Start′.None stack depth used = leaves false depth []
+followed bytes reading Start′.Nowhere stack depth used = leaves true depth []
+followed bytes reading (Start′.At place) stack depth used = walk bytes (ruleOf reading) (strideOf reading) stack used depth place
+
+-- what a step answers, and its additions
+pub record Stepped : Type 0 where
+  pub step : KerningStep
+  pub additions : List Addition
+
+-- behind the list: kerx's reset, then the stall rule
+unfoldable pub settled : KerningState → (resets stays : Bool) → KerningStep
+settled s resets stays =
+    record {
+      answer = Answer′.Done;
+      state =
+          record {
+            state = s .state;
+            stack = s .stack;
+            depth = cond resets 0 (s .depth);
+            cycles = stalled (s .cycles) stays .cycles;
+          };
+      advance = stalled (s .cycles) stays .advance;
+    }
+
+-- a list that ended the step leaves the state as it is then
+unfoldable pub listed : Orders → KerningState → Walk → Stepped
+listed orders s w =
+    record {
+      step =
+          cond (w .left .ended) (stopped (popped s (w .left .depth)) Answer′.Ended)
+          (settled (popped s (w .left .depth)) (orders .resets) (orders .stays));
+      additions = w .additions;
+    }
+
+-- the state that the entry leads to
+abbrev pub entered : KerningState → Orders → KerningState
+entered s orders = record { state = orders .state; stack = s .stack; depth = s .depth; cycles = s .cycles }
+
+-- what an entry does: the new state, the push (the 9th ends the step), the list, the reset, the stall rule
+unfoldable pub acted : List ℕ → Reading → KerningState → Orders → (used index : ℕ) → Stepped
+acted bytes reading s orders used index =
+    cond (isFull (orders .pushes) (s .depth))
+    (record { step = stopped (entered s orders) Answer′.Ended; additions = [] })
+    (let on : KerningState = stacked (entered s orders) (orders .pushes) (orders .clears) index in
+    listed orders on (followed bytes reading (orders .start) (on .stack) (on .depth) used))
+
+-- a step: class, then entry, then what the entry does
+unfoldable pub next : List ℕ → Kerning → KerningState → (used index glyph : ℕ) → Stepped
+next bytes kerning s used index glyph =
+    onEntry (entryOf bytes (kerning .states) (s .state) (classOf bytes (kerning .states) glyph) (payloadOf (kerning .reading)))
+    (λ entry. acted bytes (kerning .reading) s (ordersOf bytes (kerning .reading) entry) used index)
+    (record { step = stopped s Answer′.Ended; additions = [] })
+
+-- The pass over the places of a line.
+module _ (bytes : List ℕ) (kerning : Kerning) (glyphs : List ℕ) (used : ℕ) where
+  -- the step at a place of the line, with the glyph that stands there
+  abbrev pub stepAt : KerningState → ℕ → Stepped
+  stepAt s i = next bytes kerning s used i (getD glyphs i 0)
+
+  -- from place i on: the step at each place below the used length; one that is not DONE ends the pass. There is no end call. `turns` bounds how many
+  -- steps there are
+  unfoldable pub passFrom : (turns : ℕ) → KerningState → ℕ → Kerned
+  passFrom zero s i = nothingAdded Answer′.Done
+  passFrom (suc turns) s i =
+      elim (ltb i used) [
+        | false ↦ nothingAdded Answer′.Done
+        | true ↦
+            elim (isDone (stepAt s i .step .answer)) [
+              | false ↦ record { answer = stepAt s i .step .answer; additions = stepAt s i .additions }
+              | true ↦ after (stepAt s i .additions) (passFrom turns (stepAt s i .step .state) (i + stepAt s i .step .advance))
+            ]
+      ]
+
+-- as many steps as a pass may have left: 18 for each place, less those that did not advance
+abbrev pub rest : (used : ℕ) → KerningState → ℕ → ℕ
+rest used s i = (used - i) * 18 + (18 - s .cycles)
+
+-- the pass over a line: from the fresh state and the first place
+unfoldable pub passed : List ℕ → Kerning → (glyphs : List ℕ) → (used : ℕ) → Kerned
+passed bytes kerning glyphs used = passFrom bytes kerning glyphs used (rest used fresh 0) fresh 0
+
+abbrev pub isShort : Opened → Bool
+isShort (Opened′.Ready kerning) = false
+isShort Opened′.Short = true
+
+-- the pass by what a head gives, over the bytes from the state table on
+unfoldable pub worked : List ℕ → Opened → (glyphs : List ℕ) → (used : ℕ) → Kerned
+worked bytes (Opened′.Ready kerning) glyphs used = passed bytes kerning glyphs used
+worked bytes Opened′.Short glyphs used = nothingAdded (Answer′.Refused Refusal′.Head)
+
+-- a lone pass: TABLE, LINE, HEAD, then the pass
+unfoldable pub passCall : (tableLength : ℕ) → List ℕ → Opened → Line → List ℤ → Kerned
+passCall tableLength bytes opened l along =
+    calledBy (refuse (kerningTests tableLength l along (isShort opened))) (worked bytes opened (l .glyphs) (l .used))
+
+-- every used slot's place is within the line or just behind it
+unfoldable pub areWithin : (stack : List ℕ) → (depth used : ℕ) → Bool
+areWithin stack depth used = every (λ k. leb (getD stack k 0) used) depth
+
+-- the room of a step is its adjustments'
+unfoldable pub isRoomy : List ℤ → (used : ℕ) → Bool
+isRoomy along used = ifLt room (length along) false (ifLt (length along) used false (isModest along))
+
+-- the tests of a lone step. LINE: a room above the limit, a length above the room, an adjustment beyond ±2^40; PLACE: the index is above the length;
+-- STATE: a stack above 8, a used slot's place above the length, a cycle count above 17
+unfoldable pub laterTests : (used index : ℕ) → KerningState → List ℤ → (headless : Bool) → List Test
+laterTests used index s along headless =
+    record { holds = not (isRoomy along used); refusal = Refusal′.Line }
+    ∷ record { holds = ltb used index; refusal = Refusal′.Place }
+    ∷ record { holds = ltb 8 (s .depth); refusal = Refusal′.State }
+    ∷ record { holds = not (areWithin (s .stack) (s .depth) used); refusal = Refusal′.State }
+    ∷ record { holds = ltb 17 (s .cycles); refusal = Refusal′.State }
+    ∷ headTest headless
+    ∷ []
+
+unfoldable pub stepTests : (tableLength used index : ℕ) → KerningState → List ℤ → (headless : Bool) → List Test
+stepTests tableLength used index s along headless = tableTest tableLength ∷ laterTests used index s along headless
+
+-- a refused step hands the state back as given
+abbrev pub refusedStep : KerningState → Answer → Stepped
+refusedStep s answer = record { step = stopped s answer; additions = [] }
+
+abbrev pub steppedBy : Check → KerningState → Stepped → Stepped
+steppedBy Check′.Passed s work = work
+steppedBy (Check′.Refused why) s work = refusedStep s (Answer′.Refused why)
+
+abbrev pub onOpened : Opened → KerningState → (Kerning → Stepped) → Stepped
+onOpened (Opened′.Ready kerning) s work = work kerning
+onOpened Opened′.Short s work = refusedStep s (Answer′.Refused Refusal′.Head)
+
+-- a lone step
+unfoldable pub stepCall : (tableLength : ℕ) → List ℕ → Opened → KerningState → (used index glyph : ℕ) → List ℤ → Stepped
+stepCall tableLength bytes opened s used index glyph along =
+    steppedBy (refuse (stepTests tableLength used index s along (isShort opened))) s
+    (onOpened opened s (λ kerning. next bytes kerning s used index glyph))

@@ -1,0 +1,552 @@
+// The machine of format 1: kern's over the classic state table, kerx's over the extended one.
+use answers::Answer;
+use answers::Check;
+use answers::Refusal;
+use kerning::lists;
+use kerning::lists::Rule;
+use kerning::lists::Walked;
+use state_tables::States;
+use state_tables::entries::Entered;
+use state_tables::entries::Entry;
+ghost use mathlib.Core.Path.{_≡_};
+ghost use mathlib.Core.Bool.{false, cond};
+ghost use Prim.Native.Nat.{_+_, _<_, _≤_, _^_};
+ghost use lib.ListN.{length};
+ghost use Rattle.answers.specs.Limits.{room};
+ghost use Rattle.answers.specs.Refuse.{refuse};
+ghost use Rattle.line.specs.Line.{lineOf};
+ghost use Rattle.kerning.specs.Additions.{addAll, Within};
+ghost use Rattle.kerning_machine.specs.Machine.{fresh, payloadOf, ruleOf, sizeOf, strideOf, kernStart, kerxStart, ordersOf, isFull, popped, stacked, stopped, entered, settled, followed, acted, next, passed, isRoomy, isShort, areWithin, stepTests, stepCall, worked, passCall};
+
+// How a machine reads its entries: kern's flags hold where the list begins, and its subtable may go across the stream; kerx's entries hold
+// an index, which counts from the value table in tuples.
+pub enum Reading {
+    Kern { crossed: bool },
+    Kerx { values: u32, tuples: u32 },
+}
+
+// A machine, as its subtable's head gives it.
+pub struct Kerning {
+    pub states: States,
+    pub reading: Reading,
+}
+
+// What a head gives, where it can be read.
+pub enum Opened {
+    Ready(Kerning),
+    Short,
+}
+
+// Where an entry's list begins: there is none, at a place, or at one that no 64-bit number tells.
+pub enum Start {
+    None,
+    At(usize),
+    Nowhere,
+}
+
+// What an entry says.
+pub struct Orders {
+    pub state: u16,
+    pub pushes: bool,
+    pub clears: bool,
+    pub start: Start,
+    pub resets: bool,
+    pub stays: bool,
+}
+
+// The state of a pass: the state table's state, the stack of places, and how many steps in a row did not advance.
+pub struct KerningState {
+    pub state: u16,
+    pub stack: [usize; 8],
+    pub depth: usize,
+    pub cycles: u16,
+}
+
+// What a step answers: DONE with the advance, or ENDED; and the new state.
+pub struct KerningStep {
+    pub answer: Answer,
+    pub state: KerningState,
+    pub advance: usize,
+}
+
+// How many bytes of payload an entry has.
+fn payload_of(reading: Reading) -> u16
+    ensures { λ r. ⌜ r ≡ payloadOf reading ⌝ }
+{
+    match reading {
+        Reading::Kern { .. } => 0,
+        Reading::Kerx { .. } => 2,
+    }
+}
+
+// When a list ends.
+fn rule_of(reading: Reading) -> Rule
+    ensures { λ r. ⌜ r ≡ ruleOf reading ⌝ }
+{
+    match reading {
+        Reading::Kern { crossed } => Rule::Odd { crossed },
+        Reading::Kerx { .. } => Rule::Never,
+    }
+}
+
+// The bytes of a tuple; no tuples count as one.
+fn size_of(tuples: u32) -> usize
+    ensures { λ r. ⌜ (r ≡ sizeOf tuples) × (2 ≤ r) × (r ≤ 2 ^ 33) ⌝ }
+{
+    if tuples == 0 {
+        return 2;
+    }
+    tuples as usize * 2
+}
+
+// How far the numbers of a list are apart.
+fn stride_of(reading: Reading) -> usize
+    ensures { λ r. ⌜ (r ≡ strideOf reading) × (r ≤ 2 ^ 40) ⌝ }
+{
+    match reading {
+        Reading::Kern { .. } => 2,
+        Reading::Kerx { tuples, .. } => size_of(tuples),
+    }
+}
+
+// Where a list of kern's begins.
+fn kern_start(flags: u16) -> Start
+    ensures { λ r. ⌜ r ≡ kernStart flags ⌝ }
+{
+    let place = flags % KerningState::LISTS;
+    if place == 0 {
+        return Start::None;
+    }
+    Start::At(place as usize)
+}
+
+// Where a list of kerx's begins.
+fn kerx_start(values: u32, tuples: u32, index: u16) -> Start
+    ensures { λ r. ⌜ r ≡ kerxStart values tuples index ⌝ }
+{
+    if index == KerningState::NO_LIST {
+        return Start::None;
+    }
+    let size = size_of(tuples);
+    let number = values as usize + index as usize;
+    if 0xFFFF_FFFF_FFFF_FFFF / size < number {
+        return Start::Nowhere;
+    }
+    Start::At(number * size)
+}
+
+// What an entry says.
+fn orders_of(bytes: &[u8], reading: Reading, entry: Entry) -> Orders
+    requires { ⌜ entry .payload + payloadOf reading ≤ length (now bytes) ⌝ }
+    ensures { λ r. ⌜ r ≡ ordersOf (now (bytes .entry)) reading entry ⌝ }
+{
+    let flags = entry.flags;
+    let Reading::Kerx { values, tuples } = reading else {
+        return Orders {
+            state: entry.state,
+            pushes: machine::is_set(flags, KerningState::PUSH),
+            clears: flags == 0,
+            start: kern_start(flags),
+            resets: false,
+            stays: machine::is_set(flags, KerningState::DONT_ADVANCE),
+        };
+    };
+    let index = state_tables::entries::one_number(bytes, entry.payload);
+    Orders {
+        state: entry.state,
+        pushes: machine::is_set(flags, KerningState::PUSH),
+        clears: false,
+        start: kerx_start(values, tuples, index),
+        resets: machine::is_set(flags, KerningState::RESET),
+        stays: machine::is_set(flags, KerningState::DONT_ADVANCE),
+    }
+}
+
+// The list of an entry, over a stack of so many places.
+fn follow(
+    bytes: &[u8],
+    reading: Reading,
+    start: Start,
+    stack: [usize; 8],
+    depth: usize,
+    used: usize,
+    along: &mut [i64],
+) -> Walked
+    requires { ⌜ (depth ≤ 8) × (used ≤ length (now along)) × Within (2 ^ 61) (now along) ⌝ }
+    ensures left { λ r. ⌜ r ≡ followed (now (bytes .entry)) reading start stack depth used .left ⌝ }
+    ensures along { λ _. ⌜ now (along .exit) ≡ addAll (followed (now (bytes .entry)) reading start stack depth used .additions) (now (along .entry)) ⌝ }
+{
+    match start {
+        Start::None => {
+            return Walked {
+                ended: false,
+                depth,
+            };
+        }
+        Start::Nowhere => {
+            return Walked { ended: true, depth };
+        }
+        Start::At(place) => {
+            return lists::walk(
+                bytes,
+                rule_of(reading),
+                stride_of(reading),
+                place,
+                stack,
+                depth,
+                used,
+                along,
+            );
+        }
+    }
+}
+
+// The depth of the stack, or none after a reset.
+fn kept(resets: bool, depth: usize) -> usize
+    ensures { λ r. ⌜ r ≡ cond resets 0 depth ⌝ }
+{
+    if resets { 0 } else { depth }
+}
+
+// Whether there is no machine.
+fn is_short(opened: Opened) -> bool
+    ensures { λ r. ⌜ r ≡ isShort opened ⌝ }
+{
+    match opened {
+        Opened::Ready(_) => false,
+        Opened::Short => true,
+    }
+}
+
+// Whether the places of the used slots are not above the length.
+fn are_within(stack: [usize; 8], depth: usize, used: usize) -> bool
+    requires { ⌜ depth ≤ 8 ⌝ }
+    ensures { λ r. ⌜ r ≡ areWithin stack depth used ⌝ }
+{
+    let mut left = depth;
+    while 0 < left {
+        left -= 1;
+        if used < stack[left] {
+            return false;
+        }
+    }
+    true
+}
+
+// Whether a step's adjustments are a room for a line of so many places, none of them beyond ±2^40.
+fn is_roomy(along: &[i64], used: usize) -> bool
+    ensures { λ r. ⌜ r ≡ isRoomy (now (along .entry)) used ⌝ }
+{
+    if answers::above_room(along.len()) {
+        return false;
+    }
+    if along.len() < used {
+        return false;
+    }
+    kerning::modest(along)
+}
+
+impl KerningState {
+    pub const PUSH: u16 = 0x8000;
+
+    pub const DONT_ADVANCE: u16 = 0x4000;
+
+    // Flags below this one say where a list of kern's begins.
+    pub const LISTS: u16 = 0x4000;
+
+    // kerx alone: empties the stack.
+    pub const RESET: u16 = 0x2000;
+
+    // The index of kerx's that means no list.
+    pub const NO_LIST: u16 = 0xFFFF;
+
+    pub const DEPTH: usize = 8;
+
+    pub const MOST_CYCLES: u16 = 17;
+
+    // The state at the start of a pass.
+    pub fn new() -> KerningState
+        ensures { λ r. ⌜ r ≡ fresh ⌝ }
+    {
+        KerningState {
+            state: 0,
+            stack: [0; 8],
+            depth: 0,
+            cycles: 0,
+        }
+    }
+
+    // The state with another depth of its stack.
+    fn popped(self, depth: usize) -> KerningState
+        ensures { λ r. ⌜ r ≡ popped self depth ⌝ }
+    {
+        let stack = self.stack;
+        KerningState {
+            state: self.state,
+            stack,
+            depth,
+            cycles: self.cycles,
+        }
+    }
+
+    // The state with the index pushed, or with an empty stack, or as it is.
+    fn stacked(self, pushes: bool, clears: bool, index: usize) -> KerningState
+        requires { ⌜ (self .depth ≤ 8) × (isFull pushes (self .depth) ≡ false) ⌝ }
+        ensures { λ r. ⌜ r ≡ stacked self pushes clears index ⌝ }
+    {
+        let mut stack = self.stack;
+        let depth = self.depth;
+        if pushes {
+            stack[depth] = index;
+            return KerningState {
+                state: self.state,
+                stack,
+                depth: depth + 1,
+                cycles: self.cycles,
+            };
+        }
+        if clears {
+            return self.popped(0);
+        }
+        self
+    }
+
+    // A step that ends here.
+    fn stopped(self, answer: Answer) -> KerningStep
+        ensures { λ r. ⌜ r ≡ stopped self answer ⌝ }
+    {
+        KerningStep {
+            answer,
+            state: self,
+            advance: 0,
+        }
+    }
+
+    // The state that an entry leads to.
+    fn entered(self, orders: Orders) -> KerningState
+        ensures { λ r. ⌜ r ≡ entered self orders ⌝ }
+    {
+        let stack = self.stack;
+        KerningState {
+            state: orders.state,
+            stack,
+            depth: self.depth,
+            cycles: self.cycles,
+        }
+    }
+
+    // Whether a push finds no room on the stack.
+    fn is_full(self, pushes: bool) -> bool
+        ensures { λ r. ⌜ r ≡ isFull pushes (self .depth) ⌝ }
+    {
+        if !pushes {
+            return false;
+        }
+        self.depth == KerningState::DEPTH
+    }
+
+    // Behind the list: the reset, then the stall rule.
+    fn settled(self, resets: bool, stays: bool) -> KerningStep
+        ensures { λ r. ⌜ r ≡ settled self resets stays ⌝ }
+    {
+        let stack = self.stack;
+        let stalled = machine::stall(self.cycles, stays);
+        KerningStep {
+            answer: Answer::Done,
+            state: KerningState {
+                state: self.state,
+                stack,
+                depth: kept(resets, self.depth),
+                cycles: stalled.cycles,
+            },
+            advance: stalled.advance,
+        }
+    }
+
+    // What an entry does.
+    fn act(
+        self,
+        bytes: &[u8],
+        reading: Reading,
+        orders: Orders,
+        used: usize,
+        index: usize,
+        along: &mut [i64],
+    ) -> KerningStep
+        requires { ⌜ (self .depth ≤ 8) × (used ≤ length (now along)) × Within (2 ^ 61) (now along) ⌝ }
+        ensures step { λ r. ⌜ r ≡ acted (now (bytes .entry)) reading self orders used index .step ⌝ }
+        ensures along { λ _. ⌜ now (along .exit) ≡ addAll (acted (now (bytes .entry)) reading self orders used index .additions) (now (along .entry)) ⌝ }
+    {
+        let led = self.entered(orders);
+        if self.is_full(orders.pushes) {
+            return led.stopped(Answer::Ended);
+        }
+        let on = led.stacked(orders.pushes, orders.clears, index);
+        let start = orders.start;
+        let stack = on.stack;
+        let walked = follow(bytes, reading, start, stack, on.depth, used, along);
+        let left = on.popped(walked.depth);
+        if walked.ended {
+            return left.stopped(Answer::Ended);
+        }
+        left.settled(orders.resets, orders.stays)
+    }
+
+    // The crate's `next`, over the bytes from the state table on.
+    pub fn next(
+        self,
+        bytes: &[u8],
+        kerning: Kerning,
+        used: usize,
+        index: usize,
+        glyph: u16,
+        along: &mut [i64],
+    ) -> KerningStep
+        requires { ⌜ (self .depth ≤ 8) × (used ≤ length (now along)) × Within (2 ^ 61) (now along) ⌝ }
+        ensures step { λ r. ⌜ r ≡ next (now (bytes .entry)) kerning self used index glyph .step ⌝ }
+        ensures along { λ _. ⌜ now (along .exit) ≡ addAll (next (now (bytes .entry)) kerning self used index glyph .additions) (now (along .entry)) ⌝ }
+    {
+        let states = kerning.states;
+        let reading = kerning.reading;
+        let class = state_tables::classes::class_of(bytes, states, glyph);
+        let Entered::At(entry) = state_tables::entries::entry_of(
+            bytes,
+            states,
+            self.state,
+            class,
+            payload_of(reading),
+        ) else {
+            return self.stopped(Answer::Ended);
+        };
+        let orders = orders_of(bytes, reading, entry);
+        self.act(bytes, reading, orders, used, index, along)
+    }
+
+    // The tests before a lone step: TABLE, LINE, PLACE, STATE, HEAD.
+    fn refuse(
+        self,
+        table_length: usize,
+        used: usize,
+        index: usize,
+        along: &[i64],
+        headless: bool,
+    ) -> Check
+        ensures { λ r. ⌜ r ≡ refuse (stepTests «table_length» used index self (now (along .entry)) headless) ⌝ }
+    {
+        if let Check::Refused(why) = answers::refuse_table(table_length) {
+            return Check::Refused(why);
+        }
+        if !is_roomy(along, used) {
+            return Check::Refused(Refusal::Line);
+        }
+        if used < index {
+            return Check::Refused(Refusal::Place);
+        }
+        let depth = self.depth;
+        if KerningState::DEPTH < depth {
+            return Check::Refused(Refusal::State);
+        }
+        let stack = self.stack;
+        if !are_within(stack, depth, used) {
+            return Check::Refused(Refusal::State);
+        }
+        if KerningState::MOST_CYCLES < self.cycles {
+            return Check::Refused(Refusal::State);
+        }
+        if headless {
+            return Check::Refused(Refusal::Head);
+        }
+        Check::Passed
+    }
+
+    // A lone step, by a machine and the bytes from its state table on, on a line of so many places.
+    pub fn step(
+        self,
+        table_length: usize,
+        bytes: &[u8],
+        opened: Opened,
+        used: usize,
+        index: usize,
+        glyph: u16,
+        along: &mut [i64],
+    ) -> KerningStep
+        ensures step { λ r. ⌜ r ≡ stepCall «table_length» (now (bytes .entry)) opened self used index glyph (now (along .entry)) .step ⌝ }
+        ensures along { λ _. ⌜ now (along .exit) ≡ addAll (stepCall «table_length» (now (bytes .entry)) opened self used index glyph (now (along .entry)) .additions) (now (along .entry)) ⌝ }
+    {
+        let headless = is_short(opened);
+        if let Check::Refused(why) = self.refuse(table_length, used, index, along, headless) {
+            return self.stopped(Answer::Refused(why));
+        }
+        let Opened::Ready(kerning) = opened else {
+            return self.stopped(Answer::Refused(Refusal::Head));
+        };
+        self.next(bytes, kerning, used, index, glyph, along)
+    }
+}
+
+// The pass over a line that LINE has taken, with the bytes from the state table on.
+fn pass_line(
+    bytes: &[u8],
+    kerning: Kerning,
+    glyphs: &[u16],
+    used: usize,
+    along: &mut [i64],
+) -> Answer
+    requires { ⌜ (used ≤ length (now glyphs)) × (used ≤ length (now along)) × (used ≤ room) × Within (2 ^ 60) (now along) ⌝ }
+    ensures answer { λ r. ⌜ r ≡ passed (now (bytes .entry)) kerning (now (glyphs .entry)) used .answer ⌝ }
+    ensures along { λ _. ⌜ now (along .exit) ≡ addAll (passed (now (bytes .entry)) kerning (now (glyphs .entry)) used .additions) (now (along .entry)) ⌝ }
+{
+    let mut state = KerningState::new();
+    let mut place = 0;
+    while place < used {
+        let step = state.next(bytes, kerning, used, place, glyphs[place], along);
+        let answer = step.answer;
+        if !machine::is_done(answer) {
+            return answer;
+        }
+        state = step.state;
+        place += step.advance;
+    }
+    Answer::Done
+}
+
+// The pass by what a head gives; HEAD where it gives none.
+pub fn work(bytes: &[u8], opened: Opened, glyphs: &[u16], used: usize, along: &mut [i64]) -> Answer
+    requires { ⌜ (used ≤ length (now glyphs)) × (used ≤ length (now along)) × (used ≤ room) × Within (2 ^ 60) (now along) ⌝ }
+    ensures answer { λ r. ⌜ r ≡ worked (now (bytes .entry)) opened (now (glyphs .entry)) used .answer ⌝ }
+    ensures along { λ _. ⌜ now (along .exit) ≡ addAll (worked (now (bytes .entry)) opened (now (glyphs .entry)) used .additions) (now (along .entry)) ⌝ }
+{
+    let Opened::Ready(kerning) = opened else {
+        return Answer::Refused(Refusal::Head);
+    };
+    pass_line(bytes, kerning, glyphs, used, along)
+}
+
+// A lone pass, by what a head gives and the bytes from the state table on.
+pub fn pass(
+    table_length: usize,
+    bytes: &[u8],
+    opened: Opened,
+    glyphs: &[u16],
+    tags: &[u16],
+    homes: &[u16],
+    used: usize,
+    along: &mut [i64],
+) -> Answer
+    ensures answer { λ r. ⌜ r ≡ passCall «table_length» (now (bytes .entry)) opened (lineOf (now (glyphs .entry)) (now (tags .entry)) (now (homes .entry)) used) (now (along .entry)) .answer ⌝ }
+    ensures along { λ _. ⌜ now (along .exit) ≡ addAll (passCall «table_length» (now (bytes .entry)) opened (lineOf (now (glyphs .entry)) (now (tags .entry)) (now (homes .entry)) used) (now (along .entry)) .additions) (now (along .entry)) ⌝ }
+{
+    let headless = is_short(opened);
+    if let Check::Refused(why) = kerning::refuse_pass(
+        table_length,
+        glyphs,
+        tags,
+        homes,
+        used,
+        along,
+        headless,
+    ) {
+        return Answer::Refused(why);
+    }
+    work(bytes, opened, glyphs, used, along)
+}

@@ -1,0 +1,45 @@
+-- The loop of kerx's run, which turns the line and turns it back.
+use Prim.Native.Nat.{ℕ, _+_, _-_, _<_, _≤_}
+use mathlib.Core.Path.{_≡_, refl, _∙_, ap}
+use mathlib.Core.Bool.{Bool}
+use mathlib.Core.List.{List}
+use native.Mathlib.Omega.{arith}
+use lib.IntN.{ℤ}
+use lib.ListN.{length}
+use Rattle.answers.specs.Limits.{room, headLimit}
+use Rattle.kerning.specs.Additions.{addAll, Within}
+use Rattle.kerning_lists.specs.Walk.{heads}
+use Rattle.kerning_lists.specs.Run.{contribution}
+use Rattle.kerning_lists.specs.declared.Subtable.{Subtable}
+use Rattle.kerning_lists.specs.declared.Head.the-variants.{At}
+use Rattle.kerning_lists.proofs.Runs.{Running, running-start, running-next, contribution-little}
+use Rattle.kerx.specs.Heads.{headAt}
+use Rattle.kerx.specs.Kerx.{adds}
+use Rattle.kerx.specs.declared.List.{List as KerxList}
+use Rattle.kerx.proofs.Works.{worked-little}
+
+module _ (bytes : List ℕ) (list : KerxList) (rtl : Bool) (glyphs₀ tags₀ : List ℕ) (used : ℕ) (along₀ : List ℤ) where
+  -- the run goes on as any does, and the line is as it was
+  pub record Going (glyphs tags : List ℕ) (along : List ℤ) (read left at : ℕ) : Type 0 where
+    pub running : Running (adds bytes (list .version) used) glyphs₀ used (headAt rtl bytes (list .version))
+        (heads (headAt rtl bytes (list .version)) (list .count) 8) along₀ along read left at
+    pub sameGlyphs : glyphs ≡ glyphs₀
+    pub sameTags : tags ≡ tags₀
+
+  pub going-start : Within 0 along₀ → Going glyphs₀ tags₀ along₀ 0 (list .count) 8
+  going-start w = record { running = running-start _ glyphs₀ used _ (list .count) 8 along₀ w; sameGlyphs = refl; sameTags = refl }
+
+  pub going-next : {glyphs tags glyphs′ tags′ : List ℕ} {along after : List ℤ} {read left at : ℕ} {s : Subtable} → Going glyphs tags along read left at
+      → used ≤ room → used ≤ length along₀ → 0 < left → headAt rtl bytes (list .version) at ≡ At s → read < headLimit
+      → glyphs′ ≡ glyphs → tags′ ≡ tags → after ≡ addAll (contribution (adds bytes (list .version) used) glyphs used s) along
+      → Going glyphs′ tags′ after (read + 1) (left - 1) (s .next)
+  going-next {along = along} {s = s} g small fits h e k p q a =
+      record {
+        running =
+            running-next _ glyphs₀ used _ _ along₀ (g .running) h e k
+            (a ∙ ap (λ (x : List ℕ). addAll (contribution (adds bytes (list .version) used) x used s) along) (g .sameGlyphs))
+            (contribution-little _ glyphs₀ used (λ s gs b xs w. worked-little _ (list .version) (s .format) gs used b xs small w) s along
+            (omega (arith, g .running .long)) (g .running .small));
+        sameGlyphs = p ∙ g .sameGlyphs;
+        sameTags = q ∙ g .sameTags;
+      }

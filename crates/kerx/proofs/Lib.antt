@@ -1,0 +1,6 @@
+-- Laws of the kerx table.
+mod Heads
+mod Works
+mod Goes
+mod Calls
+pub mod Manual

@@ -1,0 +1,41 @@
+use mathlib.Core.Path.{_∙_, ap}
+use lib.ListN.{length}
+use Rattle.kerning_lists.proofs.Turns.{length-zeros}
+use Rattle.kerning_lists.proofs.Calls.{zeroed-ready-line}
+use Rattle.kerx.proofs.Calls.{part-is}
+use borrow.Author.Needs.{needs}
+use Rattle.kerx.proofs.run_part.Statement.{statement}
+use Rattle.kerx.proofs.run_part.Tie as tie
+
+zero-requires : tie.Need-zero-requires
+zero-requires c κs = search needs
+
+list-of-requires : tie.Need-list-of-requires
+list-of-requires c κs = search needs
+
+run-list-requires : tie.Need-run-list-requires
+run-list-requires c κs = zeroed-ready-line (c .before .before .before .before .before .zero .ensures) (c .before .before .before .before .before .before .before .before .before .before .pre .0) (c .before .before .before .before .before .before .before .before .before .before .pre .1) (c .before .before .before .before .before .before .before .before .before .before .pre .2)
+
+same-length : tie.Need-same-length
+same-length c = search needs
+
+same-length-2 : tie.Need-same-length-2
+same-length-2 c = search needs
+
+same-length-3 : tie.Need-same-length-3
+same-length-3 c = search needs
+
+returns : tie.Need-returns
+returns c = let p = part-is _ _ _ _ (c .before .before .before .before .before .before .before .before .before .before .before .zero .ensures) (ap length (c .before .before .before .before .before .before .before .before .before .before .before .zero .ensures) ∙ length-zeros _) (c .before .before .before .before .before .before .before .before .before .list-of .ensures) (c .before .before .before .before .before .run-list .ensures .0) (c .before .before .before .before .before .run-list .ensures .1 .0) (c .before .before .before .before .before .run-list .ensures .1 .1 .1 .1) in (p .answers, (p .counts, (c .before .before .before .before .before .run-list .ensures .1 .1 .0, (c .before .before .before .before .before .run-list .ensures .1 .1 .1 .0, p .leaves))))
+
+pub run-part-spec : {M : Type 1} → statement M
+run-part-spec =
+    tie.close
+    (tie.spec
+    zero-requires
+    list-of-requires
+    run-list-requires
+    same-length
+    same-length-2
+    same-length-3
+    returns)

@@ -1,0 +1,54 @@
+use mathlib.Core.Path.{refl}
+use Rattle.kerx.proofs.Works.{visits-none, visits, visits-turned}
+use borrow.Author.Needs.{needs}
+use Rattle.kerx.proofs.visit.Statement.{statement}
+use Rattle.kerx.proofs.visit.Tie as tie
+
+returns : tie.Need-returns
+returns c = (refl, (refl, visits-none _ _ _ _ _ _ (c .if1 .taken)))
+
+from-requires : tie.Need-from-requires
+from-requires c κs = search needs
+
+work-turned-requires : tie.Need-work-turned-requires
+work-turned-requires c κs = search needs
+
+same-length : tie.Need-same-length
+same-length c = search needs
+
+same-length-2 : tie.Need-same-length-2
+same-length-2 c = search needs
+
+same-length-3 : tie.Need-same-length-3
+same-length-3 c = search needs
+
+returns-2 : tie.Need-returns-2
+returns-2 c = (c .before .before .before .before .before .work-turned .ensures .0, (c .before .before .before .before .before .work-turned .ensures .1 .0, visits-turned _ _ _ _ _ _ (c .before .before .before .before .before .before .before .before .before .before .before .if1 .left) (c .before .before .before .before .before .before .before .before .before .if2 .taken) (c .before .before .before .before .before .before .before .before .before .before .from .ensures) (c .before .before .before .before .before .work-turned .ensures .1 .1)))
+
+work-requires : tie.Need-work-requires
+work-requires c κs = search needs
+
+same-length-4 : tie.Need-same-length-4
+same-length-4 c = search needs
+
+same-length-5 : tie.Need-same-length-5
+same-length-5 c = search needs
+
+returns-3 : tie.Need-returns-3
+returns-3 c = (refl, (refl, visits _ _ _ _ _ _ (c .before .before .before .before .before .before .if1 .left) (c .before .before .before .before .if2 .left) (c .before .before .before .before .before .from .ensures) (c .before .work .ensures .1)))
+
+pub visit-spec : {M : Type 1} → statement M
+visit-spec =
+    tie.close
+    (tie.spec
+    returns
+    from-requires
+    work-turned-requires
+    same-length
+    same-length-2
+    same-length-3
+    returns-2
+    work-requires
+    same-length-4
+    same-length-5
+    returns-3)

@@ -1,0 +1,57 @@
+use Rattle.kerx.proofs.Works.{works-ordered, works-machine, works-classes, works-none}
+use borrow.Author.Needs.{needs}
+use Rattle.kerx.proofs.work.Statement.{statement}
+use Rattle.kerx.proofs.work.Tie as tie
+
+ordered-kerx-requires : tie.Need-ordered-kerx-requires
+ordered-kerx-requires c κs = search needs
+
+work-requires : tie.Need-work-requires
+work-requires c κs = search needs
+
+same-length : tie.Need-same-length
+same-length c = search needs
+
+returns : tie.Need-returns
+returns c = let w = works-ordered _ _ _ _ _ _ (c .before .before .before .before .if1 .taken) (c .before .before .before .ordered-kerx .ensures) (c .before .work .ensures .0) (c .before .work .ensures .1) in (w .answers, w .leaves)
+
+work-requires-2 : tie.Need-work-requires-2
+work-requires-2 c κs = search needs
+
+same-length-2 : tie.Need-same-length-2
+same-length-2 c = search needs
+
+returns-2 : tie.Need-returns-2
+returns-2 c = let w = works-machine _ _ _ _ _ _ (c .before .before .before .before .if1 .left) (c .before .before .before .if2 .taken) (c .before .work2 .ensures .0) (c .before .work2 .ensures .1) in (w .answers, w .leaves)
+
+classes-kerx-requires : tie.Need-classes-kerx-requires
+classes-kerx-requires c κs = search needs
+
+work-requires-3 : tie.Need-work-requires-3
+work-requires-3 c κs = search needs
+
+same-length-3 : tie.Need-same-length-3
+same-length-3 c = search needs
+
+returns-3 : tie.Need-returns-3
+returns-3 c = let w = works-classes _ _ _ _ _ _ (c .before .before .before .before .before .before .if1 .left) (c .before .before .before .before .before .if2 .left) (c .before .before .before .before .if3 .taken) (c .before .before .before .classes-kerx .ensures) (c .before .work3 .ensures .0) (c .before .work3 .ensures .1) in (w .answers, w .leaves)
+
+returns-4 : tie.Need-returns-4
+returns-4 c = let w = works-none _ _ _ _ _ _ (c .before .before .if1 .left) (c .before .if2 .left) (c .if3 .left) in (w .answers, w .leaves)
+
+pub work-spec : {M : Type 1} → statement M
+work-spec =
+    tie.close
+    (tie.spec
+    ordered-kerx-requires
+    work-requires
+    same-length
+    returns
+    work-requires-2
+    same-length-2
+    returns-2
+    classes-kerx-requires
+    work-requires-3
+    same-length-3
+    returns-3
+    returns-4)

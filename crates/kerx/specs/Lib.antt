@@ -1,0 +1,4 @@
+-- The kerx table.
+pub mod Heads
+pub mod Kerx
+pub mod Manual

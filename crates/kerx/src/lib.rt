@@ -1,0 +1,354 @@
+// The kerx table: the list of subtables, the pass by one of them, and the whole run.
+use answers::Answer;
+use answers::Check;
+use answers::Refusal;
+use kerning_lists::Head;
+use kerning_lists::Run;
+use kerning_lists::Subtable;
+use pairs::PairReply;
+ghost use mathlib.Core.Path.{_≡_};
+ghost use mathlib.Core.Bool.{false};
+ghost use Prim.Native.Nat.{_<_, _≤_, _^_};
+ghost use lib.ListN.{length};
+ghost use Rattle.answers.specs.Limits.{room};
+ghost use Rattle.laws.specs.Backward.{backward};
+ghost use Rattle.machine.specs.Entry.{isSet};
+ghost use Rattle.line.specs.Line.{lineOf};
+ghost use Rattle.kerning.specs.Additions.{addAll, Within};
+ghost use Rattle.kerning_lists.specs.Walk.{walkAnswer, visited, heads};
+ghost use Rattle.kerning_lists.specs.Run.{turnedBack, contribution, contributions, usedPart};
+ghost use Rattle.kerx.specs.Heads.{shouldReverse, subtableOf, headIn, headAt, listOf, walkOf};
+ghost use Rattle.kerx.specs.Kerx.{worked, passed, passCall, pairIn, pairCall, adds, runCall};
+
+// The bits of a subtable's coverage.
+const VERTICAL: u32 = 0x8000_0000;
+
+const CROSS_STREAM: u32 = 0x4000_0000;
+
+const VARIATIONS: u32 = 0x2000_0000;
+
+const BACKWARD: u32 = 0x1000_0000;
+
+// The list of subtables: its version, and how many it counts; the first begins at 8.
+pub struct List {
+    pub version: u16,
+    pub count: u32,
+}
+
+// Whether a bit of the coverage is set; masks are powers of two.
+fn is_set(coverage: u32, mask: u32) -> bool
+    requires { ⌜ 1 ≤ mask ⌝ }
+    ensures { λ r. ⌜ r ≡ isSet coverage mask ⌝ }
+{
+    coverage / mask % 2 == 1
+}
+
+// Whether a run passes over a subtable: a vertical one, a cross-stream one, or one with variations.
+fn passed_over(coverage: u32) -> bool
+    ensures { λ r. ⌜ r ≡ subtableOf false 0 0 coverage .«passed_over» ⌝ }
+{
+    if is_set(coverage, VERTICAL) {
+        return true;
+    }
+    kerning_lists::one_of(is_set(coverage, CROSS_STREAM), is_set(coverage, VARIATIONS))
+}
+
+// Whether a subtable goes through the line the other way round.
+fn should_reverse(coverage: u32, rtl: bool) -> bool
+    ensures { λ r. ⌜ r ≡ shouldReverse coverage rtl ⌝ }
+{
+    if is_set(coverage, BACKWARD) {
+        return !rtl;
+    }
+    rtl
+}
+
+fn subtable_of(rtl: bool, at: usize, size: u32, coverage: u32) -> Subtable
+    requires { ⌜ at < 2 ^ 63 ⌝ }
+    ensures { λ r. ⌜ r ≡ subtableOf rtl at size coverage ⌝ }
+{
+    Subtable {
+        passed_over: passed_over(coverage),
+        turned: should_reverse(coverage, rtl),
+        format: coverage % 256,
+        body: at,
+        next: at + size as usize,
+    }
+}
+
+// The head at a place, by the bytes from there on.
+fn head_in(rtl: bool, version: u16, at: usize, part: &[u8]) -> Head
+    requires { ⌜ at < 2 ^ 63 ⌝ }
+    ensures { λ r. ⌜ r ≡ headIn rtl version at (now (part .entry)) ⌝ }
+{
+    let parse::ReadU32::Got(size) = parse::read_u32(part, 0) else {
+        return Head::Cut;
+    };
+    let parse::ReadU32::Got(coverage) = parse::read_u32(part, 4) else {
+        return Head::Cut;
+    };
+    if version < 4 {
+        return Head::At(subtable_of(rtl, at, size, coverage));
+    }
+    let parse::ReadU32::Got(_) = parse::read_u32(part, 8) else {
+        return Head::Cut;
+    };
+    Head::At(subtable_of(rtl, at, size, coverage))
+}
+
+// The head at a place of the list; there is none at or past the table's end.
+fn head_at(rtl: bool, bytes: &[u8], version: u16, at: usize) -> Head
+    ensures { λ r. ⌜ r ≡ headAt rtl (now (bytes .entry)) version at ⌝ }
+{
+    if bytes.len() <= at {
+        return Head::Cut;
+    }
+    head_in(rtl, version, at, parse::from(bytes, at))
+}
+
+// The list at the start of a table's bytes.
+fn list_of(bytes: &[u8]) -> List
+    ensures { λ r. ⌜ r ≡ listOf (now (bytes .entry)) ⌝ }
+{
+    List {
+        version: kerning_lists::u16_or_zero(bytes, 0),
+        count: kerning_lists::u32_or_zero(bytes, 4),
+    }
+}
+
+// The pass by the subtable that begins with `bytes`, of a format.
+fn work(
+    bytes: &[u8],
+    version: u16,
+    format: u32,
+    glyphs: &[u16],
+    used: usize,
+    along: &mut [i64],
+) -> Answer
+    requires { ⌜ (used ≤ length (now glyphs)) × (used ≤ length (now along)) × (used ≤ room) × Within (2 ^ 60) (now along) ⌝ }
+    ensures answer { λ r. ⌜ r ≡ worked (now (bytes .entry)) version format (now (glyphs .entry)) used .answer ⌝ }
+    ensures along { λ _. ⌜ now (along .exit) ≡ addAll (worked (now (bytes .entry)) version format (now (glyphs .entry)) used .additions) (now (along .entry)) ⌝ }
+{
+    if format == 0 {
+        return pairs::work(bytes, pairs::ordered_kerx(bytes), glyphs, used, along);
+    }
+    if format == 1 {
+        return kerx_machine::work(bytes, version, glyphs, used, along);
+    }
+    if format == 2 {
+        return pairs::work(bytes, pairs::classes_kerx(bytes), glyphs, used, along);
+    }
+    Answer::Refused(Refusal::Head)
+}
+
+// The answer for a pair by the subtable that begins with `bytes`.
+fn pair_in(bytes: &[u8], version: u16, left: u16, right: u16) -> PairReply
+    ensures { λ r. ⌜ r ≡ pairIn (now (bytes .entry)) version left right ⌝ }
+{
+    let Head::At(subtable) = head_in(false, version, 0, bytes) else {
+        return PairReply::Refused(Refusal::Head);
+    };
+    if subtable.format == 0 {
+        return pairs::reply(bytes, pairs::ordered_kerx(bytes), left, right);
+    }
+    if subtable.format == 2 {
+        return pairs::reply(bytes, pairs::classes_kerx(bytes), left, right);
+    }
+    PairReply::Refused(Refusal::Head)
+}
+
+// What a pair of glyphs adds, by the subtable at `start` of a list of this version.
+pub fn pair(table: &[u8], start: usize, version: u16, left: u16, right: u16) -> PairReply
+    ensures { λ r. ⌜ r ≡ pairCall (now (table .entry)) start version left right ⌝ }
+{
+    if let Check::Refused(why) = answers::refuse_table(table.len()) {
+        return PairReply::Refused(why);
+    }
+    pair_in(parse::from(table, start), version, left, right)
+}
+
+// The pass over the line turned round, which is then turned back, its adjustments with it.
+fn work_turned(
+    part: &[u8],
+    version: u16,
+    format: u32,
+    glyphs: &mut [u16],
+    tags: &mut [u16],
+    used: usize,
+    along: &mut [i64],
+)
+    requires { ⌜ (used ≤ length (now glyphs)) × (used ≤ length (now tags)) × (used ≤ length (now along)) × (used ≤ room) × Within (2 ^ 60) (now along) ⌝ }
+    ensures glyphs { λ _. ⌜ now (glyphs .exit) ≡ now (glyphs .entry) ⌝ }
+    ensures tags { λ _. ⌜ now (tags .exit) ≡ now (tags .entry) ⌝ }
+    ensures along { λ _. ⌜ now (along .exit) ≡ addAll (turnedBack used (worked (now (part .entry)) version format (backward used (now (glyphs .entry))) used .additions)) (now (along .entry)) ⌝ }
+{
+    line::edits::reverse(glyphs, tags, used);
+    kerning_lists::turn(along, used);
+    let _ = work(part, version, format, glyphs, used, along);
+    line::edits::reverse(glyphs, tags, used);
+    kerning_lists::turn(along, used); // the adjustments too
+}
+
+// A subtable of the list adds its own, unless the run passes over it.
+fn visit(
+    bytes: &[u8],
+    version: u16,
+    subtable: Subtable,
+    glyphs: &mut [u16],
+    tags: &mut [u16],
+    used: usize,
+    along: &mut [i64],
+)
+    requires { ⌜ (used ≤ length (now glyphs)) × (used ≤ length (now tags)) × (used ≤ length (now along)) × (used ≤ room) × Within (2 ^ 60) (now along) ⌝ }
+    ensures glyphs { λ _. ⌜ now (glyphs .exit) ≡ now (glyphs .entry) ⌝ }
+    ensures tags { λ _. ⌜ now (tags .exit) ≡ now (tags .entry) ⌝ }
+    ensures along { λ _. ⌜ now (along .exit) ≡ addAll (contribution (adds (now (bytes .entry)) version used) (now (glyphs .entry)) used subtable) (now (along .entry)) ⌝ }
+{
+    if subtable.passed_over {
+        return;
+    }
+    let part = parse::from(bytes, subtable.body);
+    if subtable.turned {
+        work_turned(part, version, subtable.format, glyphs, tags, used, along);
+        return;
+    }
+    let _ = work(part, version, subtable.format, glyphs, used, along);
+}
+
+// The subtables one after the other, from the first on.
+fn run_list(
+    bytes: &[u8],
+    list: List,
+    rtl: bool,
+    glyphs: &mut [u16],
+    tags: &mut [u16],
+    used: usize,
+    along: &mut [i64],
+) -> Run
+    requires { ⌜ (used ≤ length (now glyphs)) × (used ≤ length (now tags)) × (used ≤ length (now along)) × (used ≤ room) × Within 0 (now along) ⌝ }
+    ensures answer { λ r. ⌜ r .answer ≡ walkAnswer (heads (headAt rtl (now (bytes .entry)) (list .version)) (list .count) 8) ⌝ }
+    ensures heads { λ r. ⌜ r .heads ≡ length (visited (heads (headAt rtl (now (bytes .entry)) (list .version)) (list .count) 8)) ⌝ }
+    ensures glyphs { λ _. ⌜ now (glyphs .exit) ≡ now (glyphs .entry) ⌝ }
+    ensures tags { λ _. ⌜ now (tags .exit) ≡ now (tags .entry) ⌝ }
+    ensures along { λ _. ⌜ now (along .exit) ≡ addAll (contributions (adds (now (bytes .entry)) (list .version) used) (now (glyphs .entry)) used (visited (heads (headAt rtl (now (bytes .entry)) (list .version)) (list .count) 8))) (now (along .entry)) ⌝ }
+{
+    let mut heads = 0;
+    let mut left = list.count;
+    let mut at = 8;
+    while 0 < left {
+        let Head::At(subtable) = head_at(rtl, bytes, list.version, at) else {
+            return Run {
+                answer: Answer::Done,
+                heads,
+            };
+        };
+        if heads == answers::HEADS {
+            return Run {
+                answer: Answer::Limit,
+                heads,
+            };
+        }
+        visit(bytes, list.version, subtable, glyphs, tags, used, along);
+        heads += 1;
+        left -= 1;
+        at = subtable.next;
+    }
+    Run {
+        answer: Answer::Done,
+        heads,
+    }
+}
+
+// The used adjustments, zeroed first, with what the list's subtables add.
+fn run_part(bytes: &[u8], rtl: bool, glyphs: &mut [u16], tags: &mut [u16], along: &mut [i64]) -> Run
+    requires { ⌜ (length (now along) ≤ length (now glyphs)) × (length (now along) ≤ length (now tags)) × (length (now along) ≤ room) ⌝ }
+    ensures answer { λ r. ⌜ r .answer ≡ walkAnswer (walkOf rtl (now (bytes .entry))) ⌝ }
+    ensures heads { λ r. ⌜ r .heads ≡ length (visited (walkOf rtl (now (bytes .entry)))) ⌝ }
+    ensures glyphs { λ _. ⌜ now (glyphs .exit) ≡ now (glyphs .entry) ⌝ }
+    ensures tags { λ _. ⌜ now (tags .exit) ≡ now (tags .entry) ⌝ }
+    ensures along { λ _. ⌜ now (along .exit) ≡ usedPart (walkOf rtl (now (bytes .entry))) (adds (now (bytes .entry)) (listOf (now (bytes .entry)) .version) (length (now (along .entry)))) (now (glyphs .entry)) (length (now (along .entry))) ⌝ }
+{
+    kerning_lists::zero(along);
+    let used = along.len();
+    run_list(bytes, list_of(bytes), rtl, glyphs, tags, used, along)
+}
+
+// A whole run over the list at `start`, of a line that goes from right to left or not. The line is turned and turned back, and so unchanged.
+pub fn run(
+    table: &[u8],
+    start: usize,
+    rtl: bool,
+    glyphs: &mut [u16],
+    tags: &mut [u16],
+    homes: &[u16],
+    used: usize,
+    along: &mut [i64],
+) -> Run
+    ensures answer { λ r. ⌜ r .answer ≡ runCall (now (table .entry)) start rtl (lineOf (now (glyphs .entry)) (now (tags .entry)) (now (homes .entry)) used) (now (along .entry)) .answer ⌝ }
+    ensures heads { λ r. ⌜ r .heads ≡ runCall (now (table .entry)) start rtl (lineOf (now (glyphs .entry)) (now (tags .entry)) (now (homes .entry)) used) (now (along .entry)) .heads ⌝ }
+    ensures glyphs { λ _. ⌜ now (glyphs .exit) ≡ now (glyphs .entry) ⌝ }
+    ensures tags { λ _. ⌜ now (tags .exit) ≡ now (tags .entry) ⌝ }
+    ensures along { λ _. ⌜ now (along .exit) ≡ runCall (now (table .entry)) start rtl (lineOf (now (glyphs .entry)) (now (tags .entry)) (now (homes .entry)) used) (now (along .entry)) .along ⌝ }
+{
+    if let Check::Refused(why) = kerning_lists::refuse_run(
+        table.len(),
+        start,
+        glyphs,
+        tags,
+        homes,
+        used,
+        along,
+    ) {
+        return Run {
+            answer: Answer::Refused(why),
+            heads: 0,
+        };
+    }
+    run_part(
+        kerning_lists::list_bytes(table, start),
+        rtl,
+        glyphs,
+        tags,
+        &mut along[..used],
+    )
+}
+
+// The pass by the subtable that begins with `bytes`, its head included.
+fn pass_in(bytes: &[u8], version: u16, glyphs: &[u16], used: usize, along: &mut [i64]) -> Answer
+    requires { ⌜ (used ≤ length (now glyphs)) × (used ≤ length (now along)) × (used ≤ room) × Within (2 ^ 60) (now along) ⌝ }
+    ensures answer { λ r. ⌜ r ≡ passed (now (bytes .entry)) version (now (glyphs .entry)) used .answer ⌝ }
+    ensures along { λ _. ⌜ now (along .exit) ≡ addAll (passed (now (bytes .entry)) version (now (glyphs .entry)) used .additions) (now (along .entry)) ⌝ }
+{
+    let Head::At(subtable) = head_in(false, version, 0, bytes) else {
+        return Answer::Refused(Refusal::Head);
+    };
+    work(bytes, version, subtable.format, glyphs, used, along)
+}
+
+// The pass over a line, by the subtable at `start` of a list of this version; HEAD is the pass's own answer.
+pub fn pass(
+    table: &[u8],
+    start: usize,
+    version: u16,
+    glyphs: &[u16],
+    tags: &[u16],
+    homes: &[u16],
+    used: usize,
+    along: &mut [i64],
+) -> Answer
+    ensures answer { λ r. ⌜ r ≡ passCall (now (table .entry)) start version (lineOf (now (glyphs .entry)) (now (tags .entry)) (now (homes .entry)) used) (now (along .entry)) .answer ⌝ }
+    ensures along { λ _. ⌜ now (along .exit) ≡ addAll (passCall (now (table .entry)) start version (lineOf (now (glyphs .entry)) (now (tags .entry)) (now (homes .entry)) used) (now (along .entry)) .additions) (now (along .entry)) ⌝ }
+{
+    if let Check::Refused(why) = kerning::refuse_pass(
+        table.len(),
+        glyphs,
+        tags,
+        homes,
+        used,
+        along,
+        false,
+    ) {
+        return Answer::Refused(why);
+    }
+    pass_in(parse::from(table, start), version, glyphs, used, along)
+}

@@ -1,0 +1,14 @@
+-- How large what a pass leaves can get.
+use Prim.Native.Nat.{ℕ, _+_, _≤_, _^_}
+use mathlib.Core.List.{List}
+use lib.IntN.{ℤ}
+use Rattle.answers.specs.Limits.{room}
+use Rattle.kerning.specs.Additions.{addAll, Within}
+use Rattle.kerning_machine.proofs.Sound as Sound
+use Rattle.kerx_machine.specs.Machine.{bodyOf, opened, worked}
+
+-- a pass adds at most 2^39 in size to any adjustment, for any room up to 65,535
+pub worked-within : (bytes : List ℕ) (version : ℕ) (glyphs : List ℕ) (used : ℕ) {b : ℕ} (along : List ℤ) → used ≤ room → Within b along
+    → Within (b + 2 ^ 39) (addAll (worked bytes version glyphs used .additions) along)
+unfolding worked
+worked-within bytes version glyphs used along h w = Sound.worked-within (bodyOf bytes) (opened bytes version) glyphs used along h w

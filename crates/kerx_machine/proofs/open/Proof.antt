@@ -1,0 +1,93 @@
+use Rattle.kerx_machine.specs.Machine.{opened}
+use mathlib.Core.Path.{sym, _∙_}
+use borrow.Author.Tests.{eq-eqb, ne-eqb}
+use borrow.Author.Needs.{needs}
+use Rattle.kerx_machine.proofs.open.Statement.{statement}
+use Rattle.kerx_machine.proofs.open.Tie as tie
+
+read-u32-requires : tie.Need-read-u32-requires
+read-u32-requires c κs = search needs
+
+enum-known-coverage : tie.Need-enum-known-coverage
+enum-known-coverage c = search needs
+
+enum-told : tie.Need-enum-told
+enum-told c = search needs
+
+returns : tie.Need-returns
+unfolding opened
+returns c = rw (sym (c .before .before .read-u32 .ensures) ∙ c .enum-told .given .1, opened)
+
+tuples-of-requires : tie.Need-tuples-of-requires
+tuples-of-requires c κs = search needs
+
+enum-known-tuples : tie.Need-enum-known-tuples
+enum-known-tuples c = search needs
+
+enum-told-2 : tie.Need-enum-told-2
+enum-told-2 c = search needs
+
+returns-2 : tie.Need-returns-2
+unfolding opened
+returns-2 c = rw (sym (c .before .before .before .before .before .before .read-u32 .ensures) ∙ c .before .before .before .before .coverage .given .1, sym (c .before .before .tuples-of .ensures) ∙ c .enum-told2 .given .1, opened)
+
+returns-3 : tie.Need-returns-3
+unfolding opened
+returns-3 c = rw (sym (c .before .before .before .before .before .before .before .before .read-u32 .ensures) ∙ c .before .before .before .before .before .before .coverage .given .1, sym (c .before .before .before .before .tuples-of .ensures) ∙ c .before .before .tuples .given .1, ne-eqb _ _ (c .if1 .taken), opened)
+
+from-requires : tie.Need-from-requires
+from-requires c κs = search needs
+
+extended-requires : tie.Need-extended-requires
+extended-requires c κs = search needs
+
+enum-known-states : tie.Need-enum-known-states
+enum-known-states c = search needs
+
+enum-told-3 : tie.Need-enum-told-3
+enum-told-3 c = search needs
+
+returns-4 : tie.Need-returns-4
+unfolding opened
+returns-4 c = rw (sym (c .before .before .before .before .before .before .before .before .before .before .before .before .read-u32 .ensures) ∙ c .before .before .before .before .before .before .before .before .before .before .coverage .given .1, sym (c .before .before .before .before .before .before .before .before .tuples-of .ensures) ∙ c .before .before .before .before .before .before .tuples .given .1, eq-eqb _ _ (c .before .before .before .before .if1 .left), ← (c .before .before .before .from .ensures), sym (c .before .before .extended .ensures) ∙ c .enum-told3 .given .1, opened)
+
+read-u32-requires-2 : tie.Need-read-u32-requires-2
+read-u32-requires-2 c κs = search needs
+
+enum-known-values : tie.Need-enum-known-values
+enum-known-values c = search needs
+
+enum-told-4 : tie.Need-enum-told-4
+enum-told-4 c = search needs
+
+returns-5 : tie.Need-returns-5
+unfolding opened
+returns-5 c = rw (sym (c .before .before .before .before .before .before .before .before .before .before .before .before .before .before .before .before .read-u32 .ensures) ∙ c .before .before .before .before .before .before .before .before .before .before .before .before .before .before .coverage .given .1, sym (c .before .before .before .before .before .before .before .before .before .before .before .before .tuples-of .ensures) ∙ c .before .before .before .before .before .before .before .before .before .before .tuples .given .1, eq-eqb _ _ (c .before .before .before .before .before .before .before .before .if1 .left), ← (c .before .before .before .before .before .before .before .from .ensures), sym (c .before .before .before .before .before .before .extended .ensures) ∙ c .before .before .before .before .states .given .1, sym (c .before .before .read-u322 .ensures) ∙ c .enum-told4 .given .1, opened)
+
+returns-6 : tie.Need-returns-6
+unfolding opened
+returns-6 c = rw (sym (c .before .before .before .before .before .before .before .before .before .before .before .before .before .before .before .before .before .read-u32 .ensures) ∙ c .before .before .before .before .before .before .before .before .before .before .before .before .before .before .before .coverage .given .1, sym (c .before .before .before .before .before .before .before .before .before .before .before .before .before .tuples-of .ensures) ∙ c .before .before .before .before .before .before .before .before .before .before .before .tuples .given .1, eq-eqb _ _ (c .before .before .before .before .before .before .before .before .before .if1 .left), ← (c .before .before .before .before .before .before .before .before .from .ensures), sym (c .before .before .before .before .before .before .before .extended .ensures) ∙ c .before .before .before .before .before .states .given .1, sym (c .before .before .before .read-u322 .ensures) ∙ c .before .values .given .1, opened)
+
+pub open-spec : {M : Type 1} → statement M
+open-spec =
+    tie.close
+    (tie.spec
+    read-u32-requires
+    enum-known-coverage
+    enum-told
+    returns
+    tuples-of-requires
+    enum-known-tuples
+    enum-told-2
+    returns-2
+    returns-3
+    from-requires
+    extended-requires
+    enum-known-states
+    enum-told-3
+    returns-4
+    read-u32-requires-2
+    enum-known-values
+    enum-told-4
+    returns-5
+    returns-6)

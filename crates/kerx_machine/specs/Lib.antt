@@ -1,0 +1,2 @@
+-- kerx format 1.
+pub mod Machine

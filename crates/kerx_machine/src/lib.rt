@@ -1,0 +1,123 @@
+// kerx format 1: the kerning machine over the extended state table.
+use answers::Answer;
+use kerning_machine::Kerning;
+use kerning_machine::KerningState;
+use kerning_machine::KerningStep;
+use kerning_machine::Opened;
+use kerning_machine::Reading;
+use parse::ReadU32;
+use state_tables::Made;
+ghost use mathlib.Core.Path.{_≡_};
+ghost use Prim.Native.Nat.{_≤_, _^_};
+ghost use lib.ListN.{length, drop};
+ghost use Rattle.answers.specs.Limits.{room};
+ghost use Rattle.line.specs.Line.{lineOf};
+ghost use Rattle.kerning.specs.Additions.{addAll, Within};
+ghost use Rattle.kerx_machine.specs.Machine.{tuplesOf, opened, worked, passCall, stepCall};
+
+// The format of this machine.
+pub const FORMAT: u32 = 1;
+
+// The state table always begins 12 bytes in, though the head has 8 below version 4.
+pub const BODY: usize = 12;
+
+// The tuple count of a subtable: from version 4 of the list on.
+fn tuples_of(bytes: &[u8], version: u16) -> ReadU32
+    ensures { λ r. ⌜ r ≡ tuplesOf (now (bytes .entry)) version ⌝ }
+{
+    if version < 4 {
+        return ReadU32::Got(0);
+    }
+    parse::read_u32(bytes, 8)
+}
+
+// The machine of a subtable whose bytes begin at its head.
+pub fn open(bytes: &[u8], version: u16) -> Opened
+    ensures { λ r. ⌜ r ≡ opened (now (bytes .entry)) version ⌝ }
+{
+    let ReadU32::Got(coverage) = parse::read_u32(bytes, 4) else {
+        return Opened::Short;
+    };
+    let ReadU32::Got(tuples) = tuples_of(bytes, version) else {
+        return Opened::Short;
+    };
+    if coverage % 256 != FORMAT {
+        return Opened::Short;
+    }
+    let body = parse::from(bytes, BODY);
+    let Made::Ready(states) = state_tables::extended(body) else {
+        return Opened::Short;
+    };
+    let ReadU32::Got(values) = parse::read_u32(body, 16) else {
+        return Opened::Short;
+    };
+    Opened::Ready(Kerning {
+        states,
+        reading: Reading::Kerx { values, tuples },
+    })
+}
+
+// The pass by the subtable whose bytes begin at its head; HEAD where it can't be opened.
+pub fn work(bytes: &[u8], version: u16, glyphs: &[u16], used: usize, along: &mut [i64]) -> Answer
+    requires { ⌜ (used ≤ length (now glyphs)) × (used ≤ length (now along)) × (used ≤ room) × Within (2 ^ 60) (now along) ⌝ }
+    ensures answer { λ r. ⌜ r ≡ worked (now (bytes .entry)) version (now (glyphs .entry)) used .answer ⌝ }
+    ensures along { λ _. ⌜ now (along .exit) ≡ addAll (worked (now (bytes .entry)) version (now (glyphs .entry)) used .additions) (now (along .entry)) ⌝ }
+{
+    let machine = open(bytes, version);
+    kerning_machine::work(parse::from(bytes, BODY), machine, glyphs, used, along)
+}
+
+// The pass over a line, by the subtable at `start` of a list of this version.
+pub fn pass(
+    table: &[u8],
+    start: usize,
+    version: u16,
+    glyphs: &[u16],
+    tags: &[u16],
+    homes: &[u16],
+    used: usize,
+    along: &mut [i64],
+) -> Answer
+    ensures answer { λ r. ⌜ r ≡ passCall (now (table .entry)) start version (lineOf (now (glyphs .entry)) (now (tags .entry)) (now (homes .entry)) used) (now (along .entry)) .answer ⌝ }
+    ensures along { λ _. ⌜ now (along .exit) ≡ addAll (passCall (now (table .entry)) start version (lineOf (now (glyphs .entry)) (now (tags .entry)) (now (homes .entry)) used) (now (along .entry)) .additions) (now (along .entry)) ⌝ }
+{
+    let bytes = parse::from(table, start);
+    let machine = open(bytes, version);
+    kerning_machine::pass(
+        table.len(),
+        parse::from(bytes, BODY),
+        machine,
+        glyphs,
+        tags,
+        homes,
+        used,
+        along,
+    )
+}
+
+// A lone step by the subtable at `start` of a list of this version, on a line of so many places.
+pub fn step(
+    state: KerningState,
+    table: &[u8],
+    start: usize,
+    version: u16,
+    used: usize,
+    index: usize,
+    glyph: u16,
+    along: &mut [i64],
+) -> KerningStep
+    ensures step { λ r. ⌜ r ≡ stepCall (now (table .entry)) start version state used index glyph (now (along .entry)) .step ⌝ }
+    ensures along { λ _. ⌜ now (along .exit) ≡ addAll (stepCall (now (table .entry)) start version state used index glyph (now (along .entry)) .additions) (now (along .entry)) ⌝ }
+{
+    let bytes = parse::from(table, start);
+    let machine = open(bytes, version);
+    state.step(
+        table.len(),
+        parse::from(bytes, BODY),
+        machine,
+        used,
+        index,
+        glyph,
+        along,
+    )
+}

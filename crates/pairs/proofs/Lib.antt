@@ -1,0 +1,4 @@
+-- Laws of kerning pairs.
+mod Laws
+pub mod Passes
+pub mod Manual

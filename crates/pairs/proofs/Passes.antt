@@ -1,0 +1,169 @@
+-- The pair pass's loop: the pairs among the places below i have added theirs.
+use Prim.Native.Nat.{ℕ, zero, suc, _+_, _-_, _*_, _<_, _≤_, _^_}
+use mathlib.Core.Path.{_≡_, refl, sym, _∙_, ap, subst}
+use mathlib.Core.Bool.{Bool, true, false}
+use mathlib.Core.List.{List, _++_}
+use native.Mathlib.Numerals.{add-one}
+use native.Mathlib.Omega.{arith}
+use lib.IntN.{ℤ}
+use lib.ListN.{length, getD, drop, length-append}
+use mir.Syntax.{w16}
+use mir.Val.{SFits, toZ, ofZ}
+use mir.Facts.{toZ-ofZ}
+use Rattle.answers.specs.Limits.{room}
+use Rattle.line.proofs.Room.{room-small}
+use Rattle.laws.proofs.Signed.{signed16-size}
+use Rattle.parse.specs.Reads.{inside, u16At, readI16}
+use Rattle.tables.specs.Records.{pairPlace}
+use Rattle.tables.specs.Search.{searched}
+use Rattle.tables.specs.Lookup.{lookupAt}
+use Rattle.tables.specs.declared.records.Keys.the-variants as Keys′
+use Rattle.tables.specs.declared.records.Spot.{Spot}
+use Rattle.tables.specs.declared.records.Spot.the-variants as Spot′
+use Rattle.tables.specs.declared.lookup.Found.{Found}
+use Rattle.tables.specs.declared.lookup.Found.the-variants as Found′
+use Rattle.kerning.specs.Additions.{Addition, addAt, addAll, Within}
+use Rattle.kerning.proofs.Signs.{size-16}
+use Rattle.kerning.proofs.Adding.{length-addAll, addAll-none, addAll-append, within-addAll, within-more, Small, small-none, small-one, small-append}
+use Rattle.pairs.specs.Pairs.{keyOf, numberAt, numberIn, orderedNumber, onClass, numberInRow, classNumber, numberOf}
+use Rattle.pairs.specs.Reply.{replyOf}
+use Rattle.pairs.specs.declared.PairReply.the-variants as Reply′
+use Rattle.pairs.specs.Pass.{additionOf, everyPlace, lastBelow, pairsBelow, worked}
+use Rattle.pairs.specs.declared.PairTable.{PairTable}
+use Rattle.pairs.specs.declared.PairTable.the-variants.{Ordered, Classes}
+use Rattle.pairs.specs.declared.Opened.{Opened}
+use Rattle.pairs.specs.declared.Opened.the-variants.{Ready, Short}
+use Rattle.pairs.specs.declared.Number.{Number}
+use Rattle.pairs.specs.declared.Number.the-variants.{By, Nothing}
+
+-- a pair's number is one of 16 bits
+abbrev pub Sized : Number → Type 0
+Sized (By z) = SFits w16 z
+Sized (Nothing why) = Unit {0}
+
+sized-at : (bytes : List ℕ) (place : ℕ) → Sized (numberAt bytes place)
+unfolding numberAt readI16
+sized-at bytes place = go (inside bytes place 2) refl
+  where
+    go : (t : Bool) → inside bytes place 2 ≡ t → Sized (numberAt bytes place)
+    go true p = rw (p, numberAt, readI16) (record { sfits = signed16-size (u16At bytes place) })
+    go false p = rw (p, numberAt, readI16) tt
+
+sized-in : (bytes : List ℕ) (first : ℕ) (spot : Spot) → Sized (numberIn bytes first spot)
+unfolding numberIn
+sized-in bytes first (Spot′.At i) = sized-at bytes (pairPlace first i + 4)
+sized-in bytes first Spot′.Absent = tt
+sized-in bytes first Spot′.Cut = tt
+
+sized-class : (found : Found) (then : ℕ → Number) → ((class : ℕ) → Sized (then class)) → Sized (onClass found then)
+sized-class (Found′.At class) then s = s class
+sized-class (Found′.Nothing why) then s = tt
+
+pub sized : (bytes : List ℕ) (pairs : PairTable) (left right : ℕ) → Sized (numberOf bytes pairs left right)
+unfolding numberOf orderedNumber classNumber numberInRow
+sized bytes (Ordered first count) left right = sized-in bytes first (searched bytes first Keys′.Pairs count (keyOf left right))
+sized bytes (Classes rows columns array) left right =
+    sized-class (lookupAt (drop rows bytes) left) _
+    (λ row. sized-class (lookupAt (drop columns bytes) right) _ (λ column. sized-at bytes (array + row + column)))
+
+-- what one pair adds is small, and one number at most
+small-addition : (place : ℕ) (number : Number) → Sized number → Small (additionOf place number)
+small-addition place (By z) s = small-one (size-16 s)
+small-addition place (Nothing why) s = small-none
+
+few-addition : (place : ℕ) (number : Number) → length (additionOf place number) ≤ 1
+few-addition place (By z) = omega arith
+few-addition place (Nothing why) = omega arith
+
+-- what the code adds
+pub added-by : (bytes : List ℕ) (pairs : PairTable) (left right place : ℕ) (along : List ℤ) {number : Number} {z : ℤ} {after : List ℤ}
+    → number ≡ numberOf bytes pairs left right → number ≡ By z → after ≡ addAt place (toZ w16 (ofZ w16 z)) along
+    → after ≡ addAll (additionOf place (numberOf bytes pairs left right)) along
+unfolding addAll
+added-by bytes pairs left right place along {number} {z} {after} e f g =
+    let h : numberOf bytes pairs left right ≡ By z = sym e ∙ f in
+    let fits : SFits w16 z = subst Sized h (sized bytes pairs left right) in
+    rw h (g ∙ ap (λ (x : ℤ). addAt place x along) (toZ-ofZ fits))
+
+module _ (number : (left right : ℕ) → Number) (glyphs : List ℕ) (all : (left right : ℕ) → Sized (number left right)) where
+  abbrev below : ℕ → List Addition
+  below = pairsBelow everyPlace number glyphs
+
+  below-next : (j : ℕ) → below (suc (suc j)) ≡ below (suc j) ++ additionOf j (number (getD glyphs j 0) (getD glyphs (suc j) 0))
+  unfolding pairsBelow lastBelow
+  below-next j = refl
+
+  -- what the loop knows at place i
+  pub record Pairing (used b : ℕ) (along₀ along : List ℤ) (i : ℕ) : Type 0 where
+    pub begun : 1 ≤ i
+    pub within : i ≤ used + (1 - used)
+    pub same : along ≡ addAll (below i) along₀
+    pub long : length along ≡ length along₀
+    pub small : Within (b + i * 32768) along
+
+  pub pairing-start : (used b : ℕ) (along : List ℤ) → Within b along → Pairing used b along along 1
+  unfolding pairsBelow lastBelow addAll
+  pairing-start used b along w =
+      record { begun = omega arith; within = omega arith; same = refl; long = refl; small = within-more (omega arith) w }
+
+  pub pairing-next : {used b : ℕ} {along₀ along after : List ℤ} {i : ℕ} → Pairing used b along₀ along i → i < used
+      → after ≡ addAll (additionOf (i - 1) (number (getD glyphs (i - 1) 0) (getD glyphs i 0))) along → Pairing used b along₀ after (i + 1)
+  pairing-next {used} {b} {along₀} {along} {after} {i} p h e =
+      let j : ℕ = i - 1 in
+      let s : i ≡ suc j = omega (arith, p .begun) in
+      let n : Number = number (getD glyphs j 0) (getD glyphs i 0) in
+      let z : Sized n = all (getD glyphs j 0) (getD glyphs i 0) in
+      let r : below (i + 1) ≡ below i ++ additionOf j n =
+      subst (λ (k : ℕ). below (k + 1) ≡ below k ++ additionOf j (number (getD glyphs j 0) (getD glyphs k 0))) (sym s)
+      (ap below (add-one (suc j)) ∙ below-next j) in
+      record {
+        begun = omega arith;
+        within = omega arith;
+        same = e ∙ ap (addAll (additionOf j n)) (p .same) ∙ sym (addAll-append (below i) (additionOf j n) along₀) ∙ ap (λ (x : List Addition). addAll x along₀) (sym r);
+        long = ap length e ∙ length-addAll (additionOf j n) along ∙ p .long;
+        small =
+            subst (Within (b + (i + 1) * 32768)) (sym e)
+            (within-more (omega (arith, few-addition j n)) (within-addAll along (small-addition j n z) (p .small)));
+      }
+
+  pub pairing-done : {used b : ℕ} {along₀ along : List ℤ} {i : ℕ} → Pairing used b along₀ along i → used ≤ i → along ≡ addAll (below used) along₀
+  unfolding pairsBelow lastBelow
+  pairing-done {used} {b} {along₀} {along} {i} p h = go used i (p .begun) (p .within) h (p .same)
+    where
+      go : (u i : ℕ) → 1 ≤ i → i ≤ u + (1 - u) → u ≤ i → along ≡ addAll (below i) along₀ → along ≡ addAll (below u) along₀
+      go zero i a w k e = let one : i ≡ 1 = omega arith in rw one at e
+      go (suc u) i a w k e = let one : i ≡ suc u = omega arith in rw one at e
+
+  small-below : (n : ℕ) → Small (below n)
+  unfolding pairsBelow lastBelow
+  small-below zero = small-none
+  small-below (suc zero) = small-none
+  small-below (suc (suc n)) =
+      small-append (small-below (suc n)) (small-addition n (number (getD glyphs n 0) (getD glyphs (suc n) 0)) (all (getD glyphs n 0) (getD glyphs (suc n) 0)))
+
+  -- a pair pass adds at most 32,768 for each place
+  few-below : (n : ℕ) → length (below n) ≤ n
+  unfolding pairsBelow lastBelow
+  few-below zero = omega arith
+  few-below (suc zero) = omega arith
+  few-below (suc (suc n)) =
+      let one : List Addition = additionOf n (number (getD glyphs n 0) (getD glyphs (suc n) 0)) in
+      omega (arith, length-append (below (suc n)) one, few-below (suc n), few-addition n (number (getD glyphs n 0) (getD glyphs (suc n) 0)))
+
+pub worked-within : (bytes : List ℕ) (opened : Opened) (glyphs : List ℕ) (used : ℕ) {b : ℕ} (along : List ℤ) → used ≤ room → Within b along
+    → Within (b + 2 ^ 39) (addAll (worked bytes opened glyphs used .additions) along)
+unfolding worked
+worked-within bytes (Ready pairs) glyphs used along h w =
+    let all : (left right : ℕ) → Sized (numberOf bytes pairs left right) = sized bytes pairs in
+    within-more (omega (arith, few-below (numberOf bytes pairs) glyphs all used, room-small))
+    (within-addAll along (small-below (numberOf bytes pairs) glyphs all used) w)
+worked-within bytes Short glyphs used along h w = within-more (omega arith) (subst (Within _) (sym (addAll-none along)) w)
+
+-- the number of a reply
+pub reply-number : (bytes : List ℕ) (pairs : PairTable) (left right : ℕ) {opened : Opened} {number : Number} {z : ℤ} → opened ≡ Ready pairs
+    → number ≡ numberOf bytes pairs left right → number ≡ By z → Reply′.Number (toZ w16 (ofZ w16 z)) ≡ replyOf bytes opened left right
+unfolding replyOf
+reply-number bytes pairs left right {opened} {number} {z} o e f =
+    let h : numberOf bytes pairs left right ≡ By z = sym e ∙ f in
+    let fits : SFits w16 z = subst Sized h (sized bytes pairs left right) in
+    rw (o, replyOf, h) (ap Reply′.Number (toZ-ofZ fits))

@@ -1,0 +1,5 @@
+-- Kerning pairs.
+pub mod Pairs
+pub mod Reply
+pub mod Pass
+pub mod Manual

@@ -1,0 +1,50 @@
+-- Apple's manual on kerning pairs: which pair is that of two glyphs, and what its value is. The manual was not at hand: docs/DIFFERENCES.md says
+-- what these lines rest on.
+use Prim.Native.Nat.{ℕ, suc, _+_, _<_, _≤_}
+use mathlib.Core.Path.{_≡_}
+use mathlib.Core.List.{List}
+use lib.IntN.{ℤ}
+use lib.ListN.{length, drop}
+use Rattle.laws.specs.Choose.{ifEq}
+use Rattle.laws.specs.Signed.{signed16}
+use Rattle.parse.specs.Reads.{u16At, u32At}
+use Rattle.tables.specs.Records.{pairPlace}
+use Rattle.tables.specs.ManualLookup.{Layout, Lies}
+use Rattle.pairs.specs.Pairs.{keyOf, orderedNumber}
+use Rattle.pairs.specs.declared.Number.the-variants.{By}
+
+-- the two glyphs of pair i as one number of 32 bits, by which the pairs are sorted
+abbrev pub pairKey : List ℕ → (first i : ℕ) → ℕ
+pairKey bytes first i = u32At bytes (pairPlace first i)
+
+-- pair i of so many is that of two glyphs
+pub record IsPair (bytes : List ℕ) (first count left right i : ℕ) : Type 0 where
+  pub counted : i < count
+  pub glyphs : pairKey bytes first i ≡ keyOf left right
+
+-- its value: without tuples the number behind its glyphs; with tuples that is where the number stands, from the subtable's start on
+abbrev pub pairValue : List ℕ → (tuples first i : ℕ) → ℤ
+pairValue bytes tuples first i =
+    ifEq tuples 0 (signed16 (u16At bytes (pairPlace first i + 4))) (signed16 (u16At bytes (u16At bytes (pairPlace first i + 4))))
+
+-- so many pairs lie in the table, in rising order
+pub record Rising (bytes : List ℕ) (first count : ℕ) : Type 0 where
+  pub whole : (i : ℕ) → i < count → pairPlace first i + 6 ≤ length bytes
+  pub upward : (i : ℕ) → suc i < count → pairKey bytes first i < pairKey bytes first (suc i)
+
+-- the crate finds just the manual's value
+pub record AsManual (bytes : List ℕ) (tuples first count left right : ℕ) : Type 0 where
+  pub found : (value : ℤ) → orderedNumber bytes first count left right ≡ By value
+      → (i : ℕ) × IsPair bytes first count left right i × (value ≡ pairValue bytes tuples first i)
+  pub there : (i : ℕ) → IsPair bytes first count left right i → orderedNumber bytes first count left right ≡ By (pairValue bytes tuples first i)
+
+-- class pairs: row and column are the values of the two lookup tables, already multiplied, and the number stands that many bytes into the array
+pub record ClassPair (bytes : List ℕ) (glyphs rows columns array left right : ℕ) (leftLayout rightLayout : Layout) (place : ℕ) : Type 0 where
+  pub row : ℕ
+  pub rowLies : Lies (drop rows bytes) glyphs left leftLayout row
+  pub rowInside : row + 2 ≤ length (drop rows bytes)
+  pub column : ℕ
+  pub columnLies : Lies (drop columns bytes) glyphs right rightLayout column
+  pub columnInside : column + 2 ≤ length (drop columns bytes)
+  pub sum : place ≡ array + u16At (drop rows bytes) row + u16At (drop columns bytes) column
+  pub inside : place + 2 ≤ length bytes

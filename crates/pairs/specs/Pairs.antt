@@ -1,0 +1,78 @@
+-- Kerning pairs as the crate reads them, over the bytes from the subtable's own start on.
+use Prim.Native.Nat.{ℕ, _+_, _*_}
+use mathlib.Core.List.{List}
+use lib.ListN.{drop}
+use Rattle.parse.specs.Reads.{readU16, readI16, readU32}
+use Rattle.parse.specs.Use.{onU16, onU32}
+use Rattle.parse.specs.declared.ReadI16.{ReadI16}
+use Rattle.parse.specs.declared.ReadI16.the-variants as I16
+use Rattle.tables.specs.Records.{pairPlace}
+use Rattle.tables.specs.Search.{searched}
+use Rattle.tables.specs.Lookup.{lookupAt}
+use Rattle.tables.specs.declared.records.Keys.the-variants as Keys′
+use Rattle.tables.specs.declared.records.Spot.{Spot}
+use Rattle.tables.specs.declared.records.Spot.the-variants as Spot′
+use Rattle.tables.specs.declared.lookup.Why.the-variants.{NotCovered, CutShort}
+use Rattle.tables.specs.declared.lookup.Found.{Found}
+use Rattle.tables.specs.declared.lookup.Found.the-variants as Found′
+use Rattle.pairs.specs.declared.PairTable.{PairTable}
+use Rattle.pairs.specs.declared.PairTable.the-variants.{Ordered, Classes}
+use Rattle.pairs.specs.declared.Opened.{Opened}
+use Rattle.pairs.specs.declared.Opened.the-variants.{Ready, Short}
+use Rattle.pairs.specs.declared.Number.{Number}
+use Rattle.pairs.specs.declared.Number.the-variants.{By, Nothing}
+
+-- kern format 0: a 16-bit count at the head's end, the pairs 8 bytes behind it
+unfoldable pub orderedKern : List ℕ → (head : ℕ) → Opened
+orderedKern bytes head = onU16 (readU16 bytes head) (λ count. Ready (Ordered (head + 8) count)) Short
+
+-- kerx format 0: a 32-bit count at 12, the pairs at 28
+unfoldable pub orderedKerx : List ℕ → Opened
+orderedKerx bytes = onU32 (readU32 bytes 12) (λ count. Ready (Ordered 28 count)) Short
+
+-- kerx format 2: the left glyphs' rows, the right ones' columns and the array begin where 16, 20 and 24 say
+unfoldable pub classesKerx : List ℕ → Opened
+classesKerx bytes =
+    onU32 (readU32 bytes 16)
+    (λ rows. onU32 (readU32 bytes 20) (λ columns. onU32 (readU32 bytes 24) (λ array. Ready (Classes rows columns array)) Short) Short)
+    Short
+
+-- the number at a place
+abbrev pub numberRead : ReadI16 → Number
+numberRead (I16.Got number) = By number
+numberRead I16.Short = Nothing CutShort
+
+unfoldable pub numberAt : List ℕ → ℕ → Number
+numberAt bytes place = numberRead (readI16 bytes place)
+
+-- both glyphs as one key, the left one before the right
+abbrev pub keyOf : ℕ → ℕ → ℕ
+keyOf left right = left * 65536 + right
+
+-- the number of the pair that the search finds stands behind its glyphs
+unfoldable pub numberIn : List ℕ → (first : ℕ) → Spot → Number
+numberIn bytes first (Spot′.At i) = numberAt bytes (pairPlace first i + 4)
+numberIn bytes first Spot′.Absent = Nothing NotCovered
+numberIn bytes first Spot′.Cut = Nothing CutShort
+
+unfoldable pub orderedNumber : List ℕ → (first count left right : ℕ) → Number
+orderedNumber bytes first count left right = numberIn bytes first (searched bytes first Keys′.Pairs count (keyOf left right))
+
+-- what is made of a class, or nothing where the glyph has none
+abbrev pub onClass : Found → (ℕ → Number) → Number
+onClass (Found′.At class) use-it = use-it class
+onClass (Found′.Nothing why) use-it = Nothing why
+
+-- in the array's row that begins at a place; the right glyph's class is the column, in bytes
+unfoldable pub numberInRow : List ℕ → (columns row right : ℕ) → Number
+numberInRow bytes columns row right = onClass (lookupAt (drop columns bytes) right) (λ column. numberAt bytes (row + column))
+
+-- the left glyph's class is the row, in bytes from the array on
+unfoldable pub classNumber : List ℕ → (rows columns array left right : ℕ) → Number
+classNumber bytes rows columns array left right =
+    onClass (lookupAt (drop rows bytes) left) (λ row. numberInRow bytes columns (array + row) right)
+
+-- the number of a pair of glyphs
+unfoldable pub numberOf : List ℕ → PairTable → (left right : ℕ) → Number
+numberOf bytes (Ordered first count) left right = orderedNumber bytes first count left right
+numberOf bytes (Classes rows columns array) left right = classNumber bytes rows columns array left right

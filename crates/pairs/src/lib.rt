@@ -1,0 +1,204 @@
+// Kerning pairs, for kern and kerx alike: ordered pairs (format 0 of both) and class pairs (kerx format 2).
+use answers::Answer;
+use answers::Refusal;
+use tables::lookup;
+use tables::lookup::Found;
+use tables::lookup::Why;
+use tables::records;
+use tables::records::Keys;
+use tables::records::Spot;
+ghost use mathlib.Core.Path.{_≡_};
+ghost use Prim.Native.Nat.{_<_, _≤_, _^_};
+ghost use lib.ListN.{length};
+ghost use Rattle.answers.specs.Limits.{room};
+ghost use Rattle.kerning.specs.Additions.{addAll, Within};
+ghost use Rattle.pairs.specs.Reply.{replyOf};
+ghost use Rattle.pairs.specs.Pass.{additionOf, everyPlace, pairsBelow, worked};
+ghost use Rattle.pairs.specs.Pairs.{keyOf, orderedKern, orderedKerx, classesKerx, numberAt, orderedNumber, numberInRow, classNumber, numberOf};
+
+// Where a subtable's pairs lie, from its own start on: as many ordered pairs as counted, or the left glyphs' rows, the right
+// ones' columns, and the array.
+pub enum PairTable {
+    Ordered { first: u16, count: u32 },
+    Classes { rows: u32, columns: u32, array: u32 },
+}
+
+// What opening a subtable's pairs gives.
+pub enum Opened {
+    Ready(PairTable),
+    Short,
+}
+
+// What a pair of glyphs adds, or why it adds nothing.
+pub enum Number {
+    By(i16),
+    Nothing(Why),
+}
+
+// The answer for a pair of glyphs.
+pub enum PairReply {
+    Number(i16),
+    Nothing,
+    Refused(Refusal),
+}
+
+// kern format 0: the count stands right behind the head, the pairs 8 bytes further on.
+pub fn ordered_kern(bytes: &[u8], head: u16) -> Opened
+    requires { ⌜ head < 65528 ⌝ }
+    ensures { λ r. ⌜ r ≡ orderedKern (now (bytes .entry)) head ⌝ }
+{
+    let parse::ReadU16::Got(count) = parse::read_u16(bytes, head as usize) else {
+        return Opened::Short;
+    };
+    Opened::Ready(PairTable::Ordered {
+        first: head + 8,
+        count: count as u32,
+    })
+}
+
+// kerx format 0.
+pub fn ordered_kerx(bytes: &[u8]) -> Opened
+    ensures { λ r. ⌜ r ≡ orderedKerx (now (bytes .entry)) ⌝ }
+{
+    let parse::ReadU32::Got(count) = parse::read_u32(bytes, 12) else {
+        return Opened::Short;
+    };
+    Opened::Ready(PairTable::Ordered { first: 28, count })
+}
+
+// kerx format 2.
+pub fn classes_kerx(bytes: &[u8]) -> Opened
+    ensures { λ r. ⌜ r ≡ classesKerx (now (bytes .entry)) ⌝ }
+{
+    let parse::ReadU32::Got(rows) = parse::read_u32(bytes, 16) else {
+        return Opened::Short;
+    };
+    let parse::ReadU32::Got(columns) = parse::read_u32(bytes, 20) else {
+        return Opened::Short;
+    };
+    let parse::ReadU32::Got(array) = parse::read_u32(bytes, 24) else {
+        return Opened::Short;
+    };
+    Opened::Ready(PairTable::Classes {
+        rows,
+        columns,
+        array,
+    })
+}
+
+// The number at a place.
+fn number_at(bytes: &[u8], place: usize) -> Number
+    ensures { λ r. ⌜ r ≡ numberAt (now (bytes .entry)) place ⌝ }
+{
+    let parse::ReadI16::Got(number) = parse::read_i16(bytes, place) else {
+        return Number::Nothing(Why::CutShort);
+    };
+    Number::By(number)
+}
+
+// Both glyphs as one key.
+fn key_of(left: u16, right: u16) -> u32
+    ensures { λ r. ⌜ r ≡ keyOf left right ⌝ }
+{
+    left as u32 * 65536 + right as u32
+}
+
+// The number of a pair among ordered pairs.
+fn ordered_number(bytes: &[u8], first: u16, count: u32, left: u16, right: u16) -> Number
+    ensures { λ r. ⌜ r ≡ orderedNumber (now (bytes .entry)) first count left right ⌝ }
+{
+    let spot = records::search(bytes, first, Keys::Pairs, count, key_of(left, right));
+    match spot {
+        Spot::At(index) => number_at(bytes, records::pair_place(first, index) + 4),
+        Spot::Absent => Number::Nothing(Why::NotCovered),
+        Spot::Cut => Number::Nothing(Why::CutShort),
+    }
+}
+
+// The number in a row of the array, by the right glyph's class; rows and columns are told in bytes.
+fn number_in_row(bytes: &[u8], columns: u32, row: usize, right: u16) -> Number
+    requires { ⌜ row < 2 ^ 33 ⌝ }
+    ensures { λ r. ⌜ r ≡ numberInRow (now (bytes .entry)) columns row right ⌝ }
+{
+    let found = lookup::lookup_at(parse::from(bytes, columns as usize), right);
+    match found {
+        Found::At(column) => number_at(bytes, row + column as usize),
+        Found::Nothing(why) => Number::Nothing(why),
+    }
+}
+
+// The number of a pair by its classes: the left glyph's gives the row, the right one's the column.
+fn class_number(bytes: &[u8], rows: u32, columns: u32, array: u32, left: u16, right: u16) -> Number
+    ensures { λ r. ⌜ r ≡ classNumber (now (bytes .entry)) rows columns array left right ⌝ }
+{
+    let found = lookup::lookup_at(parse::from(bytes, rows as usize), left);
+    match found {
+        Found::At(row) => number_in_row(bytes, columns, array as usize + row as usize, right),
+        Found::Nothing(why) => Number::Nothing(why),
+    }
+}
+
+// The number of a pair of glyphs.
+pub fn number_of(bytes: &[u8], pairs: PairTable, left: u16, right: u16) -> Number
+    ensures { λ r. ⌜ r ≡ numberOf (now (bytes .entry)) pairs left right ⌝ }
+{
+    match pairs {
+        PairTable::Ordered { first, count } => ordered_number(bytes, first, count, left, right),
+        PairTable::Classes {
+            rows,
+            columns,
+            array,
+        } => class_number(bytes, rows, columns, array, left, right),
+    }
+}
+
+// The answer for a pair by the subtable that begins with `bytes`, of which `opened` is what opening its pairs gives.
+pub fn reply(bytes: &[u8], opened: Opened, left: u16, right: u16) -> PairReply
+    ensures { λ r. ⌜ r ≡ replyOf (now (bytes .entry)) opened left right ⌝ }
+{
+    let Opened::Ready(pairs) = opened else {
+        return PairReply::Refused(Refusal::Head);
+    };
+    let Number::By(number) = number_of(bytes, pairs, left, right) else {
+        return PairReply::Nothing;
+    };
+    PairReply::Number(number)
+}
+
+// The number of a pair is added to the place of its left glyph.
+fn add_pair(bytes: &[u8], pairs: PairTable, left: u16, right: u16, place: usize, along: &mut [i64])
+    requires { ⌜ (place < length (now along)) × Within (2 ^ 62) (now along) ⌝ }
+    ensures { λ _. ⌜ now (along .exit) ≡ addAll (additionOf place (numberOf (now (bytes .entry)) pairs left right)) (now (along .entry)) ⌝ }
+{
+    let Number::By(number) = number_of(bytes, pairs, left, right) else {
+        return;
+    };
+    kerning::add(along, place, number);
+}
+
+// Neighbours, from the first two on.
+fn add_pairs(bytes: &[u8], pairs: PairTable, glyphs: &[u16], used: usize, along: &mut [i64])
+    requires { ⌜ (used ≤ length (now glyphs)) × (used ≤ length (now along)) × (used ≤ room) × Within (2 ^ 60) (now along) ⌝ }
+    ensures { λ _. ⌜ now (along .exit) ≡ addAll (pairsBelow everyPlace (numberOf (now (bytes .entry)) pairs) (now (glyphs .entry)) used) (now (along .entry)) ⌝ }
+{
+    let mut place = 1;
+    while place < used {
+        let left = glyphs[place - 1];
+        let right = glyphs[place];
+        add_pair(bytes, pairs, left, right, place - 1, along);
+        place += 1;
+    }
+}
+
+// The pair pass by the subtable that begins with `bytes`, of which `opened` is what opening its pairs gives.
+pub fn work(bytes: &[u8], opened: Opened, glyphs: &[u16], used: usize, along: &mut [i64]) -> Answer
+    requires { ⌜ (used ≤ length (now glyphs)) × (used ≤ length (now along)) × (used ≤ room) × Within (2 ^ 60) (now along) ⌝ }
+    ensures answer { λ r. ⌜ r ≡ worked (now (bytes .entry)) opened (now (glyphs .entry)) used .answer ⌝ }
+    ensures along { λ _. ⌜ now (along .exit) ≡ addAll (worked (now (bytes .entry)) opened (now (glyphs .entry)) used .additions) (now (along .entry)) ⌝ }
+{
+    let Opened::Ready(pairs) = opened else {
+        return Answer::Refused(Refusal::Head);
+    };
+    add_pairs(bytes, pairs, glyphs, used, along);
+    Answer::Done
+}
