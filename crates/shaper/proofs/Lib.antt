@@ -1,0 +1,3 @@
+-- Laws of the shaper.
+pub mod Shaping
+pub mod Honesty

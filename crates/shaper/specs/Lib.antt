@@ -1,0 +1,2 @@
+-- The shaper.
+pub mod Shaper
