@@ -10,6 +10,7 @@ typedef __UINT8_TYPE__ uint8_t;
 typedef __UINT16_TYPE__ uint16_t;
 typedef __UINT32_TYPE__ uint32_t;
 typedef __UINT64_TYPE__ uint64_t;
+typedef __INT64_TYPE__ int64_t;
 typedef __SIZE_TYPE__ size_t;
 
 enum aat_answer {
@@ -96,6 +97,30 @@ uint32_t aat_morx_pass(const uint8_t *table, size_t table_len, size_t start, uin
 uint32_t aat_morx_run(const uint8_t *table, size_t table_len, size_t start, uint32_t right_to_left, uint16_t *glyphs,
                       size_t glyphs_len, uint16_t *tags, size_t tags_len, uint16_t *homes, size_t homes_len, size_t *used,
                       uint32_t *heads);
+
+/* Kerning leaves the line as it is and adds to the adjustments, along, one for each place of the room. */
+
+/* Adds what the kern subtable, its head included, that begins at start says of the line; version is its list's. AAT_LINE is
+   for an adjustment beyond 2^40 in size, too, and AAT_HEAD for the formats that are left out. */
+uint32_t aat_kern_pass(const uint8_t *table, size_t table_len, size_t start, uint16_t version, const uint16_t *glyphs,
+                       size_t glyphs_len, const uint16_t *tags, size_t tags_len, const uint16_t *homes, size_t homes_len,
+                       size_t used, int64_t *along, size_t along_len);
+
+/* The same by the kerx subtable that begins at start. */
+uint32_t aat_kerx_pass(const uint8_t *table, size_t table_len, size_t start, uint16_t version, const uint16_t *glyphs,
+                       size_t glyphs_len, const uint16_t *tags, size_t tags_len, const uint16_t *homes, size_t homes_len,
+                       size_t used, int64_t *along, size_t along_len);
+
+/* Runs the whole kern table that begins at start over the line; start 0 is no table. The adjustments of the line are set to 0
+   first; heads is left to say how many heads of subtables were read. */
+uint32_t aat_kern_run(const uint8_t *table, size_t table_len, size_t start, const uint16_t *glyphs, size_t glyphs_len,
+                      const uint16_t *tags, size_t tags_len, const uint16_t *homes, size_t homes_len, size_t used,
+                      int64_t *along, size_t along_len, uint32_t *heads);
+
+/* The same by the kerx table, from right to left where right_to_left is not 0. Glyphs and tags are turned and turned back. */
+uint32_t aat_kerx_run(const uint8_t *table, size_t table_len, size_t start, uint32_t right_to_left, uint16_t *glyphs,
+                      size_t glyphs_len, uint16_t *tags, size_t tags_len, const uint16_t *homes, size_t homes_len, size_t used,
+                      int64_t *along, size_t along_len, uint32_t *heads);
 
 /* A step of a machine is what its pass does at one place: index and glyph are those of the place, and ends is not 0 at end of
    text, where a pass gives the length and glyph 0xFFFF. The state, its numbers in the order named, is 0 each at the start of a

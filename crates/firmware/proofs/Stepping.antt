@@ -1,6 +1,7 @@
 -- What an exported step leaves: its numbers, or those that were lent where it was refused. For any machine's step.
 use Prim.Native.Nat.{ℕ}
-use mathlib.Core.Path.{_≡_, refl, sym, _∙_, ap, subst}
+use mathlib.Core.Path.{_≡_, refl, sym, _∙_, ap, ap₂, subst}
+use Rattle.kerning_lists.specs.declared.Run.{Run}
 use mathlib.Core.Bool.{Bool, true, false}
 use mathlib.Core.List.{List}
 use lib.ListN.{set}
@@ -94,3 +95,7 @@ pub put-both : (was : List ℕ) (s : LigatureState) {between after : List ℕ} �
     → after ≡ paste between 34 (s .glyphs) 32 → after ≡ ligatureSlots was s
 unfolding ligatureSlots
 put-both was s e f = f ∙ ap (λ (x : List ℕ). paste x 34 (s .glyphs) 32) e
+
+-- what a kerning run answers, as one
+pub run-is : {run : Run} {answer : Answer} {heads : ℕ} → run .answer ≡ answer → run .heads ≡ heads → run ≡ record { answer = answer; heads = heads }
+run-is a h = ap₂ (λ (answer : Answer) (heads : ℕ). record { answer = answer; heads = heads }) a h

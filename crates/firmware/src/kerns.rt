@@ -1,0 +1,106 @@
+// The exported passes and runs of kern and kerx.
+ghost use mathlib.Core.Path.{_≡_};
+ghost use Rattle.answers.specs.Numbers.{numberOf};
+ghost use Rattle.line.specs.Line.{lineOf};
+ghost use Rattle.kerning.specs.Additions.{addAll};
+ghost use Rattle.kern.specs.Kern as Kern;
+ghost use Rattle.kerx.specs.Kerx as Kerx;
+ghost use Rattle.firmware.specs.Steps.{isFlag, unlessRefused};
+
+// The pass over a line, by the kern subtable at `start`.
+#[no_mangle]
+pub extern "C" fn aat_kern_pass(
+    table: &[u8],
+    start: usize,
+    version: u16,
+    glyphs: &[u16],
+    tags: &[u16],
+    homes: &[u16],
+    used: usize,
+    along: &mut [i64],
+) -> u32
+    ensures answer { λ r. ⌜ r ≡ numberOf (Kern.passCall (now (table .entry)) start version (lineOf (now (glyphs .entry)) (now (tags .entry)) (now (homes .entry)) used) (now (along .entry)) .answer) ⌝ }
+    ensures along { λ _. ⌜ now (along .exit) ≡ addAll (Kern.passCall (now (table .entry)) start version (lineOf (now (glyphs .entry)) (now (tags .entry)) (now (homes .entry)) used) (now (along .entry)) .additions) (now (along .entry)) ⌝ }
+{
+    answers::number(kern::pass(table, start, version, glyphs, tags, homes, used, along))
+}
+
+// The pass over a line, by the kerx subtable at `start`.
+#[no_mangle]
+pub extern "C" fn aat_kerx_pass(
+    table: &[u8],
+    start: usize,
+    version: u16,
+    glyphs: &[u16],
+    tags: &[u16],
+    homes: &[u16],
+    used: usize,
+    along: &mut [i64],
+) -> u32
+    ensures answer { λ r. ⌜ r ≡ numberOf (Kerx.passCall (now (table .entry)) start version (lineOf (now (glyphs .entry)) (now (tags .entry)) (now (homes .entry)) used) (now (along .entry)) .answer) ⌝ }
+    ensures along { λ _. ⌜ now (along .exit) ≡ addAll (Kerx.passCall (now (table .entry)) start version (lineOf (now (glyphs .entry)) (now (tags .entry)) (now (homes .entry)) used) (now (along .entry)) .additions) (now (along .entry)) ⌝ }
+{
+    answers::number(kerx::pass(table, start, version, glyphs, tags, homes, used, along))
+}
+
+// The run over a line, by the kern table at `start`.
+#[no_mangle]
+pub extern "C" fn aat_kern_run(
+    table: &[u8],
+    start: usize,
+    glyphs: &[u16],
+    tags: &[u16],
+    homes: &[u16],
+    used: usize,
+    along: &mut [i64],
+    heads: &mut u32,
+) -> u32
+    ensures answer { λ r. ⌜ r ≡ numberOf (Kern.runCall (now (table .entry)) start (lineOf (now (glyphs .entry)) (now (tags .entry)) (now (homes .entry)) used) (now (along .entry)) .answer) ⌝ }
+    ensures along { λ _. ⌜ now (along .exit) ≡ Kern.runCall (now (table .entry)) start (lineOf (now (glyphs .entry)) (now (tags .entry)) (now (homes .entry)) used) (now (along .entry)) .along ⌝ }
+    ensures heads { λ _. ⌜ now (heads .exit) ≡ unlessRefused (Kern.runCall (now (table .entry)) start (lineOf (now (glyphs .entry)) (now (tags .entry)) (now (homes .entry)) used) (now (along .entry)) .answer) (now (heads .entry)) (Kern.runCall (now (table .entry)) start (lineOf (now (glyphs .entry)) (now (tags .entry)) (now (homes .entry)) used) (now (along .entry)) .heads) ⌝ }
+{
+    let run = kern::run(table, start, glyphs, tags, homes, used, along);
+    let answer = run.answer;
+    if crate::steps::is_refused(answer) {
+        return answers::number(answer);
+    }
+    *heads = run.heads;
+    answers::number(answer)
+}
+
+// The run over a line, by the kerx table at `start`.
+#[no_mangle]
+pub extern "C" fn aat_kerx_run(
+    table: &[u8],
+    start: usize,
+    right_to_left: u32,
+    glyphs: &mut [u16],
+    tags: &mut [u16],
+    homes: &[u16],
+    used: usize,
+    along: &mut [i64],
+    heads: &mut u32,
+) -> u32
+    ensures answer { λ r. ⌜ r ≡ numberOf (Kerx.runCall (now (table .entry)) start (isFlag «right_to_left») (lineOf (now (glyphs .entry)) (now (tags .entry)) (now (homes .entry)) used) (now (along .entry)) .answer) ⌝ }
+    ensures glyphs { λ _. ⌜ now (glyphs .exit) ≡ now (glyphs .entry) ⌝ }
+    ensures tags { λ _. ⌜ now (tags .exit) ≡ now (tags .entry) ⌝ }
+    ensures along { λ _. ⌜ now (along .exit) ≡ Kerx.runCall (now (table .entry)) start (isFlag «right_to_left») (lineOf (now (glyphs .entry)) (now (tags .entry)) (now (homes .entry)) used) (now (along .entry)) .along ⌝ }
+    ensures heads { λ _. ⌜ now (heads .exit) ≡ unlessRefused (Kerx.runCall (now (table .entry)) start (isFlag «right_to_left») (lineOf (now (glyphs .entry)) (now (tags .entry)) (now (homes .entry)) used) (now (along .entry)) .answer) (now (heads .entry)) (Kerx.runCall (now (table .entry)) start (isFlag «right_to_left») (lineOf (now (glyphs .entry)) (now (tags .entry)) (now (homes .entry)) used) (now (along .entry)) .heads) ⌝ }
+{
+    let run = kerx::run(
+        table,
+        start,
+        right_to_left != 0,
+        glyphs,
+        tags,
+        homes,
+        used,
+        along,
+    );
+    let answer = run.answer;
+    if crate::steps::is_refused(answer) {
+        return answers::number(answer);
+    }
+    *heads = run.heads;
+    answers::number(answer)
+}
