@@ -62,7 +62,7 @@ is_stale() { # FILE SOURCE..
 
 # Copies the crate with the fields of the states, and of what a step hands over, made public.
 open_crate() {
-    local opened='RearrangementState|ContextualState|LigatureState|InsertionState|Rearrange|Array' file
+    local opened='RearrangementState|ContextualState|LigatureState|InsertionState|Format1State|Rearrange|Array' file
     for file in aat.rs parse.rs; do
         sed -E "/^ *pub struct ($opened)\\b/,/\}/ s/^( *)([a-z_]+:)/\\1pub \\2/" "$top/docs/src/$file" >"$built/$file"
     done

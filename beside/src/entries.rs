@@ -21,10 +21,18 @@ pub enum Entry {
     ContextualStep,
     LigatureStep,
     InsertionStep,
+    KernPair,
+    KerxPair,
+    KernPass,
+    KerxPass,
+    KernRun,
+    KerxRun,
+    KernStep,
+    KerxStep,
 }
 
 /// The names, in the order of the numbers.
-const NAMES: [&str; 18] = [
+const NAMES: [&str; 26] = [
     "aat_lookup",
     "aat_survey",
     "aat_class_extended",
@@ -43,6 +51,14 @@ const NAMES: [&str; 18] = [
     "aat_contextual_step",
     "aat_ligature_step",
     "aat_insertion_step",
+    "aat_kern_pair",
+    "aat_kerx_pair",
+    "aat_kern_pass",
+    "aat_kerx_pass",
+    "aat_kern_run",
+    "aat_kerx_run",
+    "aat_kern_step",
+    "aat_kerx_step",
 ];
 
 impl Entry {

@@ -5,8 +5,18 @@ mod compare;
 mod contextual_pass;
 mod entries;
 mod insertion_pass;
+mod kerning;
+mod kerning_by_copy;
+mod kerning_examples;
+mod kerning_pairs;
+mod kerning_passes;
+mod kerning_run;
+mod kerning_runs;
+mod kerning_steps;
+mod kerning_tables;
 mod language;
 mod language_tables;
+mod lent_along;
 mod lent_line;
 mod ligature_pass;
 mod limit;
@@ -41,6 +51,7 @@ mod value;
 mod verbs;
 
 use compare::{Ask, Comparison, Count};
+use kerning::Kerning;
 use limit::Limited;
 use pipe::TheBox;
 use progress::Progress;
@@ -82,6 +93,12 @@ fn ask_all(asked: &mut dyn Ask, cases: u64, seed: u64, seconds: u64) -> u64 {
         steps::ask_all(asked.part(), machine, random, cases / 5);
     }
     runs::ask_all(asked.part(), random, cases / 5);
+    for kerning in [Kerning::Kern, Kerning::Kerx] {
+        kerning_pairs::ask_all(asked.part(), kerning, random, cases / 5);
+        kerning_passes::ask_all(asked.part(), kerning, random, cases / 5);
+        kerning_steps::ask_all(asked.part(), kerning, random, cases / 5);
+        kerning_runs::ask_all(asked.part(), kerning, random, cases / 5);
+    }
     asked.left_out
 }
 
@@ -108,7 +125,11 @@ fn compare(traces: bool, cases: u64, seed: u64, seconds: u64, command: &[String]
         println!("the crate panicked in {} cases", totals.panics);
     }
     let (checks, actions) = (oracle::check_range_as_none(), oracle::last_action_as_none());
-    println!("panics taken for None: {} in check_range, {} at action 65,535", checks, actions);
+    let classes = oracle::no_classes_as_none();
+    println!(
+        "panics taken for None: {} in check_range, {} at action 65,535, {} at class count 0",
+        checks, actions, classes
+    );
     println!("{} cases, {} differences (seed {})", totals.cases, totals.differences, seed);
     ExitCode::from(u8::from(totals.differences > 0))
 }

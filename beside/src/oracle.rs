@@ -96,6 +96,8 @@ pub enum Fault {
     CheckRange,
     /// The crate counted on from action 65,535, where document 01 has ENDED.
     LastAction,
+    /// The crate divided by a class count of 0, where document 01 has ENDED.
+    NoClasses,
     /// A document, or a plain reading of it, gives another answer.
     Disputed,
 }
@@ -107,6 +109,7 @@ impl Fault {
             Fault::Panic => "the crate panicked",
             Fault::CheckRange => "the crate panicked in check_range",
             Fault::LastAction => "the crate panicked at action 65,535",
+            Fault::NoClasses => "the crate panicked at class count 0",
             Fault::Disputed => "the crate gave another answer than a document or a plain reading of it",
         }
     }
@@ -122,6 +125,7 @@ thread_local! {
     static LAST_PANIC: Cell<Fault> = Cell::new(Fault::Panic);
     static CHECK_RANGE_AS_NONE: Cell<u64> = Cell::new(0);
     static LAST_ACTION_AS_NONE: Cell<u64> = Cell::new(0);
+    static NO_CLASSES_AS_NONE: Cell<u64> = Cell::new(0);
 }
 
 /// Keeps quiet about the crate's panics, which are counted by their place, and about no others.
@@ -147,6 +151,9 @@ fn fault_at(place: Option<&Location>) -> Fault {
         },
         Some(place) if place.file().ends_with("/aat.rs") => match line_of(aat, place.line()) {
             Some("action_index += 1;") => Fault::LastAction,
+            Some("(entry.new_state as u32).checked_sub(self.state_array)? / self.class_count as u32;") => {
+                Fault::NoClasses
+            }
             _ => Fault::Panic,
         },
         _ => Fault::Panic,
@@ -161,12 +168,13 @@ pub fn caught<T>(work: impl FnOnce() -> T) -> Result<T, Fault> {
     given.map_err(|_| LAST_PANIC.with(Cell::get))
 }
 
-/// The same, with None for a panic at action 65,535 and for one in `check_range`, which is what a build without overflow
-/// checks gives there.
+/// The same, with None for a panic at action 65,535 or at class count 0, and for one in `check_range`, which is what a build
+/// without overflow checks gives there.
 pub fn caught_as_none<T>(work: impl FnOnce() -> Option<T>) -> Result<Option<T>, Fault> {
     let counted = match caught(work) {
         Err(Fault::CheckRange) => &CHECK_RANGE_AS_NONE,
         Err(Fault::LastAction) => &LAST_ACTION_AS_NONE,
+        Err(Fault::NoClasses) => &NO_CLASSES_AS_NONE,
         given => return given,
     };
     counted.with(|count| count.set(count.get() + 1));
@@ -181,6 +189,11 @@ pub fn check_range_as_none() -> u64 {
 /// How many panics so far at action 65,535 were taken for None.
 pub fn last_action_as_none() -> u64 {
     LAST_ACTION_AS_NONE.with(Cell::get)
+}
+
+/// How many panics so far at class count 0 were taken for None.
+pub fn no_classes_as_none() -> u64 {
+    NO_CLASSES_AS_NONE.with(Cell::get)
 }
 
 /// The crate's lookup of a 16-bit element.

@@ -31,9 +31,20 @@
       18 insertion_step        state 3 x 8, length 8, room 8,    answer 4, state, advance 8, edits
                                start 8, index 8, glyph 2,
                                ends 4, advance 8, edits 7 x 8
+      19 kern_pair             start 8, version 2, left 2,       answer 4, value 4
+                               right 2, value 4
+      20 kerx_pair             as 19                             as 19
+      21 kern_pass             as 8, then along, version 2       answer 4, glyphs, tags, homes, along
+      22 kerx_pass             as 21                             as 21
+      23 kern_run              as 8, then along, heads 4         answer 4, glyphs, tags, homes, along, heads 4
+      24 kerx_run              as 23, then direction 4           as 23
+      25 kern_step             state 11 x 8, along, length 8,    answer 4, along, state, advance 8
+                               version 2, start 8, index 8,
+                               glyph 2, advance 8
+      26 kerx_step             as 25                             as 25
 
-   A name is its length 4 and the bytes. Glyphs, tags and homes are each a count 4 and so many numbers 2; a reply has the
-   numbers alone.
+   A name is its length 4 and the bytes. Glyphs, tags and homes are each a count 4 and so many numbers 2, the adjustments along
+   the line a count 4 and so many numbers 8; a reply has the numbers alone.
 
    Replies are sent when the input runs dry. Exit status 0 when it ends between calls, 1 for anything out of this form. */
 
@@ -59,10 +70,14 @@ struct slice {
 static struct slice glyphs, tags, homes;
 static size_t used;
 
+/* The adjustments along a line, as many as a slice has numbers. */
+static int64_t along[AAT_LARGEST_ROOM + 64];
+static size_t along_len;
+
 /* A step's state, what it is told, and what it hands over. */
 static uint64_t state[66], edits[7];
 static size_t start, index, advance;
-static uint16_t glyph;
+static uint16_t glyph, version;
 static uint32_t ends;
 
 static uint8_t input[65536], output[65536];
@@ -121,6 +136,16 @@ static void take_slice(struct slice *slice) {
 
 static void put_slice(const struct slice *slice) {
     for (size_t i = 0; i < slice->len; i++) put(slice->numbers[i], 2);
+}
+
+static void take_along(void) {
+    along_len = take(4);
+    if (along_len > sizeof along / sizeof along[0]) exit(1);
+    for (size_t i = 0; i < along_len; i++) along[i] = (int64_t)take(8);
+}
+
+static void put_along(void) {
+    for (size_t i = 0; i < along_len; i++) put((uint64_t)along[i], 8);
 }
 
 static void take_line(void) {
@@ -274,6 +299,78 @@ static void insertion_step(void) {
     put_numbers(edits, 7);
 }
 
+typedef uint32_t value_of_pair(const uint8_t *, size_t, size_t, uint16_t, uint16_t, uint16_t, int *);
+
+/* Not in aat.h yet. */
+uint32_t aat_kern_pair(const uint8_t *, size_t, size_t, uint16_t, uint16_t, uint16_t, int *);
+uint32_t aat_kerx_pair(const uint8_t *, size_t, size_t, uint16_t, uint16_t, uint16_t, int *);
+
+static void pair(value_of_pair *entry) {
+    start = take(8);
+    version = (uint16_t)take(2);
+    uint16_t left = (uint16_t)take(2);
+    uint16_t right = (uint16_t)take(2);
+    int value = (int)take(4);
+    put(entry(table, table_len, start, version, left, right, &value), 4);
+    put((uint32_t)value, 4);
+}
+
+typedef uint32_t kerning_pass(const uint8_t *, size_t, size_t, uint16_t, const uint16_t *, size_t, const uint16_t *, size_t,
+                              const uint16_t *, size_t, size_t, int64_t *, size_t);
+
+static void kern(kerning_pass *entry) {
+    take_pass();
+    take_along();
+    version = (uint16_t)take(2);
+    put_pass(entry(table, table_len, start, version, glyphs.numbers, glyphs.len, tags.numbers, tags.len, homes.numbers,
+                   homes.len, used, along, along_len));
+    put_along();
+}
+
+static void kern_run(void) {
+    take_pass();
+    take_along();
+    uint32_t heads = (uint32_t)take(4);
+    put_pass(aat_kern_run(TABLE_AND_LINE, used, along, along_len, &heads));
+    put_along();
+    put(heads, 4);
+}
+
+static void kerx_run(void) {
+    take_pass();
+    take_along();
+    uint32_t heads = (uint32_t)take(4);
+    uint32_t right_to_left = (uint32_t)take(4);
+    put_pass(aat_kerx_run(table, table_len, start, right_to_left, glyphs.numbers, glyphs.len, tags.numbers, tags.len,
+                          homes.numbers, homes.len, used, along, along_len, &heads));
+    put_along();
+    put(heads, 4);
+}
+
+typedef uint32_t kerning_step(uint64_t *, const uint8_t *, size_t, size_t, uint16_t, size_t, size_t, uint16_t, int64_t *,
+                              size_t, size_t *);
+
+/* Not in aat.h yet. */
+uint32_t aat_kern_step(uint64_t *, const uint8_t *, size_t, size_t, uint16_t, size_t, size_t, uint16_t, int64_t *, size_t,
+                       size_t *);
+uint32_t aat_kerx_step(uint64_t *, const uint8_t *, size_t, size_t, uint16_t, size_t, size_t, uint16_t, int64_t *, size_t,
+                       size_t *);
+
+static void kern_one(kerning_step *entry) {
+    take_numbers(state, 11);
+    take_along();
+    size_t length = take(8);
+    version = (uint16_t)take(2);
+    start = take(8);
+    index = take(8);
+    glyph = (uint16_t)take(2);
+    advance = take(8);
+    put(entry(state, table, table_len, start, version, length, index, glyph, along, along_len, &advance), 4);
+    put_along();
+    put_numbers(state, 11);
+    put(advance, 8);
+}
+
 static void answer(uint8_t call) {
     if (8 <= call && call <= 13) take_pass();
     switch (call) {
@@ -296,6 +393,14 @@ static void answer(uint8_t call) {
     case 16: contextual_step(); break;
     case 17: ligature_step(); break;
     case 18: insertion_step(); break;
+    case 19: pair(aat_kern_pair); break;
+    case 20: pair(aat_kerx_pair); break;
+    case 21: kern(aat_kern_pass); break;
+    case 22: kern(aat_kerx_pass); break;
+    case 23: kern_run(); break;
+    case 24: kerx_run(); break;
+    case 25: kern_one(aat_kern_step); break;
+    case 26: kern_one(aat_kerx_step); break;
     default: exit(1);
     }
 }

@@ -1,0 +1,196 @@
+//! The crate's kerning, as published, under document 01's rules of pairs and passes.
+
+use crate::line::{Line, LARGEST_ROOM};
+use crate::oracle::aat::{kern, kerx};
+use crate::oracle::{caught, caught_as_none, Answer, Fault, LONGEST_TABLE};
+use crate::pass::stepped;
+
+/// The two kerning tables.
+#[derive(Clone, Copy, PartialEq)]
+pub enum Kerning {
+    Kern,
+    Kerx,
+}
+
+impl Kerning {
+    /// The table's name.
+    pub fn name(self) -> &'static str {
+        match self {
+            Kerning::Kern => "kern",
+            Kerning::Kerx => "kerx",
+        }
+    }
+
+    /// A table with these bytes as its one subtable, in a list of this version.
+    pub fn alone(self, version: u16, subtable: &[u8]) -> Vec<u8> {
+        let head = self.head(version, 1);
+        [&[0; ALONE_AT], &head[..], subtable].concat()
+    }
+
+    /// The head of a list of this version that counts so many subtables.
+    pub fn head(self, version: u16, count: u32) -> Vec<u8> {
+        let version = version.to_be_bytes();
+        match self {
+            Kerning::Kern if version == [0, 0] => [version, (count as u16).to_be_bytes()].concat(),
+            _ => [&version, &[0; 2], &count.to_be_bytes()[..]].concat(),
+        }
+    }
+}
+
+/// Where the list of such a table begins: 0 would be no table.
+pub const ALONE_AT: usize = 4;
+
+/// A subtable that can be read, and of a format that is not left out.
+pub enum Subtable<'a> {
+    KernPairs(kern::Format0<'a>),
+    KernMachine(kern::Format1<'a>),
+    KerxPairs(kerx::Format0<'a>),
+    KerxMachine(kerx::Format1<'a>),
+    KerxClasses(kerx::Format2<'a>),
+}
+
+impl<'a> Subtable<'a> {
+    /// A subtable of kern.
+    pub fn of_kern(subtable: &kern::Subtable<'a>) -> Option<Self> {
+        Some(match subtable.kind()? {
+            kern::SubtableKind::Format0(pairs) => Subtable::KernPairs(pairs),
+            kern::SubtableKind::Format1(machine) => Subtable::KernMachine(machine),
+        })
+    }
+
+    /// A subtable of kerx.
+    pub fn of_kerx(subtable: &kerx::Subtable<'a>) -> Option<Self> {
+        Some(match subtable.kind()? {
+            kerx::SubtableKind::Format0(pairs) => Subtable::KerxPairs(pairs),
+            kerx::SubtableKind::Format1(machine) => Subtable::KerxMachine(machine),
+            kerx::SubtableKind::Format2(classes) => Subtable::KerxClasses(classes),
+            kerx::SubtableKind::Format4(_) => return None,
+        })
+    }
+
+    /// The one subtable of a table made by `alone`.
+    pub fn alone(kerning: Kerning, table: &'a [u8]) -> Result<Option<Self>, Fault> {
+        let start = ALONE_AT as u32;
+        caught(|| match kerning {
+            Kerning::Kern => Subtable::of_kern(&kern::subtables(table, start).next()?),
+            Kerning::Kerx => Subtable::of_kerx(&kerx::subtables(table, start, 0).next()?),
+        })
+    }
+
+    /// What a pair of glyphs adds; HEAD where the format has no pairs.
+    pub fn get(&self, left: u16, right: u16) -> Answer<i16> {
+        match self {
+            Subtable::KernPairs(pairs) => Answer::of(pairs.get(left, right)),
+            Subtable::KerxPairs(pairs) => Answer::of(pairs.get(left, right)),
+            Subtable::KerxClasses(classes) => Answer::of(classes.get(left, right)),
+            Subtable::KernMachine(_) | Subtable::KerxMachine(_) => Answer::Head,
+        }
+    }
+
+    /// The pass over these glyphs, which adds to as many adjustments; ENDED, too, where the crate divides by a class count
+    /// of 0.
+    pub fn pass(&self, glyphs: &[u16], along: &mut [i64]) -> Result<Answer<()>, Fault> {
+        Ok(caught_as_none(|| Some(self.add(glyphs, along)))?.unwrap_or(Answer::Ended))
+    }
+
+    fn add(&self, glyphs: &[u16], along: &mut [i64]) -> Answer<()> {
+        match self {
+            Subtable::KernMachine(machine) => {
+                let mut state = kern::Format1State::new();
+                make_steps(glyphs, |place, glyph| {
+                    machine.next(&mut state, place, glyph, |at, number| add_at(along, at, number))
+                })
+            }
+            Subtable::KerxMachine(machine) => {
+                let mut state = kerx::ContextualState::new();
+                make_steps(glyphs, |place, glyph| {
+                    machine.next(&mut state, place, glyph, |at, number| add_at(along, at, number))
+                })
+            }
+            _ => {
+                for (place, pair) in glyphs.windows(2).enumerate() {
+                    if let Answer::Done(number) = self.get(pair[0], pair[1]) {
+                        add_at(along, place, number);
+                    }
+                }
+                Answer::Done(())
+            }
+        }
+    }
+}
+
+/// The step at each place, going on by what it gives; None ends the pass. There is no step for the end of text.
+pub fn make_steps(glyphs: &[u16], mut step: impl FnMut(usize, u16) -> Option<usize>) -> Answer<()> {
+    let mut place = 0;
+    while place < glyphs.len() {
+        match stepped(step(place, glyphs[place])) {
+            Answer::Done(advance) => place += advance,
+            other => return other.map(|_| ()),
+        }
+    }
+    Answer::Done(())
+}
+
+/// Adds to the adjustment of a place; at one not in the line, nothing.
+pub fn add_at(along: &mut [i64], place: usize, number: i16) -> Option<()> {
+    if let Some(adjustment) = along.get_mut(place) {
+        *adjustment += i64::from(number);
+    }
+    Some(())
+}
+
+/// The largest adjustment that may be lent to a pass or a step.
+pub const LARGEST_ADJUSTMENT: u64 = 1 << 40;
+
+/// Whether none of these is beyond the largest.
+pub fn are_modest(along: &[i64]) -> bool {
+    along.iter().all(|number| number.unsigned_abs() <= LARGEST_ADJUSTMENT)
+}
+
+/// Whether these are the adjustments of a room for so many places.
+pub fn are_roomy(along: &[i64], length: u64) -> bool {
+    along.len() <= LARGEST_ROOM && length <= along.len() as u64 && are_modest(along)
+}
+
+/// A line with the adjustments that are lent with it.
+#[derive(Clone)]
+pub struct Kerned {
+    pub line: Line,
+    pub along: Vec<i64>,
+}
+
+impl Kerned {
+    /// Whether this is a line, with an adjustment for each place of its room.
+    pub fn is_line(&self) -> bool {
+        self.line.is_line() && self.along.len() == self.line.glyphs.len()
+    }
+
+    /// What a pass is refused for, before its subtable is looked at.
+    pub fn refuses_pass(&self, table: &[u8]) -> Option<Answer<()>> {
+        if table.len() > LONGEST_TABLE {
+            Some(Answer::Table)
+        } else if !self.is_line() || !are_modest(&self.along) {
+            Some(Answer::Line)
+        } else {
+            None
+        }
+    }
+
+    /// The glyphs and adjustments of the places that are used.
+    pub fn used(&mut self) -> (&[u16], &mut [i64]) {
+        let length = self.line.length();
+        (&self.line.glyphs[..length], &mut self.along[..length])
+    }
+
+    /// The pass by a subtable.
+    pub fn pass(&mut self, subtable: &Subtable) -> Result<Answer<()>, Fault> {
+        let (glyphs, along) = self.used();
+        subtable.pass(glyphs, along)
+    }
+
+    /// Turns the line and its adjustments round.
+    pub fn reverse(&mut self) {
+        self.line.reverse();
+        self.used().1.reverse();
+    }
+}

@@ -1,0 +1,82 @@
+//! Document 01's whole run of a kern or kerx table, over the crate's subtables.
+
+use crate::kerning::{Kerned, Kerning, Subtable};
+use crate::oracle::aat::{kern, kerx};
+use crate::oracle::{caught, Answer, Fault, LONGEST_TABLE};
+use crate::run::MOST_HEADS;
+
+/// A whole run of the table whose list begins at `start`.
+pub struct Run<'a> {
+    pub kerning: Kerning,
+    pub table: &'a [u8],
+    pub start: u64,
+    pub right_to_left: bool,
+}
+
+/// A subtable on the way of a run.
+struct Visit<'a> {
+    is_passed_over: bool,
+    is_turned: bool,
+    subtable: Option<Subtable<'a>>,
+}
+
+impl<'a> Run<'a> {
+    /// What the run is refused for.
+    pub fn refusal(&self, lent: &Kerned) -> Option<Answer<()>> {
+        let refusals = [
+            (self.table.len() > LONGEST_TABLE, Answer::Table),
+            (!lent.is_line(), Answer::Line),
+            (self.start > self.table.len() as u64, Answer::Head),
+        ];
+        refusals.into_iter().find(|refusal| refusal.0).map(|refusal| refusal.1)
+    }
+
+    /// The answer and the heads that were counted.
+    pub fn make(&self, lent: &mut Kerned) -> Result<(Answer<()>, u32), Fault> {
+        lent.used().1.fill(0);
+        let mut heads = 0;
+        let mut left = self.visits();
+        while let Some(visit) = caught(|| left.next())? {
+            if heads == MOST_HEADS {
+                return Ok((Answer::Limit, heads));
+            }
+            heads += 1;
+            visit.make(lent)?;
+        }
+        Ok((Answer::Done(()), heads))
+    }
+
+    fn visits(&self) -> Box<dyn Iterator<Item = Visit<'a>> + 'a> {
+        let (start, right_to_left) = (self.start as u32, self.right_to_left);
+        match self.kerning {
+            Kerning::Kern => Box::new(kern::subtables(self.table, start).map(|subtable| Visit {
+                is_passed_over: !subtable.is_horizontal() || subtable.cross_stream(),
+                is_turned: false,
+                subtable: Subtable::of_kern(&subtable),
+            })),
+            Kerning::Kerx => Box::new(kerx::subtables(self.table, start, 0).map(move |subtable| Visit {
+                is_passed_over: subtable.is_vertical() || subtable.is_cross_stream() || subtable.has_variations(),
+                is_turned: subtable.should_reverse(right_to_left),
+                subtable: Subtable::of_kerx(&subtable),
+            })),
+        }
+    }
+}
+
+impl Visit<'_> {
+    /// The pass, the line turned round before and after where that is asked for.
+    fn make(&self, lent: &mut Kerned) -> Result<(), Fault> {
+        let subtable = match &self.subtable {
+            Some(subtable) if !self.is_passed_over => subtable,
+            _ => return Ok(()),
+        };
+        if self.is_turned {
+            lent.reverse();
+        }
+        lent.pass(subtable)?;
+        if self.is_turned {
+            lent.reverse();
+        }
+        Ok(())
+    }
+}
