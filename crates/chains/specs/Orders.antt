@@ -1,13 +1,9 @@
 -- What a subtable's coverage says: its kind, the order in which it wants the glyphs, and whether it is for vertical text alone.
-use Prim.Native.Nat.{ℕ, _/_, _%_}
+use Prim.Native.Nat.{ℕ, _%_}
 use mathlib.Core.Bool.{Bool, true, false, not, cond}
-use lib.Dec.{eqb}
+use Rattle.laws.specs.Bits.{isSet}
 use Rattle.chains.specs.declared.Order.{Order}
 use Rattle.chains.specs.declared.Order.the-variants.{Layout, ReverseLayout, Logical, ReverseLogical}
-
--- whether a bit is set; masks are powers of two
-abbrev pub isBit : ℕ → ℕ → Bool
-isBit number mask = eqb (number / mask % 2) 1
 
 -- the kind is the low byte
 abbrev pub kindOf : ℕ → ℕ
@@ -21,7 +17,7 @@ orderBy true false = Logical
 orderBy true true = ReverseLogical
 
 unfoldable pub orderOf : ℕ → Order
-orderOf coverage = orderBy (isBit coverage 0x10000000) (isBit coverage 0x40000000)
+orderOf coverage = orderBy (isSet coverage 0x10000000) (isSet coverage 0x40000000)
 
 -- an order, as a number
 abbrev pub orderNumber : Order → ℕ
@@ -39,4 +35,4 @@ isReversed ReverseLogical rightToLeft = true
 
 -- vertical-only: 0x80000000 without 0x20000000
 unfoldable pub isVertical : ℕ → Bool
-isVertical coverage = cond (isBit coverage 0x20000000) false (isBit coverage 0x80000000)
+isVertical coverage = cond (isSet coverage 0x20000000) false (isSet coverage 0x80000000)

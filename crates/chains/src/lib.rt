@@ -8,7 +8,7 @@ ghost use Prim.Native.Nat.{_+_, _<_, _≤_};
 ghost use lib.ListN.{length};
 ghost use Rattle.answers.specs.Refuse.{refuse};
 ghost use Rattle.parse.specs.Reads.{u32At};
-ghost use Rattle.chains.specs.Orders.{isBit, orderOf, orderNumber, isReversed, isVertical};
+ghost use Rattle.chains.specs.Orders.{orderOf, orderNumber, isReversed, isVertical};
 ghost use Rattle.chains.specs.Lists.{chainCount, chainsFrom, chainAt, nextChain, featureAt, nextFeature, subtableAt, nextSubtable};
 ghost use Rattle.chains.specs.Entries.{chainsTests, chainsCall, chainCall, featureCall, subtableCall};
 ghost use Rattle.chains.specs.Walk.{walkFrom, nextHead};
@@ -137,25 +137,17 @@ const FEATURE: usize = 12;
 
 const SUBTABLE: usize = 12;
 
-// Whether a bit is set; masks are powers of two.
-fn is_bit(number: u32, mask: u32) -> bool
-    requires { ⌜ 1 ≤ mask ⌝ }
-    ensures { λ r. ⌜ r ≡ isBit number mask ⌝ }
-{
-    number / mask % 2 == 1
-}
-
 // The order that a coverage asks for.
 pub fn order_of(coverage: u32) -> Order
     ensures { λ r. ⌜ r ≡ orderOf coverage ⌝ }
 {
-    if is_bit(coverage, LOGICAL) {
-        if is_bit(coverage, DESCENDING) {
+    if parse::is_set(coverage, LOGICAL) {
+        if parse::is_set(coverage, DESCENDING) {
             return Order::ReverseLogical;
         }
         return Order::Logical;
     }
-    if is_bit(coverage, DESCENDING) {
+    if parse::is_set(coverage, DESCENDING) {
         return Order::ReverseLayout;
     }
     Order::Layout
@@ -189,10 +181,10 @@ pub fn should_reverse(order: Order, right_to_left: bool) -> bool
 fn is_vertical(coverage: u32) -> bool
     ensures { λ r. ⌜ r ≡ isVertical coverage ⌝ }
 {
-    if is_bit(coverage, BOTH) {
+    if parse::is_set(coverage, BOTH) {
         return false;
     }
-    is_bit(coverage, VERTICAL)
+    parse::is_set(coverage, VERTICAL)
 }
 
 // Half of a 32-bit number, with room for its place.

@@ -5,7 +5,7 @@ use mathlib.Core.Bool.{Bool, true, false, not}
 use mathlib.Core.List.{List, [], _∷_}
 use lib.ListN.{length, drop}
 use borrow.Author.Tests.{lt-ltb, le-ltb}
-use Rattle.answers.proofs.Refusals.{refuse-none, refuse-here, refuse-later, passed-later, alone-refused, alone-passed}
+use Rattle.answers.proofs.Refusals.{refuse-here, refuse-later}
 use Rattle.answers.specs.Refuse.{Test, refuse, tableTest}
 use Rattle.answers.specs.declared.Refusal.{Refusal}
 use Rattle.answers.specs.declared.Refusal.the-variants as Refusal′
@@ -17,16 +17,16 @@ use Rattle.state_tables.specs.declared.States.{States}
 use Rattle.state_tables.specs.declared.Made.{Made}
 use Rattle.state_tables.specs.declared.Made.the-variants as Made′
 use Rattle.line.specs.Line.{Line, lineOf}
-use Rattle.line.specs.Test.{isValid, lineTest}
+use Rattle.line.specs.Test.{isValid}
 use Rattle.line.specs.Changes.{applyAll}
-use Rattle.line.proofs.Refusals.{refuse-line, refuse-past-line, passed-line}
 use Rattle.machine.specs.Head.{bodyOf}
 use Rattle.machine.specs.Pass.{Stepped, Passed}
-use Rattle.machine.specs.Call.{headTest, passTests}
-use Rattle.machine.proofs.Calls.{taken-line}
+use Rattle.machine.specs.Call.{headTest, passTests, refusedStep}
+use Rattle.machine.proofs.Calls as Machine′
+use Rattle.machine.proofs.Calls.{taken-line, past-place, stepped-line, head-refused, head-passed}
 use Rattle.contextual.specs.Substitutes.{writtenAll}
 use Rattle.contextual.specs.Contextual.{next, stepped, stepOf, machine, passed, passLeaves}
-use Rattle.contextual.specs.Calls.{opened, worked, workLeaves, passCall, callLeaves, placeTest, stateTest, stepTests, refusedStep, stepCall, stepLeaves}
+use Rattle.contextual.specs.Calls.{opened, worked, workLeaves, passCall, callLeaves, stateTest, stepTests, stepCall, stepLeaves}
 use Rattle.contextual.specs.declared.ContextualState.{ContextualState}
 use Rattle.contextual.specs.declared.ContextualStep.{ContextualStep}
 use Rattle.contextual.proofs.Writes.{written-line}
@@ -78,51 +78,44 @@ pub taken-fits : (n : ℕ) (glyphs tags homes : List ℕ) (used : ℕ) (made : M
 taken-fits n glyphs tags homes used made k e = taken-line n (lineOf glyphs tags homes used) made (sym k ∙ e) .within
 
 -- the tests before a step, in the code's order
-module _ (n : ℕ) (l : Line) (index : ℕ) (s : ContextualState) (made : Made) {check : Check} (e : check ≡ refuse (tableTest n ∷ [])) where
-  abbrev behind : List Test
-  behind = lineTest l ∷ placeTest l index ∷ stateTest l s ∷ headTest made ∷ []
+module _ (n : ℕ) (l : Line) (index : ℕ) (s : ContextualState) (made : Made) where
+  abbrev later : List Test
+  later = stateTest l s ∷ headTest made ∷ []
 
-  pub step-table : {why : Refusal} → check ≡ Check′.Refused why → Check′.Refused why ≡ refuse (stepTests n l index s made)
-  unfolding stepTests
-  step-table f = sym (alone-refused (tableTest n) behind _ (sym e ∙ f))
-
-  module _ {taken : Bool} (f : check ≡ Check′.Passed) (t : taken ≡ isValid l) where
-    to-line : refuse (stepTests n l index s made) ≡ refuse behind
+  module _ {check : Check} (e : check ≡ refuse (tableTest n ∷ [])) where
+    pub step-table : {why : Refusal} → check ≡ Check′.Refused why → Check′.Refused why ≡ refuse (stepTests n l index s made)
     unfolding stepTests
-    to-line = alone-passed (tableTest n) behind (sym e ∙ f)
+    step-table f = Machine′.step-table n l index later e f
 
-    pub step-line : not taken ≡ true → Check′.Refused Refusal′.Line ≡ refuse (stepTests n l index s made)
-    step-line h = sym (to-line ∙ refuse-line l _ t h)
+    module _ {taken : Bool} (f : check ≡ Check′.Passed) (t : taken ≡ isValid l) where
+      pub step-line : not taken ≡ true → Check′.Refused Refusal′.Line ≡ refuse (stepTests n l index s made)
+      unfolding stepTests
+      step-line h = Machine′.step-line n l index later e f t h
 
-    module _ (h : not taken ≡ false) where
-      to-place : refuse (stepTests n l index s made) ≡ refuse (placeTest l index ∷ stateTest l s ∷ headTest made ∷ [])
-      to-place = to-line ∙ refuse-past-line l _ t h
+      module _ (h : not taken ≡ false) where
+        pub step-place : l .used < index → Check′.Refused Refusal′.Place ≡ refuse (stepTests n l index s made)
+        unfolding stepTests
+        step-place p = Machine′.step-place n l index later e f t h p
 
-      pub step-place : l .used < index → Check′.Refused Refusal′.Place ≡ refuse (stepTests n l index s made)
-      unfolding placeTest
-      step-place p = sym (to-place ∙ refuse-here _ _ (lt-ltb (l .used) index p))
+        module _ (p : index ≤ l .used) where
+          to-state : refuse (stepTests n l index s made) ≡ refuse later
+          unfolding stepTests
+          to-state = past-place n l index later e f t h p
 
-      module _ (p : index ≤ l .used) where
-        to-state : refuse (stepTests n l index s made) ≡ refuse (stateTest l s ∷ headTest made ∷ [])
-        unfolding placeTest
-        to-state = to-place ∙ refuse-later _ _ (le-ltb (l .used) index p)
-
-        pub step-state : l .used < s .«mark_index» → Check′.Refused Refusal′.State ≡ refuse (stepTests n l index s made)
-        unfolding stateTest
-        step-state q = sym (to-state ∙ refuse-here _ _ (lt-ltb (l .used) (s .«mark_index») q))
-
-        module _ (q : s .«mark_index» ≤ l .used) where
-          to-head : refuse (stepTests n l index s made) ≡ refuse (headTest made ∷ [])
+          pub step-state : l .used < s .«mark_index» → Check′.Refused Refusal′.State ≡ refuse (stepTests n l index s made)
           unfolding stateTest
-          to-head = to-state ∙ refuse-later _ _ (le-ltb (l .used) (s .«mark_index») q)
+          step-state q = sym (to-state ∙ refuse-here _ _ (lt-ltb (l .used) (s .«mark_index») q))
 
-          pub step-head : made ≡ Made′.Short → Check′.Refused Refusal′.Head ≡ refuse (stepTests n l index s made)
-          unfolding headTest
-          step-head m = sym (to-head ∙ refuse-here (headTest made) [] (rw m))
+          module _ (q : s .«mark_index» ≤ l .used) where
+            to-head : refuse (stepTests n l index s made) ≡ refuse (headTest made ∷ [])
+            unfolding stateTest
+            to-head = to-state ∙ refuse-later _ _ (le-ltb (l .used) (s .«mark_index») q)
 
-          pub step-passed : {states : States} → made ≡ Made′.Ready states → Check′.Passed ≡ refuse (stepTests n l index s made)
-          unfolding headTest
-          step-passed m = sym (to-head ∙ refuse-later (headTest made) [] (rw m) ∙ refuse-none)
+            pub step-head : made ≡ Made′.Short → Check′.Refused Refusal′.Head ≡ refuse (stepTests n l index s made)
+            step-head m = sym (to-head ∙ head-refused made m)
+
+            pub step-passed : {states : States} → made ≡ Made′.Ready states → Check′.Passed ≡ refuse (stepTests n l index s made)
+            step-passed m = sym (to-head ∙ head-passed made m)
 
 -- a line that a step has taken has its used places
 pub step-fits : (n : ℕ) (glyphs tags homes : List ℕ) (used index : ℕ) (s : ContextualState) (made : Made) {check : Check}
@@ -130,7 +123,7 @@ pub step-fits : (n : ℕ) (glyphs tags homes : List ℕ) (used index : ℕ) (s :
 unfolding stepTests
 step-fits n glyphs tags homes used index s made k e =
     let l : Line = lineOf glyphs tags homes used in
-    passed-line l _ (passed-later (tableTest n) (lineTest l ∷ placeTest l index ∷ stateTest l s ∷ headTest made ∷ []) (sym k ∙ e)) .within
+    stepped-line n l index (stateTest l s ∷ headTest made ∷ []) (sym k ∙ e) .within
 
 -- what a call of the step answers and leaves
 pub record StepEnds (table : List ℕ) (start : ℕ) (s : ContextualState) (l : Line) (index glyph : ℕ) (ends : Bool) (step : ContextualStep) (glyphs : List ℕ) : Type 0 where

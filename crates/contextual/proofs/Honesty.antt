@@ -5,18 +5,14 @@ use mathlib.Core.Bool.{Bool}
 use mathlib.Core.List.{List}
 use lib.ListN.{length, drop}
 use Rattle.answers.specs.Refuse.{refuse}
-use Rattle.answers.specs.declared.Check.{Check}
-use Rattle.answers.specs.declared.Check.the-variants as Check′
 use Rattle.state_tables.specs.declared.States.{States}
-use Rattle.state_tables.specs.declared.Made.{Made}
-use Rattle.state_tables.specs.declared.Made.the-variants as Made′
 use Rattle.line.specs.Line.{Line}
 use Rattle.line.specs.History.{Honest}
 use Rattle.machine.specs.Head.{bodyOf}
 use Rattle.machine.specs.Call.{passTests}
-use Rattle.machine.proofs.Quiet.{Quiet, quiet-none, quiet-fits, quiet-pass, quiet-made, quiet-tested}
+use Rattle.machine.proofs.Quiet.{Quiet, quiet-fits, quiet-pass, quiet-made, quiet-tested, quiet-stepped}
 use Rattle.contextual.specs.Contextual.{fresh, rest, next, machine, passed}
-use Rattle.contextual.specs.Calls.{opened, worked, passCall, callLeaves, stepTests, stepBy, stepCall, stepLeaves, PassCall, StepCall}
+use Rattle.contextual.specs.Calls.{opened, worked, passCall, callLeaves, stepTests, stepCall, stepLeaves, PassCall, StepCall}
 use Rattle.contextual.specs.declared.ContextualState.{ContextualState}
 use Rattle.contextual.proofs.Writes.{quiet-writes}
 
@@ -49,12 +45,9 @@ passes-honest =
 
 pub quiet-step-call : (table : List ℕ) (start : ℕ) (s : ContextualState) (l : Line) (i g : ℕ) (e : Bool) → Quiet (stepCall table start s l i g e .changes)
 unfolding stepCall
-quiet-step-call table start s l i g e = go (refuse (stepTests (length table) l i s (opened (drop start table)))) (opened (drop start table))
-  where
-    go : (check : Check) (made : Made) → Quiet (stepBy check made s (λ states. machine (bodyOf (drop start table)) states s l i g e) .changes)
-    go (Check′.Refused why) made = quiet-none
-    go Check′.Passed Made′.Short = quiet-none
-    go Check′.Passed (Made′.Ready states) = quiet-step (bodyOf (drop start table)) states s l i g e
+quiet-step-call table start s l i g e =
+    quiet-stepped (refuse (stepTests (length table) l i s (opened (drop start table)))) (opened (drop start table)) s _
+    (λ states. quiet-step (bodyOf (drop start table)) states s l i g e)
 
 pub steps-honest : Honest
     (λ (call : StepCall) l. stepLeaves (call .table) (call .start) (call .state) l (call .index) (call .glyph) (call .ends))

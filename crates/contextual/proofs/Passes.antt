@@ -12,7 +12,8 @@ use Rattle.line.specs.Changes.{applyAll}
 use Rattle.machine.specs.Pass.{deleted, isDone}
 use Rattle.machine.proofs.Passing.{Passing, Over, passing-start, passing-step, passing-stop, passing-end}
 use Rattle.contextual.specs.Substitutes.{writtenAll, changesOf}
-use Rattle.contextual.specs.Contextual.{fresh, Ran, next, advanceOf, stepped, stepOf, machine, rest, passed, passLeaves}
+use Rattle.contextual.specs.Contextual.{fresh, Ran, next, stepped, stepOf, machine, rest, passed, passLeaves}
+use Rattle.machine.specs.Pass.{advanceOf}
 use Rattle.contextual.specs.declared.ContextualState.{ContextualState}
 use Rattle.contextual.specs.declared.ContextualStep.{ContextualStep}
 use Rattle.contextual.proofs.Writes.{written-line}

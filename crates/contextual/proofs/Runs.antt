@@ -14,9 +14,11 @@ use Rattle.state_tables.specs.declared.entries.Entered.{Entered}
 use Rattle.state_tables.specs.declared.entries.Entered.the-variants as Entered′
 use Rattle.state_tables.specs.Classes.{classOf}
 use Rattle.state_tables.specs.Entries.{entryOf, onEntry}
-use Rattle.machine.specs.Entry.{isSet, classHere}
+use Rattle.laws.specs.Bits.{isSet}
+use Rattle.machine.specs.Entry.{classHere}
 use Rattle.contextual.specs.Substitutes.{Write, writesOf, writtenAll}
-use Rattle.contextual.specs.Contextual.{idle, begun, acted, Ran, over, entryWrites, ran, next, advanceOf, stepped, stepOf}
+use Rattle.contextual.specs.Contextual.{idle, begun, acted, Ran, over, entryWrites, ran, next, stepped, stepOf}
+use Rattle.machine.specs.Pass.{advanceOf}
 use Rattle.contextual.specs.declared.Acted.{Acted}
 use Rattle.contextual.specs.declared.ContextualState.{ContextualState}
 use Rattle.contextual.specs.declared.ContextualStep.{ContextualStep}

@@ -4,24 +4,18 @@ use mathlib.Core.Bool.{Bool}
 use mathlib.Core.List.{List, [], _∷_}
 use lib.Dec.{ltb}
 use lib.ListN.{length, drop}
-use Rattle.answers.specs.Refuse.{Test, refuse, tableTest}
-use Rattle.answers.specs.declared.Refusal.{Refusal}
+use Rattle.answers.specs.Refuse.{Test, refuse}
 use Rattle.answers.specs.declared.Refusal.the-variants as Refusal′
-use Rattle.answers.specs.declared.Answer.the-variants as Answer′
-use Rattle.answers.specs.declared.Check.{Check}
-use Rattle.answers.specs.declared.Check.the-variants as Check′
 use Rattle.parse.specs.Reads.{readU32}
 use Rattle.parse.specs.Use.{onU32}
-use Rattle.state_tables.specs.declared.States.{States}
 use Rattle.state_tables.specs.declared.Made.{Made}
 use Rattle.state_tables.specs.declared.Made.the-variants as Made′
 use Rattle.line.specs.Line.{Line}
-use Rattle.line.specs.Test.{lineTest}
 use Rattle.line.specs.Changes.{applyAll}
 use Rattle.machine.specs.Head.{bodyOf}
 use Rattle.machine.specs.Pass.{Stepped, Passed}
 use Rattle.machine.specs.Call as Call′
-use Rattle.machine.specs.Call.{headTest, passTests, refusedCall, onMade}
+use Rattle.machine.specs.Call.{headTest, passTests, refusedCall, onMade, lineStepTests, stepBy}
 use Rattle.contextual.specs.Contextual.{machine, passed}
 use Rattle.contextual.specs.declared.ContextualState.{ContextualState}
 
@@ -45,27 +39,13 @@ passCall table start l = refusedCall (refuse (passTests (length table) l (opened
 unfoldable pub callLeaves : List ℕ → (start : ℕ) → Line → Line
 callLeaves table start l = applyAll (passCall table start l .changes) l
 
--- PLACE: the index is above the used length
-unfoldable pub placeTest : Line → (index : ℕ) → Test
-placeTest l index = record { holds = ltb (l .used) index; refusal = Refusal′.Place }
-
--- STATE: the mark's place is, set or not
+-- STATE: the mark's place is above the used length, set or not
 unfoldable pub stateTest : Line → ContextualState → Test
 stateTest l s = record { holds = ltb (l .used) (s .«mark_index»); refusal = Refusal′.State }
 
 -- TABLE, LINE, PLACE, STATE, HEAD
 unfoldable pub stepTests : (length : ℕ) → Line → (index : ℕ) → ContextualState → Made → List Test
-stepTests length l index s made = tableTest length ∷ lineTest l ∷ placeTest l index ∷ stateTest l s ∷ headTest made ∷ []
-
--- a refused step hands its state back as given, and changes nothing
-abbrev pub refusedStep : Refusal → ContextualState → Stepped ContextualState
-refusedStep why s = record { answer = Answer′.Refused why; state = s; advance = 0; changes = [] }
-
--- by the tests and the state table; without one the call is refused by HEAD
-abbrev pub stepBy : Check → Made → ContextualState → (States → Stepped ContextualState) → Stepped ContextualState
-stepBy (Check′.Refused why) made s work = refusedStep why s
-stepBy Check′.Passed Made′.Short s work = refusedStep Refusal′.Head s
-stepBy Check′.Passed (Made′.Ready states) s work = work states
+stepTests length l index s made = lineStepTests length l index (stateTest l s ∷ headTest made ∷ [])
 
 -- a call of the step on the subtable at `start`
 unfoldable pub stepCall : List ℕ → (start : ℕ) → ContextualState → Line → (index glyph : ℕ) → (ends : Bool) → Stepped ContextualState

@@ -14,8 +14,9 @@ use Rattle.state_tables.specs.Classes.{classOf}
 use Rattle.state_tables.specs.Entries.{entryOf, onEntry}
 use Rattle.line.specs.Line.{Line}
 use Rattle.line.specs.Changes.{applyAll}
-use Rattle.machine.specs.Entry.{isSet, classHere}
-use Rattle.machine.specs.Pass.{Stepped, Machine, Passed, isDone, passOf}
+use Rattle.laws.specs.Bits.{isSet}
+use Rattle.machine.specs.Entry.{classHere}
+use Rattle.machine.specs.Pass.{Stepped, Machine, Passed, advanceOf, passOf}
 use Rattle.contextual.specs.Substitutes.{Write, substituteOf, glyphAfter, writesOf, changesOf}
 use Rattle.contextual.specs.declared.Substitute.{Substitute}
 use Rattle.contextual.specs.declared.Acted.{Acted}
@@ -100,10 +101,6 @@ next bytes states s index glyph ends =
       | true ↦ over Answer′.Done s []
       | false ↦ ran bytes states index 18 (begun s index glyph ends) (classHere bytes states glyph ends) glyph []
     ]
-
--- the advance is 1 when DONE
-abbrev pub advanceOf : Answer → ℕ
-advanceOf answer = cond (isDone answer) 1 0
 
 abbrev pub stepped : Ran → Stepped ContextualState
 stepped r = record { answer = r .answer; state = r .state; advance = advanceOf (r .answer); changes = changesOf (r .writes) }

@@ -16,7 +16,7 @@ use Rattle.state_tables.specs.declared.Made.the-variants as Made′
 use Rattle.line.specs.Line.{Line}
 use Rattle.line.specs.Changes.{applyAll}
 use Rattle.machine.specs.Pass.{Passed}
-use Rattle.machine.specs.Call.{passTests, called}
+use Rattle.machine.specs.Call.{passTests}
 use Rattle.insertion.specs.Insertion.{passed, passLeaves}
 use Rattle.insertion.specs.Calls.{opened, worked, passCall}
 use Rattle.insertion.proofs.Edits.{Left}
@@ -56,12 +56,12 @@ module _ (table : List ℕ) (start : ℕ) (l : Line) {bytes : List ℕ} {made : 
   tested = k ∙ ap (λ (h : Made). refuse (passTests (length table) l h)) (m ∙ ap opened b)
 
   pub call-refused : {why : Refusal} → check ≡ Check′.Refused why → Ends (passCall table start l) l (Answer′.Refused why) (l .glyphs) (l .tags) (l .used)
-  unfolding passCall called
-  call-refused {why} e = unmoved (Answer′.Refused why) l (passCall table start l) (rw (sym tested ∙ e, passCall, called))
+  unfolding passCall
+  call-refused {why} e = unmoved (Answer′.Refused why) l (passCall table start l) (rw (sym tested ∙ e, passCall))
 
   pub call-works : {glyphs tags : List ℕ} {answer : Answer} {used : ℕ} → check ≡ Check′.Passed → Ends (worked bytes l) l answer glyphs tags used
       → Ends (passCall table start l) l answer glyphs tags used
-  unfolding passCall called worked
+  unfolding passCall
   call-works {glyphs} {tags} {answer} {used} e w =
-      let is : passCall table start l ≡ worked bytes l = rw (sym tested ∙ e, passCall, called) (ap (λ (x : List ℕ). worked x l) (sym b)) in
+      let is : passCall table start l ≡ worked bytes l = rw (sym tested ∙ e, passCall) (ap (λ (x : List ℕ). worked x l) (sym b)) in
       subst⁻¹ (λ (q : Passed). Ends q l answer glyphs tags used) is w

@@ -5,12 +5,15 @@ use mathlib.Core.Bool.{Bool}
 use mathlib.Core.List.{List}
 use native.Mathlib.Omega.{arith}
 use lib.ListN.{length, drop}
+use Rattle.answers.specs.Refuse.{refuse}
 use Rattle.state_tables.specs.declared.States.{States}
 use Rattle.line.specs.Line.{Line, Valid}
 use Rattle.line.specs.Edits.{added, inserted}
 use Rattle.line.specs.Changes.{editsOf, historyOf}
 use Rattle.line.specs.History.{Fits, Honest}
 use Rattle.machine.specs.Head.{bodyOf}
+use Rattle.machine.specs.Call.{passTests}
+use Rattle.machine.proofs.Fitting.{inserted-both, fitting-pass, fitting-made, fitting-tested}
 use Rattle.insertion.specs.Lists.{countOf, changesOf}
 use Rattle.insertion.specs.Insertion.{fresh, rest, next, machine, passed}
 use Rattle.insertion.specs.Calls.{opened, worked, workLeaves, passCall, callLeaves, PassCall, WorkCall}
@@ -20,7 +23,6 @@ use Rattle.insertion.specs.declared.InsertionState.{InsertionState}
 use Rattle.insertion.specs.declared.InsertionStep.{InsertionStep}
 use Rattle.insertion.proofs.Lists.{length-glyphsAt}
 use Rattle.insertion.proofs.Shapes.{next-fits}
-use Rattle.insertion.proofs.Fitting.{inserted-both, fitting-pass, fitting-made, fitting-call}
 
 -- an insertion adds as many places as it has glyphs
 inserted-edit : (bytes : List ℕ) (edit : Inserted) → inserted (historyOf (changesOf bytes edit)) ≡ countOf edit
@@ -45,28 +47,24 @@ passed-fits : (bytes : List ℕ) (states : States) (l : Line) → Valid l → Fi
 unfolding passed
 passed-fits bytes states l v = fitting-pass (machine bytes states) (step-fits bytes states) (rest fresh l 0) fresh l 0 v
 
+worked-fits : (bytes : List ℕ) (l : Line) → Valid l → Fits (worked bytes l .changes) l
+unfolding worked
+worked-fits bytes l v = fitting-made l v _ (λ states. passed-fits (bodyOf bytes) states l v) (opened bytes)
+
+call-fits : (table : List ℕ) (start : ℕ) (l : Line) → Valid l → Fits (passCall table start l .changes) l
+unfolding passCall
+call-fits table start l v =
+    fitting-tested l v (refuse (passTests (length table) l (opened (drop start table)))) (worked (drop start table) l) (worked-fits (drop start table) l v)
+
 pub passes-honest : Honest
     (λ (call : PassCall) l. callLeaves (call .table) (call .start) l)
     (λ (call : PassCall) l. passCall (call .table) (call .start) l .changes)
-unfolding passCall callLeaves
-passes-honest =
-    record {
-      made = λ call l v. refl;
-      legal = λ call l v.
-          fitting-call l v (λ states. passed (bodyOf (drop (call .start) (call .table))) states l)
-          (λ states. passed-fits (bodyOf (drop (call .start) (call .table))) states l v)
-          (length (call .table)) (opened (drop (call .start) (call .table)));
-    }
+unfolding callLeaves
+passes-honest = record { made = λ call l v. refl; legal = λ call l v. call-fits (call .table) (call .start) l v }
 
 -- and those of a run
 pub works-honest : Honest
     (λ (call : WorkCall) l. workLeaves (call .bytes) l)
     (λ (call : WorkCall) l. worked (call .bytes) l .changes)
-unfolding worked workLeaves
-works-honest =
-    record {
-      made = λ call l v. refl;
-      legal = λ call l v.
-          fitting-made l v (λ states. passed (bodyOf (call .bytes)) states l) (λ states. passed-fits (bodyOf (call .bytes)) states l v)
-          (opened (call .bytes));
-    }
+unfolding workLeaves
+works-honest = record { made = λ call l v. refl; legal = λ call l v. worked-fits (call .bytes) l v }

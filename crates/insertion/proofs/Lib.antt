@@ -5,6 +5,5 @@ mod Edits
 pub mod Passes
 mod Steps
 mod Calls
-pub mod Fitting
 pub mod Honesty
 pub mod Manual

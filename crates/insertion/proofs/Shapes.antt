@@ -16,7 +16,8 @@ use Rattle.state_tables.specs.declared.entries.Entered.{Entered}
 use Rattle.state_tables.specs.declared.entries.Entered.the-variants as Entered′
 use Rattle.state_tables.specs.Entries.{entryOf, onEntry}
 use Rattle.parse.specs.Reads.{u16At}
-use Rattle.machine.specs.Entry.{isSet, classHere}
+use Rattle.laws.specs.Bits.{isSet}
+use Rattle.machine.specs.Entry.{classHere}
 use Rattle.machine.specs.Stall.{stalled}
 use Rattle.machine.specs.Pass.{isDone}
 use Rattle.machine.proofs.Stalls.{stall-falls}

@@ -20,7 +20,7 @@ use Rattle.line.specs.Changes.{applyAll}
 use Rattle.machine.specs.Head.{bodyOf}
 use Rattle.machine.specs.Pass.{Passed}
 use Rattle.machine.specs.Call as Call′
-use Rattle.machine.specs.Call.{headTest, onMade, called}
+use Rattle.machine.specs.Call.{headTest, passTests, refusedCall, onMade}
 use Rattle.insertion.specs.Lists.{movedBy}
 use Rattle.insertion.specs.Insertion.{stopped, next, passed}
 use Rattle.insertion.specs.declared.Inserted.the-variants as Inserted′
@@ -41,8 +41,7 @@ workLeaves bytes l = applyAll (worked bytes l .changes) l
 
 -- a call of the pass on the subtable at `start`: TABLE, LINE, HEAD, then the pass
 unfoldable pub passCall : List ℕ → (start : ℕ) → Line → Passed
-passCall table start l =
-    called (length table) l (opened (drop start table)) (λ states. passed (bodyOf (drop start table)) states l)
+passCall table start l = refusedCall (refuse (passTests (length table) l (opened (drop start table)))) (worked (drop start table) l)
 
 -- the line that it leaves
 unfoldable pub callLeaves : List ℕ → (start : ℕ) → Line → Line

@@ -12,7 +12,8 @@ use Rattle.state_tables.specs.declared.entries.Entry.{Entry}
 use Rattle.state_tables.specs.Entries.{entryOf, onEntry}
 use Rattle.line.specs.Line.{Line}
 use Rattle.line.specs.Changes.{applyAll}
-use Rattle.machine.specs.Entry.{isSet, classHere}
+use Rattle.laws.specs.Bits.{isSet}
+use Rattle.machine.specs.Entry.{classHere}
 use Rattle.machine.specs.Stall.{stalled}
 use Rattle.machine.specs.declared.Stalled.{Stalled}
 use Rattle.machine.specs.Pass.{Machine, Passed, passOf}

@@ -430,7 +430,7 @@ impl InsertionState {
 }
 
 // The state table of the subtable that the bytes begin with; the number at 16, where the glyphs begin, can be read too.
-fn open(bytes: &[u8]) -> Made
+pub fn open(bytes: &[u8]) -> Made
     ensures { λ r. ⌜ r ≡ opened (now (bytes .entry)) ⌝ }
 {
     let parse::ReadU32::Got(_) = parse::read_u32(parse::from(bytes, 12), 16) else {

@@ -13,8 +13,9 @@ use Rattle.parse.specs.declared.ReadU16.the-variants as U16
 use Rattle.parse.specs.declared.ReadU32.{ReadU32}
 use Rattle.parse.specs.declared.ReadU32.the-variants as U32
 use Rattle.parse.proofs.Laws.{readU16-short, readU32-short}
-use Rattle.machine.specs.Entry.{isSet}
-use Rattle.kerning_lists.specs.Walk.{either, u16OrZero, u32OrZero}
+use Rattle.laws.specs.Bits.{isSet}
+use Rattle.laws.specs.Lists.{either}
+use Rattle.kerning_lists.specs.Walk.{u16OrZero, u32OrZero}
 use Rattle.kerning_lists.specs.declared.Subtable.{Subtable}
 use Rattle.kerning_lists.specs.declared.Head.{Head}
 use Rattle.kerning_lists.specs.declared.Head.the-variants.{At, Cut}

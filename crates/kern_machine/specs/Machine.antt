@@ -12,7 +12,7 @@ use Rattle.state_tables.specs.declared.Made.{Made}
 use Rattle.state_tables.specs.declared.Made.the-variants as Made′
 use Rattle.state_tables.specs.States.{classicAt}
 use Rattle.line.specs.Line.{Line}
-use Rattle.machine.specs.Entry.{isSet}
+use Rattle.laws.specs.Bits.{isSet}
 use Rattle.kerning.specs.Additions.{Kerned}
 use Rattle.kerning_machine.specs.Machine as Kerning′
 use Rattle.kerning_machine.specs.Machine.{Stepped}

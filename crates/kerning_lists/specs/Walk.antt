@@ -1,6 +1,5 @@
 -- The walk of a list: its heads, from the table alone.
 use Prim.Native.Nat.{ℕ, zero, suc}
-use mathlib.Core.Bool.{Bool, true, cond}
 use mathlib.Core.List.{List, [], _∷_}
 use lib.ListN.{length, take, drop}
 use Rattle.laws.specs.Choose.{ifLt, ifEq}
@@ -12,10 +11,6 @@ use Rattle.answers.specs.declared.Answer.the-variants as Answer′
 use Rattle.kerning_lists.specs.declared.Subtable.{Subtable}
 use Rattle.kerning_lists.specs.declared.Head.{Head}
 use Rattle.kerning_lists.specs.declared.Head.the-variants.{At, Cut}
-
--- one of two tests holds
-abbrev pub either : Bool → Bool → Bool
-either a b = cond a true b
 
 -- a number of a list's own head, 0 where it can't be read
 abbrev pub u16OrZero : List ℕ → ℕ → ℕ

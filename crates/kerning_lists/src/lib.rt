@@ -8,7 +8,8 @@ ghost use lib.ListN.{length};
 ghost use Rattle.laws.specs.Backward.{backward};
 ghost use Rattle.answers.specs.Refuse.{refuse};
 ghost use Rattle.line.specs.Line.{lineOf};
-ghost use Rattle.kerning_lists.specs.Walk.{either, u16OrZero, u32OrZero, listBytes};
+ghost use Rattle.laws.specs.Lists.{either};
+ghost use Rattle.kerning_lists.specs.Walk.{u16OrZero, u32OrZero, listBytes};
 ghost use Rattle.kerning_lists.specs.Run.{zeros, runTests};
 
 // A subtable by its head: whether a run passes over it, whether it goes the other way round, its format, where it begins and where the next does.

@@ -20,7 +20,7 @@ use Rattle.state_tables.specs.declared.entries.Entry.{Entry}
 use Rattle.state_tables.specs.Classes.{classOf}
 use Rattle.state_tables.specs.Entries.{entryOf, onEntry}
 use Rattle.line.specs.Line.{Line}
-use Rattle.machine.specs.Entry.{isSet}
+use Rattle.laws.specs.Bits.{isSet}
 use Rattle.machine.specs.Stall.{stalled}
 use Rattle.machine.specs.Pass.{isDone}
 use Rattle.kerning.specs.Additions.{Addition, Kerned, after, nothingAdded, calledBy}

@@ -6,8 +6,9 @@ use mathlib.Core.List.{List, []}
 use native.Mathlib.Omega.{arith}
 use lib.ListN.{length, drop, drop-of-length-le}
 use Rattle.parse.proofs.Laws.{readU32-short}
-use Rattle.machine.specs.Entry.{isSet}
-use Rattle.kerning_lists.specs.Walk.{either, u16OrZero, u32OrZero}
+use Rattle.laws.specs.Bits.{isSet}
+use Rattle.laws.specs.Lists.{either}
+use Rattle.kerning_lists.specs.Walk.{u16OrZero, u32OrZero}
 use Rattle.kerning_lists.specs.declared.Head.{Head}
 use Rattle.kerning_lists.specs.declared.Head.the-variants.{Cut}
 use Rattle.kerx.specs.Heads.{shouldReverse, subtableOf, headIn, headAt, listOf}

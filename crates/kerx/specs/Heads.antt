@@ -3,11 +3,12 @@ use Prim.Native.Nat.{ℕ, _+_, _%_}
 use mathlib.Core.Bool.{Bool, not, cond}
 use mathlib.Core.List.{List}
 use lib.ListN.{drop}
+use Rattle.laws.specs.Lists.{either}
 use Rattle.laws.specs.Choose.{ifLt}
 use Rattle.parse.specs.Reads.{readU32}
 use Rattle.parse.specs.Use.{onU32}
-use Rattle.machine.specs.Entry.{isSet}
-use Rattle.kerning_lists.specs.Walk.{either, u16OrZero, u32OrZero, heads}
+use Rattle.laws.specs.Bits.{isSet}
+use Rattle.kerning_lists.specs.Walk.{u16OrZero, u32OrZero, heads}
 use Rattle.kerning_lists.specs.declared.Subtable.{Subtable}
 use Rattle.kerning_lists.specs.declared.Head.{Head}
 use Rattle.kerning_lists.specs.declared.Head.the-variants.{At, Cut}

@@ -12,7 +12,6 @@ ghost use Prim.Native.Nat.{_<_, _≤_, _^_};
 ghost use lib.ListN.{length};
 ghost use Rattle.answers.specs.Limits.{room};
 ghost use Rattle.laws.specs.Backward.{backward};
-ghost use Rattle.machine.specs.Entry.{isSet};
 ghost use Rattle.line.specs.Line.{lineOf};
 ghost use Rattle.kerning.specs.Additions.{addAll, Within};
 ghost use Rattle.kerning_lists.specs.Walk.{walkAnswer, visited, heads};
@@ -35,29 +34,24 @@ pub struct List {
     pub count: u32,
 }
 
-// Whether a bit of the coverage is set; masks are powers of two.
-fn is_set(coverage: u32, mask: u32) -> bool
-    requires { ⌜ 1 ≤ mask ⌝ }
-    ensures { λ r. ⌜ r ≡ isSet coverage mask ⌝ }
-{
-    coverage / mask % 2 == 1
-}
-
 // Whether a run passes over a subtable: a vertical one, a cross-stream one, or one with variations.
 fn passed_over(coverage: u32) -> bool
     ensures { λ r. ⌜ r ≡ subtableOf false 0 0 coverage .«passed_over» ⌝ }
 {
-    if is_set(coverage, VERTICAL) {
+    if parse::is_set(coverage, VERTICAL) {
         return true;
     }
-    kerning_lists::one_of(is_set(coverage, CROSS_STREAM), is_set(coverage, VARIATIONS))
+    kerning_lists::one_of(
+        parse::is_set(coverage, CROSS_STREAM),
+        parse::is_set(coverage, VARIATIONS),
+    )
 }
 
 // Whether a subtable goes through the line the other way round.
 fn should_reverse(coverage: u32, rtl: bool) -> bool
     ensures { λ r. ⌜ r ≡ shouldReverse coverage rtl ⌝ }
 {
-    if is_set(coverage, BACKWARD) {
+    if parse::is_set(coverage, BACKWARD) {
         return !rtl;
     }
     rtl

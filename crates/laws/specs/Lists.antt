@@ -13,6 +13,11 @@ abbrev pub both : Bool → Bool → Bool
 both true b = b
 both false b = false
 
+-- one of two tests holds
+abbrev pub either : Bool → Bool → Bool
+either true b = true
+either false b = b
+
 -- the test holds for every number below n
 unfoldable pub every : (ℕ → Bool) → ℕ → Bool
 every f zero = true

@@ -6,7 +6,7 @@ use mathlib.Core.List.{List, [], _∷_}
 use native.Mathlib.Omega.{arith}
 use lib.ListN.{length, drop}
 use borrow.Author.Tests.{lt-ltb, le-ltb, ltb-false}
-use Rattle.answers.proofs.Refusals.{refuse-none, refuse-here, refuse-later, passed-here, passed-later, alone-refused, alone-passed}
+use Rattle.answers.proofs.Refusals.{refuse-here, refuse-later, passed-here}
 use Rattle.answers.specs.Refuse.{Test, refuse, tableTest}
 use Rattle.answers.specs.declared.Refusal.{Refusal}
 use Rattle.answers.specs.declared.Refusal.the-variants as Refusal′
@@ -18,15 +18,16 @@ use Rattle.state_tables.specs.declared.States.{States}
 use Rattle.state_tables.specs.declared.Made.{Made}
 use Rattle.state_tables.specs.declared.Made.the-variants as Made′
 use Rattle.line.specs.Line.{Line, lineOf}
-use Rattle.line.specs.Test.{isValid, lineTest}
+use Rattle.line.specs.Test.{isValid}
 use Rattle.line.specs.Changes.{applyAll}
-use Rattle.line.proofs.Refusals.{refuse-line, refuse-past-line, passed-line}
 use Rattle.machine.specs.Head.{bodyOf}
 use Rattle.machine.specs.Pass.{Stepped, Passed}
-use Rattle.machine.specs.Call.{headTest, passTests}
-use Rattle.machine.proofs.Calls.{taken-line}
-use Rattle.ligature.specs.Ligature.{stackIn, Ran, next, advanceOf, stateOf, stepped, stepOf, machine, passed, passLeaves}
-use Rattle.ligature.specs.Calls.{opened, worked, workLeaves, passCall, placeTest, depthTest, areInside, stackTest, stepTests, refusedStep, stepCall, stepLeaves}
+use Rattle.machine.specs.Call.{headTest, passTests, refusedStep}
+use Rattle.machine.proofs.Calls as Machine′
+use Rattle.machine.proofs.Calls.{taken-line, past-place, stepped-line, stepped-later, head-refused, head-passed}
+use Rattle.ligature.specs.Ligature.{stackIn, Ran, next, stateOf, stepped, stepOf, machine, passed, passLeaves}
+use Rattle.machine.specs.Pass.{advanceOf}
+use Rattle.ligature.specs.Calls.{opened, worked, workLeaves, passCall, depthTest, areInside, stackTest, stepTests, stepCall, stepLeaves}
 use Rattle.ligature.specs.declared.LigatureState.{LigatureState}
 use Rattle.ligature.specs.declared.LigatureStep.{LigatureStep}
 use Rattle.ligature.specs.declared.Reached.{Reached}
@@ -84,60 +85,53 @@ module _ (n : ℕ) (glyphs tags homes : List ℕ) (used : ℕ) (made : Made) {ch
   taken-fits = let v = taken-line n (lineOf glyphs tags homes used) made (sym k ∙ e) in (v .within, omega (arith, v .within, v .paired))
 
 -- the tests before a step, in the code's order
-module _ (n : ℕ) (l : Line) (index : ℕ) (s : LigatureState) (made : Made) {check : Check} (e : check ≡ refuse (tableTest n ∷ [])) where
-  abbrev behind : List Test
-  behind = lineTest l ∷ placeTest l index ∷ depthTest s ∷ stackTest l s ∷ headTest made ∷ []
+module _ (n : ℕ) (l : Line) (index : ℕ) (s : LigatureState) (made : Made) where
+  abbrev later : List Test
+  later = depthTest s ∷ stackTest l s ∷ headTest made ∷ []
 
-  pub step-table : {why : Refusal} → check ≡ Check′.Refused why → Check′.Refused why ≡ refuse (stepTests n l index s made)
-  unfolding stepTests
-  step-table f = sym (alone-refused (tableTest n) behind _ (sym e ∙ f))
-
-  module _ {taken : Bool} (f : check ≡ Check′.Passed) (t : taken ≡ isValid l) where
-    to-line : refuse (stepTests n l index s made) ≡ refuse behind
+  module _ {check : Check} (e : check ≡ refuse (tableTest n ∷ [])) where
+    pub step-table : {why : Refusal} → check ≡ Check′.Refused why → Check′.Refused why ≡ refuse (stepTests n l index s made)
     unfolding stepTests
-    to-line = alone-passed (tableTest n) behind (sym e ∙ f)
+    step-table f = Machine′.step-table n l index later e f
 
-    pub step-line : not taken ≡ true → Check′.Refused Refusal′.Line ≡ refuse (stepTests n l index s made)
-    step-line h = sym (to-line ∙ refuse-line l _ t h)
+    module _ {taken : Bool} (f : check ≡ Check′.Passed) (t : taken ≡ isValid l) where
+      pub step-line : not taken ≡ true → Check′.Refused Refusal′.Line ≡ refuse (stepTests n l index s made)
+      unfolding stepTests
+      step-line h = Machine′.step-line n l index later e f t h
 
-    module _ (h : not taken ≡ false) where
-      to-place : refuse (stepTests n l index s made) ≡ refuse (placeTest l index ∷ depthTest s ∷ stackTest l s ∷ headTest made ∷ [])
-      to-place = to-line ∙ refuse-past-line l _ t h
+      module _ (h : not taken ≡ false) where
+        pub step-place : l .used < index → Check′.Refused Refusal′.Place ≡ refuse (stepTests n l index s made)
+        unfolding stepTests
+        step-place p = Machine′.step-place n l index later e f t h p
 
-      pub step-place : l .used < index → Check′.Refused Refusal′.Place ≡ refuse (stepTests n l index s made)
-      unfolding placeTest
-      step-place p = sym (to-place ∙ refuse-here _ _ (lt-ltb (l .used) index p))
+        module _ (p : index ≤ l .used) where
+          to-depth : refuse (stepTests n l index s made) ≡ refuse later
+          unfolding stepTests
+          to-depth = past-place n l index later e f t h p
 
-      module _ (p : index ≤ l .used) where
-        to-depth : refuse (stepTests n l index s made) ≡ refuse (depthTest s ∷ stackTest l s ∷ headTest made ∷ [])
-        unfolding placeTest
-        to-depth = to-place ∙ refuse-later _ _ (le-ltb (l .used) index p)
-
-        pub step-depth : 32 < s .depth → Check′.Refused Refusal′.State ≡ refuse (stepTests n l index s made)
-        unfolding depthTest
-        step-depth q = sym (to-depth ∙ refuse-here _ _ (lt-ltb 32 (s .depth) q))
-
-        module _ {inside : Bool} (q : s .depth ≤ 32) (i : inside ≡ areInside (s .places) (s .depth) (l .used)) where
-          to-stack : refuse (stepTests n l index s made) ≡ refuse (stackTest l s ∷ headTest made ∷ [])
+          pub step-depth : 32 < s .depth → Check′.Refused Refusal′.State ≡ refuse (stepTests n l index s made)
           unfolding depthTest
-          to-stack = to-depth ∙ refuse-later _ _ (le-ltb 32 (s .depth) q)
+          step-depth q = sym (to-depth ∙ refuse-here _ _ (lt-ltb 32 (s .depth) q))
 
-          pub step-stack : not inside ≡ true → Check′.Refused Refusal′.State ≡ refuse (stepTests n l index s made)
-          unfolding stackTest
-          step-stack o = sym (to-stack ∙ refuse-here (stackTest l s) (headTest made ∷ []) (ap not (sym i) ∙ o))
+          module _ {inside : Bool} (q : s .depth ≤ 32) (i : inside ≡ areInside (s .places) (s .depth) (l .used)) where
+            to-stack : refuse (stepTests n l index s made) ≡ refuse (stackTest l s ∷ headTest made ∷ [])
+            unfolding depthTest
+            to-stack = to-depth ∙ refuse-later _ _ (le-ltb 32 (s .depth) q)
 
-          module _ (o : not inside ≡ false) where
-            to-head : refuse (stepTests n l index s made) ≡ refuse (headTest made ∷ [])
+            pub step-stack : not inside ≡ true → Check′.Refused Refusal′.State ≡ refuse (stepTests n l index s made)
             unfolding stackTest
-            to-head = to-stack ∙ refuse-later (stackTest l s) (headTest made ∷ []) (ap not (sym i) ∙ o)
+            step-stack o = sym (to-stack ∙ refuse-here (stackTest l s) (headTest made ∷ []) (ap not (sym i) ∙ o))
 
-            pub step-head : made ≡ Made′.Short → Check′.Refused Refusal′.Head ≡ refuse (stepTests n l index s made)
-            unfolding headTest
-            step-head m = sym (to-head ∙ refuse-here (headTest made) [] (rw m))
+            module _ (o : not inside ≡ false) where
+              to-head : refuse (stepTests n l index s made) ≡ refuse (headTest made ∷ [])
+              unfolding stackTest
+              to-head = to-stack ∙ refuse-later (stackTest l s) (headTest made ∷ []) (ap not (sym i) ∙ o)
 
-            pub step-passed : {states : States} → made ≡ Made′.Ready states → Check′.Passed ≡ refuse (stepTests n l index s made)
-            unfolding headTest
-            step-passed m = sym (to-head ∙ refuse-later (headTest made) [] (rw m) ∙ refuse-none)
+              pub step-head : made ≡ Made′.Short → Check′.Refused Refusal′.Head ≡ refuse (stepTests n l index s made)
+              step-head m = sym (to-head ∙ head-refused made m)
+
+              pub step-passed : {states : States} → made ≡ Made′.Ready states → Check′.Passed ≡ refuse (stepTests n l index s made)
+              step-passed m = sym (to-head ∙ head-passed made m)
 
 -- what a step has whose call the tests pass: its used places and its stack's depth
 module _ (n : ℕ) (glyphs tags homes : List ℕ) (used index : ℕ) (s : LigatureState) (made : Made) {check : Check}
@@ -145,20 +139,18 @@ module _ (n : ℕ) (glyphs tags homes : List ℕ) (used index : ℕ) (s : Ligatu
   abbrev line : Line
   line = lineOf glyphs tags homes used
 
-  past-table : refuse (lineTest line ∷ placeTest line index ∷ depthTest s ∷ stackTest line s ∷ headTest made ∷ []) ≡ Check′.Passed
-  unfolding stepTests
-  past-table = passed-later (tableTest n) (lineTest line ∷ placeTest line index ∷ depthTest s ∷ stackTest line s ∷ headTest made ∷ []) (sym k ∙ e)
-
   shallow : s .depth ≤ 32
-  unfolding depthTest
+  unfolding stepTests depthTest
   shallow =
       ltb-false 32 (s .depth)
       (passed-here (depthTest s) (stackTest line s ∷ headTest made ∷ [])
-      (passed-later (placeTest line index) (depthTest s ∷ stackTest line s ∷ headTest made ∷ [])
-      (passed-later (lineTest line) (placeTest line index ∷ depthTest s ∷ stackTest line s ∷ headTest made ∷ []) past-table)))
+      (stepped-later n line index (depthTest s ∷ stackTest line s ∷ headTest made ∷ []) (sym k ∙ e)))
 
   pub step-fits : (s .depth ≤ 32) × (used ≤ length glyphs) × (used ≤ length tags)
-  step-fits = let v = passed-line line _ past-table in (shallow, v .within, omega (arith, v .within, v .paired))
+  unfolding stepTests
+  step-fits =
+      let v = stepped-line n line index (depthTest s ∷ stackTest line s ∷ headTest made ∷ []) (sym k ∙ e) in
+      (shallow, v .within, omega (arith, v .within, v .paired))
 
 -- what a call of the step answers and leaves
 pub record StepEnds (table : List ℕ) (start : ℕ) (s : LigatureState) (l : Line) (index glyph : ℕ) (ends : Bool) (step : LigatureStep) (glyphs homes : List ℕ) : Type 0 where

@@ -7,7 +7,7 @@ use borrow.Author.Tests.{leb-false, not-true, not-false}
 use Rattle.parse.specs.Reads.{u16At}
 use Rattle.state_tables.specs.declared.entries.Entry.{Entry}
 use Rattle.line.specs.Line.{Line}
-use Rattle.machine.specs.Entry.{isSet}
+use Rattle.laws.specs.Bits.{isSet}
 use Rattle.ligature.specs.Ligature.{Stack, stackOf, ligated, acts, didActs, Work, overflows, pushed, performed, entered, didWork}
 use Rattle.ligature.specs.declared.Did.{Did}
 use Rattle.ligature.proofs.Ligations.{ligated-none}

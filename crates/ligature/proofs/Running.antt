@@ -16,7 +16,8 @@ use Rattle.state_tables.specs.declared.entries.Entered.{Entered}
 use Rattle.state_tables.specs.declared.entries.Entered.the-variants as Entered′
 use Rattle.state_tables.specs.Entries.{entryOf, onEntry}
 use Rattle.line.specs.Line.{Line, lineOf}
-use Rattle.machine.specs.Entry.{isSet, classHere}
+use Rattle.laws.specs.Bits.{isSet}
+use Rattle.machine.specs.Entry.{classHere}
 use Rattle.ligature.specs.Ligature.{Stack, stackOf, Ligation, ligated, Work, entered, Ran, over, ran, next, reached}
 use Rattle.ligature.specs.declared.Did.{Did}
 use Rattle.ligature.specs.declared.Reached.{Reached}

@@ -5,22 +5,18 @@ use mathlib.Core.Bool.{Bool, true, false, cond}
 use mathlib.Core.List.{List}
 use lib.IntN.{ℤ, pos, negsuc, _+ℤ_, _-ℤ_}
 use Rattle.laws.specs.Choose.{ifLt, ifEq}
+use Rattle.laws.specs.Lists.{either}
 use Rattle.parse.specs.Reads.{readU16, readU32}
 use Rattle.parse.specs.Use.{onU16, onU32}
 use Rattle.parse.specs.declared.ReadU16.{ReadU16}
 use Rattle.parse.specs.declared.ReadU16.the-variants as U16
 use Rattle.parse.specs.declared.ReadU32.{ReadU32}
 use Rattle.parse.specs.declared.ReadU32.the-variants as U32
-use Rattle.machine.specs.Entry.{isSet}
+use Rattle.laws.specs.Bits.{isSet}
 use Rattle.ligature.specs.declared.actions.Component.{Component}
 use Rattle.ligature.specs.declared.actions.Component.the-variants as Component′
 use Rattle.ligature.specs.declared.actions.Action.{Action}
 use Rattle.ligature.specs.declared.actions.Action.the-variants.{Ended, Adds, Makes}
-
--- one of two tests holds
-abbrev pub either : Bool → Bool → Bool
-either true b = true
-either false b = b
 
 -- the signed value of a 32-bit number: from 2^31 on it is less by 2^32
 unfoldable pub signed32 : ℕ → ℤ

@@ -5,24 +5,18 @@ use mathlib.Core.List.{List, [], _∷_}
 use lib.Dec.{ltb, leb}
 use lib.ListN.{length, getD, drop}
 use Rattle.laws.specs.Lists.{every}
-use Rattle.answers.specs.Refuse.{Test, refuse, tableTest}
-use Rattle.answers.specs.declared.Refusal.{Refusal}
+use Rattle.answers.specs.Refuse.{Test, refuse}
 use Rattle.answers.specs.declared.Refusal.the-variants as Refusal′
-use Rattle.answers.specs.declared.Answer.the-variants as Answer′
-use Rattle.answers.specs.declared.Check.{Check}
-use Rattle.answers.specs.declared.Check.the-variants as Check′
 use Rattle.parse.specs.Reads.{readU32}
 use Rattle.parse.specs.Use.{onU32}
-use Rattle.state_tables.specs.declared.States.{States}
 use Rattle.state_tables.specs.declared.Made.{Made}
 use Rattle.state_tables.specs.declared.Made.the-variants as Made′
 use Rattle.line.specs.Line.{Line}
-use Rattle.line.specs.Test.{lineTest}
 use Rattle.line.specs.Changes.{applyAll}
 use Rattle.machine.specs.Head.{bodyOf}
 use Rattle.machine.specs.Pass.{Stepped, Passed}
 use Rattle.machine.specs.Call as Call′
-use Rattle.machine.specs.Call.{headTest, passTests, refusedCall, onMade}
+use Rattle.machine.specs.Call.{headTest, passTests, refusedCall, onMade, lineStepTests, stepBy}
 use Rattle.ligature.specs.Ligature.{machine, passed}
 use Rattle.ligature.specs.declared.LigatureState.{LigatureState}
 
@@ -47,10 +41,6 @@ passCall table start l = refusedCall (refuse (passTests (length table) l (opened
 unfoldable pub callLeaves : List ℕ → (start : ℕ) → Line → Line
 callLeaves table start l = applyAll (passCall table start l .changes) l
 
--- PLACE: the index is above the used length
-unfoldable pub placeTest : Line → (index : ℕ) → Test
-placeTest l index = record { holds = ltb (l .used) index; refusal = Refusal′.Place }
-
 -- STATE: more than 32 slots are used, or the place of a used one is above the length
 unfoldable pub depthTest : LigatureState → Test
 depthTest s = record { holds = ltb 32 (s .depth); refusal = Refusal′.State }
@@ -63,18 +53,7 @@ stackTest l s = record { holds = not (areInside (s .places) (s .depth) (l .used)
 
 -- TABLE, LINE, PLACE, STATE, HEAD
 unfoldable pub stepTests : (length : ℕ) → Line → (index : ℕ) → LigatureState → Made → List Test
-stepTests length l index s made =
-    tableTest length ∷ lineTest l ∷ placeTest l index ∷ depthTest s ∷ stackTest l s ∷ headTest made ∷ []
-
--- a refused step hands its state back as given, and changes nothing
-abbrev pub refusedStep : Refusal → LigatureState → Stepped LigatureState
-refusedStep why s = record { answer = Answer′.Refused why; state = s; advance = 0; changes = [] }
-
--- by the tests and the state table; without one the call is refused by HEAD
-abbrev pub stepBy : Check → Made → LigatureState → (States → Stepped LigatureState) → Stepped LigatureState
-stepBy (Check′.Refused why) made s work = refusedStep why s
-stepBy Check′.Passed Made′.Short s work = refusedStep Refusal′.Head s
-stepBy Check′.Passed (Made′.Ready states) s work = work states
+stepTests length l index s made = lineStepTests length l index (depthTest s ∷ stackTest l s ∷ headTest made ∷ [])
 
 -- a call of the step on the subtable at `start`
 unfoldable pub stepCall : List ℕ → (start : ℕ) → LigatureState → Line → (index glyph : ℕ) → (ends : Bool) → Stepped LigatureState

@@ -4,7 +4,7 @@ use mathlib.Core.Bool.{Bool, true, false, cond, not}
 use mathlib.Core.List.{List, [], _∷_, _++_}
 use lib.Dec.{ltb, leb}
 use lib.ListN.{getD, set, take, drop}
-use Rattle.laws.specs.Lists.{both, tab}
+use Rattle.laws.specs.Lists.{both, either, tab}
 use Rattle.answers.specs.declared.Answer.{Answer}
 use Rattle.answers.specs.declared.Answer.the-variants as Answer′
 use Rattle.parse.specs.Reads.{u16At}
@@ -13,9 +13,10 @@ use Rattle.state_tables.specs.declared.entries.Entry.{Entry}
 use Rattle.state_tables.specs.Entries.{entryOf, onEntry}
 use Rattle.line.specs.Line.{Line}
 use Rattle.line.specs.Changes.{Change, applyAll}
-use Rattle.machine.specs.Entry.{isSet, classHere}
-use Rattle.machine.specs.Pass.{Stepped, Machine, Passed, isDone, passOf}
-use Rattle.ligature.specs.Actions.{either, actionOf}
+use Rattle.laws.specs.Bits.{isSet}
+use Rattle.machine.specs.Entry.{classHere}
+use Rattle.machine.specs.Pass.{Stepped, Machine, Passed, advanceOf, passOf}
+use Rattle.ligature.specs.Actions.{actionOf}
 use Rattle.ligature.specs.declared.actions.Action.{Action}
 use Rattle.ligature.specs.declared.actions.Action.the-variants as Action′
 use Rattle.ligature.specs.declared.Turn.{Turn}
@@ -188,10 +189,6 @@ module _ (bytes : List ℕ) (states : States) (index glyph class : ℕ) where
 -- a step: the class of the place or of the end of text, then the entries, with one cycle count for them and their actions
 unfoldable pub next : List ℕ → States → (state : ℕ) → Stack → (index glyph : ℕ) → (ends : Bool) → Ran
 next bytes states state stack index glyph ends = ran bytes states index glyph (classHere bytes states glyph ends) 18 state stack 0 []
-
--- the advance is 1 when DONE
-abbrev pub advanceOf : Answer → ℕ
-advanceOf answer = cond (isDone answer) 1 0
 
 abbrev pub stateOf : Ran → LigatureState
 stateOf r =

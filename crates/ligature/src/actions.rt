@@ -5,7 +5,6 @@ use parse::ReadU32;
 ghost use mathlib.Core.Path.{_≡_};
 ghost use Prim.Native.Nat.{_+_, _<_, _≤_};
 ghost use lib.Signed.{mag};
-ghost use Rattle.machine.specs.Entry.{isSet};
 ghost use Rattle.ligature.specs.Actions.{signed32, offsetOf, componentOf, readAction, readNumber, stores, madeBy, actionOf, sumOf};
 
 // The number of a component; there is none below 0.
@@ -74,22 +73,14 @@ fn read_number(bytes: &[u8], head: usize, number: u32) -> ReadU16
     parse::read_u16(bytes, list as usize + number as usize * 2)
 }
 
-// Whether a flag of an action is set; masks are powers of two.
-fn is_set(action: u32, mask: u32) -> bool
-    requires { ⌜ 1 ≤ mask ⌝ }
-    ensures { λ r. ⌜ r ≡ isSet action mask ⌝ }
-{
-    action / mask % 2 == 1
-}
-
 // Whether an action makes a ligature.
 fn stores(action: u32) -> bool
     ensures { λ r. ⌜ r ≡ stores action ⌝ }
 {
-    if is_set(action, LigatureState::LAST) {
+    if parse::is_set(action, LigatureState::LAST) {
         return true;
     }
-    is_set(action, LigatureState::STORE)
+    parse::is_set(action, LigatureState::STORE)
 }
 
 // What an action does by its flags, with its component in the sum.
@@ -103,7 +94,7 @@ fn made_by(bytes: &[u8], action: u32, sum: u32) -> Action
     let ReadU16::Got(ligature) = read_number(bytes, 24, sum) else {
         return Action::Ended;
     };
-    let last = is_set(action, LigatureState::LAST);
+    let last = parse::is_set(action, LigatureState::LAST);
     Action::Makes {
         sum,
         ligature,

@@ -17,7 +17,8 @@ ghost use Prim.Native.Nat.{_+_, _<_, _≤_};
 ghost use lib.ListN.{length};
 ghost use Rattle.answers.specs.Refuse.{refuse};
 ghost use Rattle.line.specs.Line.{lineOf};
-ghost use Rattle.ligature.specs.Ligature.{stackOf, fresh, ligated, ligationsOf, storedIn, turnOf, acts, didActs, overflows, pushed, entered, didWork, next, advanceOf, reached, stepOf, passed, passLeaves};
+ghost use Rattle.ligature.specs.Ligature.{stackOf, fresh, ligated, ligationsOf, storedIn, turnOf, acts, didActs, overflows, pushed, entered, didWork, next, reached, stepOf, passed, passLeaves};
+ghost use Rattle.machine.specs.Pass.{advanceOf};
 ghost use Rattle.ligature.specs.Calls.{opened, worked, workLeaves, passCall, callLeaves, areInside, stepTests, stepCall, stepLeaves};
 
 // The state of a pass: the state table's state, and the stack, a place and a glyph for each slot, of which the first `depth` are used.
@@ -535,7 +536,7 @@ fn advance_of(answer: Answer) -> usize
 }
 
 // The state table of the subtable that the bytes begin with; the numbers at 16, 20 and 24, where its lists are, can be read too.
-fn open(bytes: &[u8]) -> Made
+pub fn open(bytes: &[u8]) -> Made
     ensures { λ r. ⌜ r ≡ opened (now (bytes .entry)) ⌝ }
 {
     let parse::ReadU32::Got(_) = parse::read_u32(parse::from(bytes, 12), 24) else {

@@ -1,9 +1,9 @@
--- The tests before a pass, from what the code has tested; and what a call that they pass has.
-use Prim.Native.Nat.{ℕ}
+-- The tests before a pass or a step, from what the code has tested; and what a call that they pass has.
+use Prim.Native.Nat.{ℕ, _<_, _≤_}
 use mathlib.Core.Path.{_≡_, refl, sym, _∙_}
 use mathlib.Core.Bool.{Bool, true, false, not}
 use mathlib.Core.List.{List, [], _∷_}
-use native.Mathlib.Omega.{arith}
+use borrow.Author.Tests.{lt-ltb, le-ltb}
 use Rattle.answers.proofs.Refusals.{refuse-none, refuse-here, refuse-later, passed-later, alone-refused, alone-passed}
 use Rattle.answers.specs.Refuse.{Test, refuse, tableTest}
 use Rattle.answers.specs.declared.Refusal.{Refusal}
@@ -16,9 +16,7 @@ use Rattle.state_tables.specs.declared.Made.the-variants.{Ready, Short}
 use Rattle.line.specs.Line.{Line, Valid}
 use Rattle.line.specs.Test.{isValid, lineTest}
 use Rattle.line.proofs.Refusals.{refuse-line, refuse-past-line, passed-line}
-use Rattle.machine.specs.Call.{isShort, headTest, passTests, called}
-use Rattle.machine.specs.Pass as Done
-use Rattle.answers.specs.declared.Answer.the-variants as Answer′
+use Rattle.machine.specs.Call.{isShort, headTest, passTests, placeTest, lineStepTests}
 
 module _ (length : ℕ) (l : Line) (made : Made) {r : Check} (e : r ≡ refuse (tableTest length ∷ [])) where
   pub pass-table : {why : Refusal} → r ≡ Refused why → Refused why ≡ refuse (passTests length l made)
@@ -46,16 +44,53 @@ pub taken-line : (length : ℕ) (l : Line) (made : Made) → refuse (passTests l
 unfolding passTests
 taken-line length l made e = passed-line l (headTest made ∷ []) (passed-later (tableTest length) (lineTest l ∷ headTest made ∷ []) e)
 
--- what a call answers and changes, by its tests and its state table
-module _ (length : ℕ) (l : Line) (made : Made) (work : States → Done.Passed) {check : Check} (k : check ≡ refuse (passTests length l made)) where
-  pub call-refused : {why : Refusal} → check ≡ Refused why → called length l made work ≡ record { answer = Answer′.Refused why; changes = [] }
-  unfolding called
-  call-refused e = rw (sym k ∙ e, called)
+-- the tests before a step that is lent the line, up to those of its state
+module _ (n : ℕ) (l : Line) (index : ℕ) (later : List Test) where
+  module _ {check : Check} (e : check ≡ refuse (tableTest n ∷ [])) where
+    abbrev behind : List Test
+    behind = lineTest l ∷ placeTest l index ∷ later
 
-  pub call-headless : check ≡ Passed → made ≡ Short → called length l made work ≡ record { answer = Answer′.Refused Refusal′.Head; changes = [] }
-  unfolding called
-  call-headless e m = rw (sym k ∙ e, called) (rw m)
+    pub step-table : {why : Refusal} → check ≡ Refused why → Refused why ≡ refuse (lineStepTests n l index later)
+    unfolding lineStepTests
+    step-table f = sym (alone-refused (tableTest n) behind _ (sym e ∙ f))
 
-  pub call-works : {states : States} → check ≡ Passed → made ≡ Ready states → called length l made work ≡ work states
-  unfolding called
-  call-works e m = rw (sym k ∙ e, called) (rw m)
+    module _ {taken : Bool} (f : check ≡ Passed) (t : taken ≡ isValid l) where
+      to-line : refuse (lineStepTests n l index later) ≡ refuse behind
+      unfolding lineStepTests
+      to-line = alone-passed (tableTest n) behind (sym e ∙ f)
+
+      pub step-line : not taken ≡ true → Refused Refusal′.Line ≡ refuse (lineStepTests n l index later)
+      step-line h = sym (to-line ∙ refuse-line l _ t h)
+
+      module _ (h : not taken ≡ false) where
+        to-place : refuse (lineStepTests n l index later) ≡ refuse (placeTest l index ∷ later)
+        to-place = to-line ∙ refuse-past-line l _ t h
+
+        pub step-place : l .used < index → Refused Refusal′.Place ≡ refuse (lineStepTests n l index later)
+        unfolding placeTest
+        step-place p = sym (to-place ∙ refuse-here _ _ (lt-ltb (l .used) index p))
+
+        pub past-place : index ≤ l .used → refuse (lineStepTests n l index later) ≡ refuse later
+        unfolding placeTest
+        past-place p = to-place ∙ refuse-later _ _ (le-ltb (l .used) index p)
+
+  -- a line that a step has taken is valid, and its later tests passed
+  module _ (e : refuse (lineStepTests n l index later) ≡ Passed) where
+    table-passed : refuse (lineTest l ∷ placeTest l index ∷ later) ≡ Passed
+    unfolding lineStepTests
+    table-passed = passed-later (tableTest n) (lineTest l ∷ placeTest l index ∷ later) e
+
+    pub stepped-line : Valid l
+    stepped-line = passed-line l (placeTest l index ∷ later) table-passed
+
+    pub stepped-later : refuse later ≡ Passed
+    stepped-later = passed-later (placeTest l index) later (passed-later (lineTest l) (placeTest l index ∷ later) table-passed)
+
+-- HEAD is the last test
+pub head-refused : (made : Made) → made ≡ Short → refuse (headTest made ∷ []) ≡ Refused Refusal′.Head
+unfolding headTest
+head-refused made m = refuse-here (headTest made) [] (rw m)
+
+pub head-passed : (made : Made) {states : States} → made ≡ Ready states → refuse (headTest made ∷ []) ≡ Passed
+unfolding headTest
+head-passed made m = refuse-later (headTest made) [] (rw m) ∙ refuse-none

@@ -3,4 +3,5 @@ mod Heads
 pub mod Calls
 pub mod Passing
 pub mod Quiet
+pub mod Fitting
 pub mod Stalls

@@ -14,13 +14,12 @@ use Rattle.line.specs.Changes.{Change, historyOf, applyAll}
 use Rattle.line.specs.History.{Fits}
 use Rattle.line.proofs.Histories.{inserted-append, history-append}
 use Rattle.machine.specs.Pass.{Stepped, Machine, Passed, deleted, after, isDone, stepAt, endCall, passFrom}
-use Rattle.answers.specs.Refuse.{refuse}
 use Rattle.answers.specs.declared.Check.{Check}
 use Rattle.answers.specs.declared.Check.the-variants as Check′
 use Rattle.state_tables.specs.declared.States.{States}
 use Rattle.state_tables.specs.declared.Made.{Made}
 use Rattle.state_tables.specs.declared.Made.the-variants as Made′
-use Rattle.machine.specs.Call.{passTests, refusedCall, onMade, called}
+use Rattle.machine.specs.Call.{refusedCall, onMade, stepBy}
 use Rattle.machine.proofs.Passing.{turn-goes, turn-stops, turn-ends}
 
 -- changes that insert nothing
@@ -64,7 +63,8 @@ pub quiet-tested : (check : Check) (work : Passed) → Quiet (work .changes) →
 quiet-tested (Check′.Refused why) work quiet = quiet-none
 quiet-tested Check′.Passed work quiet = quiet
 
-pub quiet-call : (length : ℕ) (l : Line) (made : Made) (work : States → Passed) → ((states : States) → Quiet (work states .changes))
-    → Quiet (called length l made work .changes)
-unfolding called
-quiet-call length l made work quiet = quiet-tested (refuse (passTests length l made)) (onMade made work) (quiet-made made work quiet)
+pub quiet-stepped : {S : Type 0} (check : Check) (made : Made) (s : S) (work : States → Stepped S) → ((states : States) → Quiet (work states .changes))
+    → Quiet (stepBy check made s work .changes)
+quiet-stepped (Check′.Refused why) made s work quiet = quiet-none
+quiet-stepped Check′.Passed Made′.Short s work quiet = quiet-none
+quiet-stepped Check′.Passed (Made′.Ready states) s work quiet = quiet states

@@ -1,6 +1,6 @@
 -- A pass over the places of a line, for any machine.
 use Prim.Native.Nat.{ℕ, zero, suc, _+_}
-use mathlib.Core.Bool.{Bool, true, false}
+use mathlib.Core.Bool.{Bool, true, false, cond}
 use mathlib.Core.List.{List, [], _++_}
 use lib.Dec.{ltb}
 use lib.ListN.{getD}
@@ -42,6 +42,10 @@ isDone Answer′.Full = false
 isDone Answer′.Ended = false
 isDone Answer′.Limit = false
 isDone (Answer′.Refused why) = false
+
+-- the advance of a step that goes on to the next place whenever it is DONE
+abbrev pub advanceOf : Answer → ℕ
+advanceOf answer = cond (isDone answer) 1 0
 
 module _ {S : Type 0} (machine : Machine S) where
   -- the step at a place of the line, with the glyph that stands there

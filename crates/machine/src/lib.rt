@@ -12,7 +12,8 @@ ghost use Rattle.line.specs.Line.{lineOf};
 ghost use Rattle.machine.specs.Head.{hasKind};
 ghost use Rattle.machine.specs.Call.{opened, passTests};
 ghost use Rattle.machine.specs.Pass.{isDone};
-ghost use Rattle.machine.specs.Entry.{isSet, classHere};
+ghost use Rattle.laws.specs.Bits.{isSet};
+ghost use Rattle.machine.specs.Entry.{classHere};
 
 // Whether the next step is at the next place, and how often in a row it was not.
 pub struct Stalled {

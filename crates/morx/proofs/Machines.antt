@@ -51,7 +51,7 @@ use Rattle.insertion.proofs.Honesty as IH
 use Rattle.tables.specs.Lookup.{lookupAt}
 use Rattle.tables.specs.declared.lookup.Found.{Found}
 use Rattle.tables.specs.declared.lookup.Found.the-variants as Found′
-use Rattle.morx.specs.Kinds.{kindOf, kindAt, openedWithPlaces, isOpen, worked, workLeaves, replyOf}
+use Rattle.morx.specs.Kinds.{kindOf, kindAt, worked, workLeaves, replyOf}
 use Rattle.morx.specs.declared.Kind.{Kind}
 use Rattle.morx.specs.declared.Kind.the-variants.{Rearrangement, Contextual, Ligature, NonContextual, Insertion, LeftOut}
 use Rattle.morx.specs.declared.PassReply.{PassReply}
@@ -281,17 +281,3 @@ module _ (bytes : List ℕ) {p : ReadPart} (e : p ≡ readPart bytes 0 12) where
         let a = read in
         let c : coverage ≡ u32At bytes 4 = cc in
         rw (part-inside bytes 0 12 e f, ← c, kindAt) k
-
--- a subtable that tells further places, from what the code has read
-module _ (bytes : List ℕ) (kind last : ℕ) {body : List ℕ} {r : ReadU32} (b : body ≡ drop 12 bytes) (g : r ≡ readU32 body last) where
-  last-read : readU32 (drop 12 bytes) last ≡ r
-  last-read = sym (g ∙ ap (λ (x : List ℕ). readU32 x last) b)
-
-  pub places-unread : r ≡ U32.Short → false ≡ not (Call′.isShort (openedWithPlaces bytes kind last))
-  unfolding openedWithPlaces
-  places-unread e = rw (last-read ∙ e, openedWithPlaces)
-
-  pub places-read : {place : ℕ} {made : Made} {ready : Bool} → r ≡ U32.Got place → made ≡ Call′.opened bytes kind → ready ≡ not (Call′.isShort made)
-      → ready ≡ not (Call′.isShort (openedWithPlaces bytes kind last))
-  unfolding openedWithPlaces
-  places-read e m i = rw (last-read ∙ e, openedWithPlaces) (i ∙ ap (λ (x : Made). not (Call′.isShort x)) m)

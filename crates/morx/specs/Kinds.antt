@@ -5,13 +5,10 @@ use mathlib.Core.List.{List, []}
 use Rattle.laws.specs.Choose.{ifEq}
 use Rattle.answers.specs.declared.Answer.the-variants as Answer′
 use Rattle.answers.specs.declared.Refusal.the-variants as Refusal′
-use Rattle.parse.specs.Reads.{inside, u32At, readU32}
-use Rattle.parse.specs.Use.{onU32}
-use Rattle.state_tables.specs.declared.Made.{Made}
-use Rattle.state_tables.specs.declared.Made.the-variants as Made′
+use Rattle.parse.specs.Reads.{inside, u32At}
 use Rattle.line.specs.Line.{Line}
 use Rattle.line.specs.Changes.{applyAll}
-use Rattle.machine.specs.Head.{hasKind, bodyOf}
+use Rattle.machine.specs.Head.{hasKind}
 use Rattle.machine.specs.Pass.{Passed}
 use Rattle.machine.specs.Call.{isShort, opened}
 use Rattle.rearrangement.specs.Rearrangement as Rearrangement′
@@ -35,11 +32,6 @@ kindOf n =
 -- of the bytes that a subtable begins with: its head has 12, and the kind is the low byte of the coverage at 4
 unfoldable pub kindAt : List ℕ → Kind
 kindAt bytes = cond (inside bytes 0 12) (kindOf (u32At bytes 4 % 256)) LeftOut
-
--- the state table of a subtable of this kind, where the last of the places that it tells behind the state table's head can be read,
--- too: the machines' own `opened`
-unfoldable pub openedWithPlaces : List ℕ → (kind last : ℕ) → Made
-openedWithPlaces bytes kind last = onU32 (readU32 (bodyOf bytes) last) (λ place. opened bytes kind) Made′.Short
 
 -- the crate's `kind` gives the subtable: its kind is taken and its machine can open it
 unfoldable pub isOpen : Kind → List ℕ → Bool

@@ -6,9 +6,6 @@ use answers::Refusal;
 use chains::Head;
 use chains::NextHead;
 use chains::Subtable;
-use contextual::ContextualState;
-use insertion::InsertionState;
-use ligature::LigatureState;
 use rearrangement::RearrangementState;
 use state_tables::Made;
 ghost use mathlib.Core.Path.{_≡_};
@@ -19,7 +16,7 @@ ghost use Rattle.answers.specs.Refuse.{refuse};
 ghost use Rattle.line.specs.Line.{lineOf};
 ghost use Rattle.line.specs.Test.{isValid};
 ghost use Rattle.machine.specs.Call.{isShort};
-ghost use Rattle.morx.specs.Kinds.{kindOf, kindAt, openedWithPlaces, isOpen, worked, workLeaves, replyOf};
+ghost use Rattle.morx.specs.Kinds.{kindOf, kindAt, isOpen, worked, workLeaves, replyOf};
 ghost use Rattle.morx.specs.Run.{shareBit, isPassedOver, turnedWork, turnedLeaves, settledAnswer, flagsAfter, visit, visitLeaves, visitSubtable, subtableLeaves, ran, ranLeaves, runReplyOf};
 ghost use Rattle.morx.specs.Calls.{lineTests, passCall, passLeaves, runTests, runCall, runLeaves};
 
@@ -145,16 +142,6 @@ fn is_ready(made: Made) -> bool
     }
 }
 
-// Whether a machine's subtable can be opened that tells further places behind its state table's head, the last of them at `last`.
-fn opens_with_places(bytes: &[u8], kind: u32, last: usize) -> bool
-    ensures { λ r. ⌜ r ≡ not (isShort (openedWithPlaces (now (bytes .entry)) kind last)) ⌝ }
-{
-    let parse::ReadU32::Got(_) = parse::read_u32(parse::from(bytes, 12), last) else {
-        return false;
-    };
-    is_ready(machine::open(bytes, kind))
-}
-
 // Whether the subtable of a kind that the bytes begin with can be opened.
 fn opens(kind: Kind, bytes: &[u8]) -> bool
     ensures { λ r. ⌜ r ≡ isOpen kind (now (bytes .entry)) ⌝ }
@@ -164,16 +151,16 @@ fn opens(kind: Kind, bytes: &[u8]) -> bool
             return is_ready(machine::open(bytes, RearrangementState::KIND));
         }
         Kind::Contextual => {
-            return opens_with_places(bytes, ContextualState::KIND, 16);
+            return is_ready(contextual::open(bytes));
         }
         Kind::Ligature => {
-            return opens_with_places(bytes, LigatureState::KIND, 24);
+            return is_ready(ligature::open(bytes));
         }
         Kind::NonContextual => {
             return machine::has_kind(bytes, noncontextual::KIND);
         }
         Kind::Insertion => {
-            return opens_with_places(bytes, InsertionState::KIND, 16);
+            return is_ready(insertion::open(bytes));
         }
         Kind::LeftOut => {
             return false;

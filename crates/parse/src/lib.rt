@@ -3,6 +3,7 @@
 ghost use mathlib.Core.Path.{_≡_};
 ghost use Prim.Native.Nat.{_+_, _<_, _≤_};
 ghost use lib.ListN.{length, drop};
+ghost use Rattle.laws.specs.Bits.{isSet};
 ghost use Rattle.laws.specs.Signed.{signed16};
 ghost use Rattle.parse.specs.Reads.{u16At, readU8, readU16, readI16, readU32, readPart};
 
@@ -37,6 +38,14 @@ fn wide(byte: u8) -> u32
     ensures { λ r. ⌜ (r ≡ byte) × (r < 256) ⌝ }
 {
     byte as u32
+}
+
+// Whether a bit of a number that was read is set; masks are powers of two.
+pub fn is_set(number: u32, mask: u32) -> bool
+    requires { ⌜ 1 ≤ mask ⌝ }
+    ensures { λ r. ⌜ r ≡ isSet number mask ⌝ }
+{
+    number / mask % 2 == 1
 }
 
 pub fn read_u8(table: &[u8], at: usize) -> ReadU8

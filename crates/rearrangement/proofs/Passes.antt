@@ -14,7 +14,8 @@ use Rattle.state_tables.specs.declared.entries.Entered.the-variants as Entered�
 use Rattle.state_tables.specs.Entries.{entryOf, onEntry}
 use Rattle.line.specs.Line.{Line, lineOf}
 use Rattle.line.specs.Changes.{Change, apply, applyAll}
-use Rattle.machine.specs.Entry.{isSet, classHere}
+use Rattle.laws.specs.Bits.{isSet}
+use Rattle.machine.specs.Entry.{classHere}
 use Rattle.machine.specs.Stall.{stalled}
 use Rattle.machine.specs.Pass.{Stepped, Passed, deleted, isDone, stepAt, endCall, passFrom}
 use Rattle.machine.proofs.Stalls.{Falls, stall-falls}

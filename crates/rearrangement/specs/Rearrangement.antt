@@ -22,7 +22,8 @@ use Rattle.line.specs.Changes.{Change, applyAll}
 use Rattle.machine.specs.Head.{bodyOf}
 use Rattle.machine.specs.Call as Call′
 use Rattle.machine.specs.Call.{opened, headTest, passTests, refusedCall}
-use Rattle.machine.specs.Entry.{isSet, classHere}
+use Rattle.laws.specs.Bits.{isSet}
+use Rattle.machine.specs.Entry.{classHere}
 use Rattle.machine.specs.Stall.{stalled}
 use Rattle.machine.specs.Pass.{Stepped, Machine, Passed, passOf}
 use Rattle.rearrangement.specs.declared.RearrangementState.{RearrangementState}

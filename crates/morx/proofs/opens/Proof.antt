@@ -1,7 +1,4 @@
-use Rattle.contextual.specs.Calls as Contextual′
-use Rattle.ligature.specs.Calls as Ligature′
-use Rattle.insertion.specs.Calls as Insertion′
-use Rattle.morx.specs.Kinds.{openedWithPlaces, isOpen}
+use Rattle.morx.specs.Kinds.{isOpen}
 use borrow.Author.Needs.{needs}
 use Rattle.morx.proofs.opens.Statement.{statement}
 use Rattle.morx.proofs.opens.Tie as tie
@@ -22,22 +19,28 @@ returns c = rw (c .before .before .enum-told .given .1, c .is-ready .ensures, c 
 enum-told-2 : tie.Need-enum-told-2
 enum-told-2 c = search needs
 
-opens-with-places-requires : tie.Need-opens-with-places-requires
-opens-with-places-requires c κs = search needs
+open-requires-2 : tie.Need-open-requires-2
+open-requires-2 c κs = search needs
+
+is-ready-requires-2 : tie.Need-is-ready-requires-2
+is-ready-requires-2 c κs = search needs
 
 returns-2 : tie.Need-returns-2
-unfolding isOpen Contextual′.opened openedWithPlaces
-returns-2 c = rw (c .before .enum-told2 .given .1, c .opens-with-places .ensures, isOpen)
+unfolding isOpen
+returns-2 c = rw (c .before .before .enum-told2 .given .1, c .is-ready2 .ensures, c .before .open2 .ensures, isOpen)
 
 enum-told-3 : tie.Need-enum-told-3
 enum-told-3 c = search needs
 
-opens-with-places-requires-2 : tie.Need-opens-with-places-requires-2
-opens-with-places-requires-2 c κs = search needs
+open-requires-3 : tie.Need-open-requires-3
+open-requires-3 c κs = search needs
+
+is-ready-requires-3 : tie.Need-is-ready-requires-3
+is-ready-requires-3 c κs = search needs
 
 returns-3 : tie.Need-returns-3
-unfolding isOpen Ligature′.opened openedWithPlaces
-returns-3 c = rw (c .before .enum-told3 .given .1, c .opens-with-places2 .ensures, isOpen)
+unfolding isOpen
+returns-3 c = rw (c .before .before .enum-told3 .given .1, c .is-ready3 .ensures, c .before .open3 .ensures, isOpen)
 
 enum-told-4 : tie.Need-enum-told-4
 enum-told-4 c = search needs
@@ -52,12 +55,15 @@ returns-4 c = rw (c .before .enum-told4 .given .1, c .has-kind .ensures, isOpen)
 enum-told-5 : tie.Need-enum-told-5
 enum-told-5 c = search needs
 
-opens-with-places-requires-3 : tie.Need-opens-with-places-requires-3
-opens-with-places-requires-3 c κs = search needs
+open-requires-4 : tie.Need-open-requires-4
+open-requires-4 c κs = search needs
+
+is-ready-requires-4 : tie.Need-is-ready-requires-4
+is-ready-requires-4 c κs = search needs
 
 returns-5 : tie.Need-returns-5
-unfolding isOpen Insertion′.opened openedWithPlaces
-returns-5 c = rw (c .before .enum-told5 .given .1, c .opens-with-places3 .ensures, isOpen)
+unfolding isOpen
+returns-5 c = rw (c .before .before .enum-told5 .given .1, c .is-ready4 .ensures, c .before .open4 .ensures, isOpen)
 
 enum-told-6 : tie.Need-enum-told-6
 enum-told-6 c = search needs
@@ -75,16 +81,19 @@ opens-spec =
     is-ready-requires
     returns
     enum-told-2
-    opens-with-places-requires
+    open-requires-2
+    is-ready-requires-2
     returns-2
     enum-told-3
-    opens-with-places-requires-2
+    open-requires-3
+    is-ready-requires-3
     returns-3
     enum-told-4
     has-kind-requires
     returns-4
     enum-told-5
-    opens-with-places-requires-3
+    open-requires-4
+    is-ready-requires-4
     returns-5
     enum-told-6
     returns-6)

@@ -7,7 +7,6 @@ use mathlib.Core.Logic.{⊎-elim}
 use native.Mathlib.Omega.{arith}
 use lib.ListN.{length}
 use Rattle.laws.proofs.Numbers.{lt-or-ge}
-use Rattle.answers.specs.Refuse.{refuse}
 use Rattle.answers.specs.declared.Check.{Check}
 use Rattle.answers.specs.declared.Check.the-variants as Check′
 use Rattle.state_tables.specs.declared.States.{States}
@@ -18,10 +17,10 @@ use Rattle.line.specs.Edits.{inserted}
 use Rattle.line.specs.Changes.{Change, historyOf, applyAll}
 use Rattle.line.specs.History.{Fits}
 use Rattle.line.proofs.Histories.{inserted-append, history-append, by-changes}
 use Rattle.machine.specs.Pass.{Machine, Passed, deleted, isDone, stepAt, passFrom}
-use Rattle.machine.specs.Call.{passTests, refusedCall, onMade, called}
+use Rattle.machine.specs.Call.{refusedCall, onMade}
 use Rattle.machine.proofs.Passing.{turn-goes, turn-stops, turn-ends}
 use Rattle.machine.proofs.Quiet.{quiet-none, quiet-fits}
 
 pub fits-none : (l : Line) → Valid l → Fits [] l
 fits-none l v = quiet-fits [] l v quiet-none
@@ -56,16 +55,13 @@ module _ {S : Type 0} (machine : Machine S) (fits : (s : S) (l : Line) (i g : �
           subst⁻¹ (λ (w : Passed). Fits (w .changes) l) (turn-goes machine turns s l i h e) (fits-append _ _ l v (fits s l i _ false v) f)
       go h f false e = subst⁻¹ (λ (w : Passed). Fits (w .changes) l) (turn-stops machine turns s l i h e) (fits s l i _ false v)
 
--- a call fits where its work does
-module _ (l : Line) (v : Valid l) (work : States → Passed) (fits : (states : States) → Fits (work states .changes) l) where
-  pub fitting-made : (made : Made) → Fits (onMade made work .changes) l
-  fitting-made (Made′.Ready states) = fits states
-  fitting-made Made′.Short = fits-none l v
+-- work on a state table fits where it does on every state table
+pub fitting-made : (l : Line) → Valid l → (work : States → Passed) → ((states : States) → Fits (work states .changes) l) → (made : Made)
+    → Fits (onMade made work .changes) l
+fitting-made l v work fits (Made′.Ready states) = fits states
+fitting-made l v work fits Made′.Short = fits-none l v
 
-  pub fitting-call : (length : ℕ) (made : Made) → Fits (called length l made work .changes) l
-  unfolding called
-  fitting-call length made = go (refuse (passTests length l made))
-    where
-      go : (check : Check) → Fits (refusedCall check (onMade made work) .changes) l
-      go (Check′.Refused why) = fits-none l v
-      go Check′.Passed = fitting-made made
+-- a refused call fits, and one that passes its tests where its work does
+pub fitting-tested : (l : Line) → Valid l → (check : Check) (work : Passed) → Fits (work .changes) l → Fits (refusedCall check work .changes) l
+fitting-tested l v (Check′.Refused why) work fits = fits-none l v
+fitting-tested l v Check′.Passed work fits = fits
