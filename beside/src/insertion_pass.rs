@@ -51,6 +51,7 @@ fn examples() -> Vec<Example> {
     let before: Placed = (0, 4, &[0, BEFORE | counts(2, 0), 0, NONE]);
     let mark: Placed = (0, 4, &[0, SET_MARK, NONE, NONE]);
     let at_mark: Placed = (0, 5, &[0, BEFORE_MARK | counts(0, 1), NONE, 2]);
+    let mark_behind: Placed = (0, 4, &[0, SET_MARK | BEFORE | counts(1, 0), 0, NONE]);
     let both: Placed = (0, 5, &[0, counts(2, 1), 0, 2]);
     let at_end: Placed = (0, 0, &[0, counts(1, 0), 1, NONE]);
     let stalls: Placed = (0, 4, &[0, STAY | counts(1, 0), 0, NONE]);
@@ -71,6 +72,7 @@ fn examples() -> Vec<Example> {
         Example::in_room(0, body(&[at_end]), &[], &[], Full),
         Example::new(body(&[stalls]), &[10], &stalled, Done(())),
         Example::in_room(18, body(&[stalls]), &[10], &stalled[..18], Full),
+        Example::in_room(4, body(&[mark_behind, at_mark]), &[10, 11], &[22, 20, 10, 11], Done(())),
         Example::in_room(2, body(&[none_inside, none_at_end]), &[10, 11], &[10, 11], Ended),
         Example::in_room(6, body(&[behind, past_end]), &[10, 11], &[10, 20, 21, 11], Ended),
         Example::in_room(6, body(&[cut_list]), &[10, 11], &[10, 11], Ended),

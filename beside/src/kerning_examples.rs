@@ -2,6 +2,7 @@
 
 use crate::kerning::{Kerning, ALONE_AT};
 use crate::kerning_tables::{Edition, Entry, NONE, PUSH, RESET, STAY};
+use crate::lookup_tables::words;
 use crate::oracle::Answer::{self, Done, Ended};
 
 /// A whole table, a line, and what the pass by its first subtable and the run from left to right give.
@@ -128,6 +129,18 @@ pub fn documented() -> Vec<Documented> {
             &[10, 0],
         )
         .run(&[0, 0]),
+        // kern's minimum and override are added like any other.
+        minimum_and_override(),
+        // kern's version 2 is read as 1.
+        Documented::new(
+            Kern,
+            bytes("00020000000000010000001600000000000100060000000000050006000a"),
+            &[5, 6],
+            Done(()),
+            &[10, 0],
+        ),
+        // kerx adds the number that puts kern's cross-stream back; a run does not come to it.
+        Documented::new(Kerx, pushes_and_takes_across(&[-32_768]), &[5, 6], Done(()), &[-32_768, 0]).run(&[0, 0]),
         // kern does not look at variations.
         Documented::new(
             Kern,
@@ -145,11 +158,31 @@ fn bytes(hex: &str) -> Vec<u8> {
     (0..hex.len()).step_by(2).map(digits).collect()
 }
 
-/// A kerx table whose glyph 5 is pushed and whose glyph 6 takes this list.
+/// A kerx table whose glyph 5 is pushed and whose glyph 6 takes this list, along the stream.
 fn pushes_and_takes(list: &[i16]) -> Vec<u8> {
     let edition = Edition::new(Kerning::Kerx, 2, 0);
+    takes(edition, both_streams(edition)[0], list)
+}
+
+/// The same across it.
+fn pushes_and_takes_across(list: &[i16]) -> Vec<u8> {
+    let edition = Edition::new(Kerning::Kerx, 2, 0);
+    takes(edition, both_streams(edition)[1], list)
+}
+
+fn takes(edition: Edition, bits: u32, list: &[i16]) -> Vec<u8> {
     let body = two_entries(edition, 5, PUSH_ONLY, Entry { state: 0, flags: 0, list: 0 }, list);
-    edition.table(&[edition.subtable(0, 1, &body)])
+    edition.table(&[edition.subtable(bits, 1, &body)])
+}
+
+/// A kern table of version 0 with a pair's number, its minimum, and one that overrides it.
+fn minimum_and_override() -> Documented {
+    let edition = Edition::new(Kerning::Kern, 0, 0);
+    let pair = |number| words(&[1, 6, 0, 0, 5, 6, number]);
+    let subtables = [(1, 10), (3, 20), (9, 3)].map(|(bits, number)| edition.subtable(bits, 0, &pair(number)));
+    let table = [&[0; ALONE_AT], &edition.table(&subtables)[..]].concat();
+    let start = table.len() - subtables.concat().len();
+    Documented { edition, table, start, line: vec![5, 6], pass: (Done(()), vec![10, 0]), run: vec![33, 0] }
 }
 
 const CLASSES: &str =
