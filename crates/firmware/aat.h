@@ -151,4 +151,29 @@ uint32_t aat_ligature_step(uint64_t state[66], const uint8_t *table, size_t tabl
 uint32_t aat_insertion_step(uint64_t state[3], const uint8_t *table, size_t table_len, size_t start, size_t length,
                             size_t room, size_t index, uint16_t glyph, uint32_t ends, size_t *advance, uint64_t edits[7]);
 
+/* The lists of a morx table: its chains, and each chain's features and subtables. A cursor is the byte of the table where its
+   list's next element begins, and how many elements the list's count still gives; any two numbers may be lent as one. Where
+   there is a next element, the entry leaves the cursor behind it and its fields, the first of them 1. At the end of the list,
+   where the count is used up or the element's head does not lie in the table, the fields are 0 each and the cursor stays as it
+   was; the answer is AAT_DONE there, too. */
+
+/* The cursor at the chains of the morx table that begins at start. */
+uint32_t aat_morx_chains(const uint8_t *table, size_t table_len, size_t start, uint64_t cursor[2]);
+
+/* The next chain. Its fields: 1, the default flags, the cursor at its features, the cursor at its subtables. */
+uint32_t aat_morx_next_chain(const uint8_t *table, size_t table_len, uint64_t cursor[2], uint64_t fields[6]);
+
+/* The next feature. Its fields: 1, the type, the setting, the flags that it enables, those that it does not disable. */
+uint32_t aat_morx_next_feature(const uint8_t *table, size_t table_len, uint64_t cursor[2], uint64_t fields[5]);
+
+/* The next subtable. Its fields: 1, the byte where its head begins, which is the start for the passes, the coverage, the flags,
+   the kind, and the number of the order as aat_morx_order gives it. */
+uint32_t aat_morx_next_subtable(const uint8_t *table, size_t table_len, uint64_t cursor[2], uint64_t fields[6]);
+
+/* The order in which a subtable of this coverage wants the glyphs: 0 layout, 1 reverse layout, 2 logical, 3 reverse logical. */
+uint32_t aat_morx_order(uint32_t coverage, uint32_t *order);
+
+/* Whether a line, from right to left where right_to_left is not 0, is turned for a subtable of this coverage: 1 or 0. */
+uint32_t aat_morx_should_reverse(uint32_t coverage, uint32_t right_to_left, uint32_t *reversed);
+
 #endif

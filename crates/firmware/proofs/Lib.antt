@@ -1,3 +1,4 @@
 -- Laws of the exported entries.
 mod Stepping
 mod Slots
+mod Lists

@@ -2,3 +2,4 @@
 pub mod Survey
 pub mod Steps
 pub mod Runs
+pub mod Cursors

@@ -17,6 +17,7 @@ ghost use Rattle.insertion.specs.Calls.{passCall as inserting, callLeaves as in
 ghost use Rattle.ligature.specs.Calls.{passCall as ligating, callLeaves as ligatingLeaves};
 ghost use Rattle.firmware.specs.Survey.{surveyAnswer, verdictOf, badRecord};
 
+mod cursors;
 mod kerns;
 mod runs;
 mod steps;
