@@ -10,6 +10,7 @@ typedef __UINT8_TYPE__ uint8_t;
 typedef __UINT16_TYPE__ uint16_t;
 typedef __UINT32_TYPE__ uint32_t;
 typedef __UINT64_TYPE__ uint64_t;
+typedef __INT32_TYPE__ int32_t;
 typedef __INT64_TYPE__ int64_t;
 typedef __SIZE_TYPE__ size_t;
 
@@ -175,5 +176,25 @@ uint32_t aat_morx_order(uint32_t coverage, uint32_t *order);
 
 /* Whether a line, from right to left where right_to_left is not 0, is turned for a subtable of this coverage: 1 or 0. */
 uint32_t aat_morx_should_reverse(uint32_t coverage, uint32_t right_to_left, uint32_t *reversed);
+
+/* What the kern subtable, its head included, that begins at start adds between two glyphs; version is its list's. AAT_HEAD is for
+   the formats that have no pairs, too. */
+uint32_t aat_kern_pair(const uint8_t *table, size_t table_len, size_t start, uint16_t version, uint16_t left, uint16_t right,
+                       int32_t *value);
+
+/* The same by the kerx subtable that begins at start. */
+uint32_t aat_kerx_pair(const uint8_t *table, size_t table_len, size_t start, uint16_t version, uint16_t left, uint16_t right,
+                       int32_t *value);
+
+/* One step of the machine of the kern subtable, its head included, that begins at start, on a line of so many places; it adds to
+   the adjustments, along, and has no end of text. The state is the state table's, how many slots of the stack are used, the
+   steps in a row that did not advance, and 8 places. AAT_LINE is for a length above along_len and for an adjustment beyond 2^40 in
+   size, and AAT_HEAD for every format but 1. */
+uint32_t aat_kern_step(uint64_t state[11], const uint8_t *table, size_t table_len, size_t start, uint16_t version,
+                       size_t length, size_t index, uint16_t glyph, int64_t *along, size_t along_len, size_t *advance);
+
+/* The same by the kerx subtable that begins at start. */
+uint32_t aat_kerx_step(uint64_t state[11], const uint8_t *table, size_t table_len, size_t start, uint16_t version,
+                       size_t length, size_t index, uint16_t glyph, int64_t *along, size_t along_len, size_t *advance);
 
 #endif

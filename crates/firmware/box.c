@@ -299,18 +299,14 @@ static void insertion_step(void) {
     put_numbers(edits, 7);
 }
 
-typedef uint32_t value_of_pair(const uint8_t *, size_t, size_t, uint16_t, uint16_t, uint16_t, int *);
-
-/* Not in aat.h yet. */
-uint32_t aat_kern_pair(const uint8_t *, size_t, size_t, uint16_t, uint16_t, uint16_t, int *);
-uint32_t aat_kerx_pair(const uint8_t *, size_t, size_t, uint16_t, uint16_t, uint16_t, int *);
+typedef uint32_t value_of_pair(const uint8_t *, size_t, size_t, uint16_t, uint16_t, uint16_t, int32_t *);
 
 static void pair(value_of_pair *entry) {
     start = take(8);
     version = (uint16_t)take(2);
     uint16_t left = (uint16_t)take(2);
     uint16_t right = (uint16_t)take(2);
-    int value = (int)take(4);
+    int32_t value = (int32_t)take(4);
     put(entry(table, table_len, start, version, left, right, &value), 4);
     put((uint32_t)value, 4);
 }
@@ -349,12 +345,6 @@ static void kerx_run(void) {
 
 typedef uint32_t kerning_step(uint64_t *, const uint8_t *, size_t, size_t, uint16_t, size_t, size_t, uint16_t, int64_t *,
                               size_t, size_t *);
-
-/* Not in aat.h yet. */
-uint32_t aat_kern_step(uint64_t *, const uint8_t *, size_t, size_t, uint16_t, size_t, size_t, uint16_t, int64_t *, size_t,
-                       size_t *);
-uint32_t aat_kerx_step(uint64_t *, const uint8_t *, size_t, size_t, uint16_t, size_t, size_t, uint16_t, int64_t *, size_t,
-                       size_t *);
 
 static void kern_one(kerning_step *entry) {
     take_numbers(state, 11);

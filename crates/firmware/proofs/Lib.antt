@@ -2,3 +2,5 @@
 mod Stepping
 mod Slots
 mod Lists
+mod KernPairs
+mod KernSteps

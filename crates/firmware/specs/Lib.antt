@@ -3,3 +3,4 @@ pub mod Survey
 pub mod Steps
 pub mod Runs
 pub mod Cursors
+pub mod KernSteps

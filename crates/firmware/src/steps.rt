@@ -16,7 +16,7 @@ ghost use lib.ListN.{length};
 ghost use lib.Seq.{paste};
 
 // The largest number of a 16-bit field.
-const WIDEST: u64 = 0xFFFF;
+pub const WIDEST: u64 = 0xFFFF;
 
 // Whether an answer is a refusal.
 pub fn is_refused(answer: Answer) -> bool
