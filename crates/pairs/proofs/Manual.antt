@@ -1,13 +1,15 @@
 -- On pairs in rising order, and by classes where the lookups read as the manual says, the crate's number is the manual's.
 use Prim.Native.Nat.{ℕ, _+_, _<_, _≤_}
 use mathlib.Core.Path.{_≡_, refl, sym, _∙_, ap, subst}
+use mathlib.Core.Bool.{Bool, true, false}
 use mathlib.Core.List.{List}
 use native.Mathlib.Omega.{arith}
+use lib.IntN.{ℤ}
 use lib.ListN.{length, drop}
 use borrow.Author.Tests.{eq-eqb}
 use Rattle.laws.specs.Signed.{signed16}
 use Rattle.parse.specs.Reads.{inside, u16At, readI16}
-use Rattle.parse.proofs.Laws.{inside-yes, readU32-got}
+use Rattle.parse.proofs.Laws.{inside-yes, inside-fits, readU32-got}
 use Rattle.tables.specs.Records.{pairPlace}
 use Rattle.tables.specs.Search.{against, sideOf, sideOfPair, searched}
 use Rattle.tables.specs.Order.{Holds, TheOne}
@@ -16,14 +18,67 @@ use Rattle.tables.specs.ManualLookup.{Layout}
 use Rattle.tables.specs.declared.records.Keys.the-variants as Keys′
 use Rattle.tables.specs.declared.records.Spot.{Spot}
 use Rattle.tables.specs.declared.records.Spot.the-variants.{At, Absent, Cut}
+use Rattle.tables.specs.Lookup.{lookupAt}
+use Rattle.tables.specs.declared.lookup.Why.{Why}
+use Rattle.tables.specs.declared.lookup.Why.the-variants.{NotCovered, CutShort}
+use Rattle.tables.specs.declared.lookup.Found.{Found}
+use Rattle.tables.specs.declared.lookup.Found.the-variants as Found′
 use Rattle.tables.proofs.Finding.{find-finds}
-use Rattle.pairs.specs.Pairs.{keyOf, numberAt, numberIn, orderedNumber, numberInRow, classNumber}
-use Rattle.pairs.specs.Manual.{pairKey, IsPair, pairValue, Rising, AsManual, ClassPair}
-use Rattle.pairs.specs.declared.Number.the-variants.{By}
+use Rattle.tables.proofs.ManualLookup.{lookup-as-manual}
+use Rattle.pairs.specs.Pairs.{keyOf, numberAt, numberIn, orderedNumber, numberInRow, classNumber, numberOf}
+use Rattle.pairs.specs.Reply.{numberReply, replyOf}
+use Rattle.pairs.specs.Manual.{pairKey, IsPair, pairValue, Rising, OrderedValue, ClassPair, ClassValue, Legible, AsManual}
+use Rattle.pairs.specs.declared.PairTable.the-variants.{Ordered, Classes}
+use Rattle.pairs.specs.declared.Opened.the-variants.{Ready}
+use Rattle.pairs.specs.declared.Number.{Number}
+use Rattle.pairs.specs.declared.Number.the-variants.{By, Nothing}
 
 number-inside : (bytes : List ℕ) (place : ℕ) → place + 2 ≤ length bytes → numberAt bytes place ≡ By (signed16 (u16At bytes place))
 unfolding numberAt readI16
 number-inside bytes place h = rw (inside-yes bytes place 2 (omega arith) (omega arith))
+
+-- a number is there or it is not
+not-both : {A : Type 0} {value : ℤ} (n : Number) (why : Why) → n ≡ By value → n ≡ Nothing why → A
+not-both n why e f = let z : _≡_ {A = ℕ} 0 1 = cc in absurd (omega arith)
+
+number-found : (bytes : List ℕ) (place : ℕ) (value : ℤ) → numberAt bytes place ≡ By value
+    → (place + 2 ≤ length bytes) × (value ≡ signed16 (u16At bytes place))
+unfolding numberAt readI16
+number-found bytes place value e = go (inside bytes place 2) refl
+  where
+    go : (t : Bool) → inside bytes place 2 ≡ t → (place + 2 ≤ length bytes) × (value ≡ signed16 (u16At bytes place))
+    go true f =
+        let v : By (signed16 (u16At bytes place)) ≡ By value = sym (rw (f, numberAt)) ∙ e in
+        (inside-fits bytes place 2 f, cc)
+    go false f = not-both (numberAt bytes place) CutShort e (rw (f, numberAt))
+
+-- what finds just the values that are there is NOTHING exactly when there is none
+joined : (n : Number) (Value : ℤ → Type 0) → ((value : ℤ) → n ≡ By value → Value value) → ((value : ℤ) → Value value → n ≡ By value)
+    → AsManual (numberReply n) Value
+joined (By number) Value found there =
+    record {
+      found = λ value e. found value (let same : number ≡ value = cc in ap By same);
+      there = λ value v. ap numberReply (there value v);
+      nothing = λ e value v. let z : _≡_ {A = ℕ} 0 1 = cc in absurd (omega arith);
+      none = λ never. absurd (never number (found number refl));
+    }
+joined (Nothing why) Value found there =
+    record {
+      found = λ value e. let z : _≡_ {A = ℕ} 0 1 = cc in absurd (omega arith);
+      there = λ value v. ap numberReply (there value v);
+      nothing = λ e value v. not-both (Nothing why) why (there value v) refl;
+      none = λ never. refl;
+    }
+
+-- the one value that is there, or none
+one-value : (n : Number) (Value : ℤ → Type 0) (number : ℤ) → n ≡ By number → Value number → ((value : ℤ) → Value value → value ≡ number)
+    → AsManual (numberReply n) Value
+one-value n Value number e v only =
+    joined n Value (λ value f. let same : By number ≡ By value = sym e ∙ f in subst Value (let s : number ≡ value = cc in s) v)
+    (λ value w. e ∙ ap By (sym (only value w)))
+
+no-value : (n : Number) (Value : ℤ → Type 0) (why : Why) → n ≡ Nothing why → ((value : ℤ) → Value value → ⊥) → AsManual (numberReply n) Value
+no-value n Value why e never = joined n Value (λ value f. not-both n why f e) (λ value v. absurd (never value v))
 
 module _ (bytes : List ℕ) (tuples first count left right : ℕ) (none : tuples ≡ 0) (rising : Rising bytes first count) where
   reads : (i : ℕ) → i < count
@@ -43,8 +98,8 @@ module _ (bytes : List ℕ) (tuples first count left right : ℕ) (none : tuples
       number-inside bytes (pairPlace first i + 4) (omega (arith, rising .whole i h))
       ∙ ap By (sym (rw (eq-eqb tuples 0 none)))
 
-  pub ordered-as-manual : AsManual bytes tuples first count left right
-  unfolding orderedNumber numberIn TheOne
+  pub ordered-as-manual : AsManual (replyOf bytes (Ready (Ordered first count)) left right) (OrderedValue bytes tuples first count left right)
+  unfolding replyOf numberOf orderedNumber numberIn TheOne
   ordered-as-manual = go (searched bytes first Keys′.Pairs count (keyOf left right)) refl
     where
       right-one : (s : Spot) → searched bytes first Keys′.Pairs count (keyOf left right) ≡ s
@@ -57,32 +112,63 @@ module _ (bytes : List ℕ) (tuples first count left right : ℕ) (none : tuples
       held : (i : ℕ) → IsPair bytes first count left right i → Holds (pairKey bytes first) (pairKey bytes first) count (keyOf left right) i
       held i p = record { counted = p .counted; above = omega (arith, p .glyphs); below = omega (arith, p .glyphs) }
 
-      go : (s : Spot) → searched bytes first Keys′.Pairs count (keyOf left right) ≡ s → AsManual bytes tuples first count left right
+      go : (s : Spot) → searched bytes first Keys′.Pairs count (keyOf left right) ≡ s
+          → AsManual (numberReply (orderedNumber bytes first count left right)) (OrderedValue bytes tuples first count left right)
       go (At j) e =
           let one = right-one (At j) e in
-          let v : orderedNumber bytes first count left right ≡ By (pairValue bytes tuples first j) = is (At j) e ∙ value-is j (one .0 .counted) in
-          record {
-            found = λ value f. (
-              j,
-              record { counted = one .0 .counted; glyphs = omega (arith, one .0 .above, one .0 .below) },
-              (let same : By value ≡ By (pairValue bytes tuples first j) = sym f ∙ v in cc),
-            );
-            there = λ i p. v ∙ ap (λ (k : ℕ). By (pairValue bytes tuples first k)) (sym (one .1 i (held i p)));
-          }
+          one-value (orderedNumber bytes first count left right) (OrderedValue bytes tuples first count left right) (pairValue bytes tuples first j)
+          (is (At j) e ∙ value-is j (one .0 .counted))
+          (j, record { counted = one .0 .counted; glyphs = omega (arith, one .0 .above, one .0 .below) }, refl)
+          (λ value v. v .2 ∙ ap (λ (k : ℕ). pairValue bytes tuples first k) (one .1 (v .0) (held (v .0) (v .1))))
       go Absent e =
-          let no = right-one Absent e in
-          record {
-            found = λ value f. let n = is Absent e in let z : _≡_ {A = ℕ} 0 1 = cc in absurd (omega arith);
-            there = λ i p. absurd (no i (held i p));
-          }
+          no-value (orderedNumber bytes first count left right) (OrderedValue bytes tuples first count left right) NotCovered (is Absent e)
+          (λ value v. right-one Absent e (v .0) (held (v .0) (v .1)))
       go Cut e = absurd (right-one Cut e)
 
 -- by classes
-pub class-as-manual : (bytes : List ℕ) (glyphs rows columns array left right : ℕ) (leftLayout rightLayout : Layout) (place : ℕ)
-    → Lookup′.AsManual (drop rows bytes) glyphs left leftLayout → Lookup′.AsManual (drop columns bytes) glyphs right rightLayout
-    → ClassPair bytes glyphs rows columns array left right leftLayout rightLayout place
-    → classNumber bytes rows columns array left right ≡ By (signed16 (u16At bytes place))
-unfolding classNumber numberInRow
-class-as-manual bytes glyphs rows columns array left right leftLayout rightLayout place l r p =
-    rw (l .there (p .row) (p .rowLies) (p .rowInside), r .there (p .column) (p .columnLies) (p .columnInside), ← (p .sum))
-    (number-inside bytes place (p .inside))
+module _ (bytes : List ℕ) (glyphs rows columns array left right : ℕ) (leftLayout rightLayout : Layout) (l : Legible (drop rows bytes) glyphs left leftLayout) (r : Legible (drop columns bytes) glyphs right rightLayout) where
+  abbrev Value : ℤ → Type 0
+  Value = ClassValue bytes glyphs rows columns array left right leftLayout rightLayout
+
+  row-found : Lookup′.AsManual (drop rows bytes) glyphs left leftLayout
+  row-found = lookup-as-manual leftLayout (drop rows bytes) glyphs left (l .0) (l .1)
+
+  column-found : Lookup′.AsManual (drop columns bytes) glyphs right rightLayout
+  column-found = lookup-as-manual rightLayout (drop columns bytes) glyphs right (r .0) (r .1)
+
+  class-there : (value : ℤ) → Value value → classNumber bytes rows columns array left right ≡ By value
+  unfolding classNumber numberInRow
+  class-there value v =
+      let p = v .1 in
+      rw (row-found .there (p .row) (p .rowLies) (p .rowInside), column-found .there (p .column) (p .columnLies) (p .columnInside), ← (p .sum))
+      (number-inside bytes (v .0) (p .inside) ∙ ap By (sym (v .2)))
+
+  class-found : (value : ℤ) → classNumber bytes rows columns array left right ≡ By value → Value value
+  unfolding classNumber numberInRow
+  class-found value e = go (lookupAt (drop rows bytes) left) (lookupAt (drop columns bytes) right) refl refl
+    where
+      go : (a b : Found) → lookupAt (drop rows bytes) left ≡ a → lookupAt (drop columns bytes) right ≡ b → Value value
+      go (Found′.At a) (Found′.At b) f g =
+          let (row, rowLies, rowInside, a-is) = row-found .found a f in
+          let (column, columnLies, columnInside, b-is) = column-found .found b g in
+          let n : numberAt bytes (array + a + b) ≡ By value = sym (rw (f, g, classNumber)) ∙ e in
+          let (inside, value-is) = number-found bytes (array + a + b) value n in (
+            array + a + b,
+            record {
+              row = row;
+              rowLies = rowLies;
+              rowInside = rowInside;
+              column = column;
+              columnLies = columnLies;
+              columnInside = columnInside;
+              sum = omega (arith, a-is, b-is);
+              inside = inside;
+            },
+            value-is,
+          )
+      go (Found′.At a) (Found′.Nothing why) f g = not-both (classNumber bytes rows columns array left right) why e (rw (f, g, classNumber))
+      go (Found′.Nothing why) b f g = not-both (classNumber bytes rows columns array left right) why e (rw (f, classNumber))
+
+  pub class-as-manual : AsManual (replyOf bytes (Ready (Classes rows columns array)) left right) Value
+  unfolding replyOf numberOf
+  class-as-manual = joined (classNumber bytes rows columns array left right) Value class-found class-there

@@ -7,11 +7,13 @@ use lib.IntN.{ℤ}
 use lib.ListN.{length, drop}
 use Rattle.laws.specs.Choose.{ifEq}
 use Rattle.laws.specs.Signed.{signed16}
-use Rattle.parse.specs.Reads.{u16At, u32At}
+use Rattle.parse.specs.Reads.{u16At, u32At, readU16}
+use Rattle.parse.specs.declared.ReadU16.the-variants.{Got}
 use Rattle.tables.specs.Records.{pairPlace}
-use Rattle.tables.specs.ManualLookup.{Layout, Lies}
-use Rattle.pairs.specs.Pairs.{keyOf, orderedNumber}
-use Rattle.pairs.specs.declared.Number.the-variants.{By}
+use Rattle.tables.specs.ManualLookup.{Layout, formatNumber, Lies, Alike}
+use Rattle.pairs.specs.Pairs.{keyOf}
+use Rattle.pairs.specs.declared.PairReply.{PairReply}
+use Rattle.pairs.specs.declared.PairReply.the-variants.{Number, Nothing}
 
 -- the two glyphs of pair i as one number of 32 bits, by which the pairs are sorted
 abbrev pub pairKey : List ℕ → (first i : ℕ) → ℕ
@@ -32,13 +34,13 @@ pub record Rising (bytes : List ℕ) (first count : ℕ) : Type 0 where
   pub whole : (i : ℕ) → i < count → pairPlace first i + 6 ≤ length bytes
   pub upward : (i : ℕ) → suc i < count → pairKey bytes first i < pairKey bytes first (suc i)
 
--- the crate finds just the manual's value
-pub record AsManual (bytes : List ℕ) (tuples first count left right : ℕ) : Type 0 where
-  pub found : (value : ℤ) → orderedNumber bytes first count left right ≡ By value
-      → (i : ℕ) × IsPair bytes first count left right i × (value ≡ pairValue bytes tuples first i)
-  pub there : (i : ℕ) → IsPair bytes first count left right i → orderedNumber bytes first count left right ≡ By (pairValue bytes tuples first i)
+-- the value that ordered pairs have for two glyphs
+abbrev pub OrderedValue : List ℕ → (tuples first count left right : ℕ) → ℤ → Type 0
+OrderedValue bytes tuples first count left right value =
+    (i : ℕ) × IsPair bytes first count left right i × (value ≡ pairValue bytes tuples first i)
 
--- class pairs: row and column are the values of the two lookup tables, already multiplied, and the number stands that many bytes into the array
+-- class pairs: row and column are the values of the two lookup tables, already multiplied, and the number stands that many bytes into the array. Of
+-- glyphs that a table doesn't cover, and of other readings of these values, docs/DIFFERENCES.md has rows
 pub record ClassPair (bytes : List ℕ) (glyphs rows columns array left right : ℕ) (leftLayout rightLayout : Layout) (place : ℕ) : Type 0 where
   pub row : ℕ
   pub rowLies : Lies (drop rows bytes) glyphs left leftLayout row
@@ -48,3 +50,19 @@ pub record ClassPair (bytes : List ℕ) (glyphs rows columns array left right : 
   pub columnInside : column + 2 ≤ length (drop columns bytes)
   pub sum : place ≡ array + u16At (drop rows bytes) row + u16At (drop columns bytes) column
   pub inside : place + 2 ≤ length bytes
+
+-- the value that class pairs have for two glyphs, in a font of so many
+abbrev pub ClassValue : List ℕ → (glyphs rows columns array left right : ℕ) → (leftLayout rightLayout : Layout) → ℤ → Type 0
+ClassValue bytes glyphs rows columns array left right leftLayout rightLayout value =
+    (place : ℕ) × ClassPair bytes glyphs rows columns array left right leftLayout rightLayout place × (value ≡ signed16 (u16At bytes place))
+
+-- a lookup table of this layout, which crate and manual read alike for a glyph
+abbrev pub Legible : List ℕ → (glyphs glyph : ℕ) → Layout → Type 0
+Legible bytes glyphs glyph layout = (readU16 bytes 0 ≡ Got (formatNumber layout)) × Alike bytes glyphs glyph layout
+
+-- the answer for a pair is the manual's: DONE with just the value that the pair has, NOTHING exactly when it has none
+pub record AsManual (reply : PairReply) (Value : ℤ → Type 0) : Type 0 where
+  pub found : (value : ℤ) → reply ≡ Number value → Value value
+  pub there : (value : ℤ) → Value value → reply ≡ Number value
+  pub nothing : reply ≡ Nothing → (value : ℤ) → Value value → ⊥
+  pub none : ((value : ℤ) → Value value → ⊥) → reply ≡ Nothing
