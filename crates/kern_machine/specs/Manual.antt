@@ -1,15 +1,16 @@
 -- kern format 1's lists of numbers, as Apple's manual has them, and what the crate's reading of them is.
-use Prim.Native.Nat.{ℕ, suc, _+_, _*_, _-_, _%_, _≤_}
+use Prim.Native.Nat.{ℕ, zero, suc, _+_, _*_, _-_, _%_, _<_, _≤_}
 use mathlib.Core.Path.{_≡_}
 use mathlib.Core.Bool.{Bool, false}
-use mathlib.Core.List.{List}
+use mathlib.Core.List.{List, [], _++_}
 use lib.IntN.{ℤ}
-use lib.ListN.{length}
+use lib.ListN.{length, getD}
 use Rattle.laws.specs.Signed.{signed16}
 use Rattle.parse.specs.Reads.{u16At}
-use Rattle.kerning.specs.Lists.{numberAt}
+use Rattle.kerning.specs.Additions.{Addition, additionsAt}
+use Rattle.kerning.specs.Lists.{Walk, leaves, numberAt}
 use Rattle.kerning.specs.declared.lists.Number.the-variants.{Last, More}
-use Rattle.kerning_machine.specs.Machine.{ruleOf, strideOf}
+use Rattle.kerning_machine.specs.Machine.{ruleOf, strideOf, kernStart, followed}
 use Rattle.kerning_machine.specs.declared.Reading.the-variants.{Kern}
 
 -- a list begins at a byte offset from the state table on, and its numbers, of 16 bits, follow one another
@@ -31,3 +32,37 @@ pub record AsManual (bytes : List ℕ) (list k : ℕ) : Type 0 where
   pub more : numberPlace list k + 2 ≤ length bytes → (IsLast bytes (numberPlace list k) → ⊥)
       → numberAt bytes (ruleOf (Kern false)) (numberPlace list k) ≡ More (amountAt bytes (numberPlace list k))
   pub follows : numberPlace list k + strideOf (Kern false) ≡ numberPlace list (suc k)
+
+-- The whole list of an entry. Its place is in the flags but the highest two; 0 is none
+abbrev pub listPlace : (flags : ℕ) → ℕ
+listPlace flags = flags % 0x4000
+
+-- each number pops a place off the stack, the one pushed last first, up to an odd number or until the stack is empty: so many numbers do, all of them
+-- in the table
+pub record Pops (bytes : List ℕ) (list depth count : ℕ) : Type 0 where
+  pub deep : count ≤ depth
+  pub inside : (k : ℕ) → k < count → numberPlace list k + 2 ≤ length bytes
+  pub goesOn : (k : ℕ) → suc k < count → IsLast bytes (numberPlace list k) → ⊥
+  pub ends : count < depth → (k : ℕ) × (count ≡ suc k) × IsLast bytes (numberPlace list k)
+
+-- the place that number k pops is k below the top
+abbrev pub poppedPlace : (stack : List ℕ) → (depth k : ℕ) → ℕ
+poppedPlace stack depth k = getD stack (depth - suc k) 0
+
+-- what so many numbers add, each to the place that it pops
+unfoldable pub listAdds : List ℕ → (list : ℕ) → (stack : List ℕ) → (depth used count : ℕ) → List Addition
+listAdds bytes list stack depth used zero = []
+listAdds bytes list stack depth used (suc k) =
+    listAdds bytes list stack depth used k ++ additionsAt used (poppedPlace stack depth k) (amountAt bytes (numberPlace list k))
+
+-- what the crate's machine makes of an entry's list, in a subtable along the stream
+abbrev pub listed : List ℕ → (flags : ℕ) → (stack : List ℕ) → (depth used : ℕ) → Walk
+listed bytes flags stack depth used = followed bytes (Kern false) (kernStart flags) stack depth used
+
+-- it adds just what the manual's list does, and the step ends early exactly when a number that is to pop a place does not lie in the table. Behind a
+-- list the crate drops what is left of the stack, which the manual doesn't
+pub record WholeList (bytes : List ℕ) (flags : ℕ) (stack : List ℕ) (depth used : ℕ) : Type 0 where
+  pub none : listPlace flags ≡ 0 → listed bytes flags stack depth used ≡ leaves false depth []
+  pub there : 0 < listPlace flags → (count : ℕ) → Pops bytes (listPlace flags) depth count
+      → listed bytes flags stack depth used ≡ leaves false 0 (listAdds bytes (listPlace flags) stack depth used count)
+  pub found : 0 < listPlace flags → listed bytes flags stack depth used .left .ended ≡ false → (count : ℕ) × Pops bytes (listPlace flags) depth count
