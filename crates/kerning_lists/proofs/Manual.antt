@@ -1,43 +1,71 @@
--- A walk's subtables begin where the manual says, if each head tells its own place and, as where the next begins, its place and length.
-use Prim.Native.Nat.{ℕ, zero, suc, _+_}
-use mathlib.Core.Path.{_≡_, refl, sym, _∙_, ap}
-use mathlib.Core.List.{[], _∷_}
+-- A walk's subtables are the manual's, if each head that lies in the table, and no other, is read as the manual has it.
+use Prim.Native.Nat.{ℕ, zero, suc, _+_, _<_, _≤_}
+use mathlib.Core.Path.{_≡_, refl, sym, _∙_, ap, subst}
+use mathlib.Core.List.{List, [], _∷_}
 use native.Mathlib.Omega.{arith}
+use lib.ListN.{length, getD}
 use Rattle.kerning_lists.specs.Walk.{onHead, heads}
-use Rattle.kerning_lists.specs.Manual.{beginsAt, Stands, no-more, one-more}
+use Rattle.kerning_lists.specs.Manual.{beginsAt, AsManual}
 use Rattle.kerning_lists.specs.declared.Subtable.{Subtable}
 use Rattle.kerning_lists.specs.declared.Head.{Head}
 use Rattle.kerning_lists.specs.declared.Head.the-variants.{At, Cut}
-
--- one further on is where the one before ends
-begins-next : (lengthAt : ℕ → ℕ) (first k : ℕ) → beginsAt lengthAt first (suc k) ≡ beginsAt lengthAt first k + lengthAt (beginsAt lengthAt first k)
-unfolding beginsAt
-begins-next lengthAt first zero = refl
-begins-next lengthAt first (suc k) = begins-next lengthAt (first + lengthAt first) k
 
 -- a head is read or it is not
 pub no-head : {A : Type 0} {h : Head} {s : Subtable} → h ≡ At s → h ≡ Cut → A
 no-head e f = let z : _≡_ {A = ℕ} 0 1 = cc in absurd (omega arith)
 
--- what a head tells
-pub record Tells (lengthAt : ℕ → ℕ) (at : ℕ) (s : Subtable) : Type 0 where
-  pub place : s .body ≡ at
-  pub behind : s .next ≡ at + lengthAt at
-
-module _ (headAt : ℕ → Head) (lengthAt : ℕ → ℕ) (first : ℕ) (tells : (at : ℕ) (s : Subtable) → headAt at ≡ At s → Tells lengthAt at s) where
-  from-here : (left k at : ℕ) → at ≡ beginsAt lengthAt first k → Stands lengthAt first k (heads headAt left at)
+module _ (headAt : ℕ → Head) (HeadLies : ℕ → Type 0) (subtableAt : ℕ → Subtable) (lengthAt : ℕ → ℕ)
+    (behind : (at : ℕ) → subtableAt at .next ≡ at + lengthAt at)
+    (reads : (at : ℕ) → HeadLies at → headAt at ≡ At (subtableAt at))
+    (only : (at : ℕ) (s : Subtable) → headAt at ≡ At s → HeadLies at) where
+  walk-on : (left at : ℕ) → HeadLies at → heads headAt (suc left) at ≡ subtableAt at ∷ heads headAt left (at + lengthAt at)
   unfolding heads
-  from-here zero k at e = no-more
-  from-here (suc left) k at e = go (from-here left) (headAt at) refl
-    where
-      go : ((k at : ℕ) → at ≡ beginsAt lengthAt first k → Stands lengthAt first k (heads headAt left at))
-          → (h : Head) → headAt at ≡ h → Stands lengthAt first k (onHead h (λ s. s ∷ heads headAt left (s .next)) [])
-      go again Cut f = no-more
-      go again (At s) f =
-          let t = tells at s f in
-          one-more (t .place ∙ e)
-          (again (suc k) (s .next) (t .behind ∙ ap (λ (p : ℕ). p + lengthAt p) e ∙ sym (begins-next lengthAt first k)))
+  walk-on left at h = rw (reads at h, heads, behind at)
 
-  pub walk-stands : (count : ℕ) → Stands lengthAt first 0 (heads headAt count first)
+  head-lies : (left at k : ℕ) → k < length (heads headAt (suc left) at) → HeadLies at
+  unfolding heads
+  head-lies left at k h = go (headAt at) refl
+    where
+      go : (head : Head) → headAt at ≡ head → HeadLies at
+      go (At s) e = only at s e
+      go Cut e = let none : heads headAt (suc left) at ≡ [] = rw (e, heads) in absurd (omega (arith, h, ap length none))
+
+  -- behind the first head
+  later : (left at k : ℕ) → suc k < length (heads headAt (suc left) at) → k < length (heads headAt left (at + lengthAt at))
+  later left at k h =
+      let n = ap length (walk-on left at (head-lies left at (suc k) h)) in
+      omega (arith, h, n)
+
+  begins′ : (count at k : ℕ) → k < length (heads headAt count at) → (other : Subtable)
+      → getD (heads headAt count at) k other ≡ subtableAt (beginsAt lengthAt at k)
+  unfolding beginsAt heads
+  begins′ zero at k h other = absurd (omega (arith, h))
+  begins′ (suc left) at zero h other = ap (λ (w : List Subtable). getD w 0 other) (walk-on left at (head-lies left at 0 h))
+  begins′ (suc left) at (suc k) h other =
+      ap (λ (w : List Subtable). getD w (suc k) other) (walk-on left at (head-lies left at (suc k) h))
+      ∙ begins′ left (at + lengthAt at) k (later left at k h) other
+
+  counted′ : (count at k : ℕ) → k < length (heads headAt count at) → k < count
+  unfolding heads
+  counted′ zero at k h = absurd (omega (arith, h))
+  counted′ (suc left) at zero h = omega arith
+  counted′ (suc left) at (suc k) h = let c = counted′ left (at + lengthAt at) k (later left at k h) in omega (arith, c)
+
+  lies′ : (count at k : ℕ) → k < length (heads headAt count at) → HeadLies (beginsAt lengthAt at k)
+  unfolding beginsAt heads
+  lies′ zero at k h = absurd (omega (arith, h))
+  lies′ (suc left) at zero h = head-lies left at 0 h
+  lies′ (suc left) at (suc k) h = lies′ left (at + lengthAt at) k (later left at k h)
+
+  there′ : (count at k : ℕ) → k < count → ((j : ℕ) → j ≤ k → HeadLies (beginsAt lengthAt at j)) → k < length (heads headAt count at)
   unfolding beginsAt
-  walk-stands count = from-here count 0 first refl
+  there′ zero at k h all = absurd (omega (arith, h))
+  there′ (suc left) at zero h all = let n = ap length (walk-on left at (all 0 (omega arith))) in omega (arith, n)
+  there′ (suc left) at (suc k) h all =
+      let n = ap length (walk-on left at (all 0 (omega arith))) in
+      let more = there′ left (at + lengthAt at) k (omega (arith, h)) (λ j le. all (suc j) (omega (arith, le))) in
+      omega (arith, n, more)
+
+  pub walk-as-manual : (first count : ℕ) → AsManual HeadLies subtableAt lengthAt first count (heads headAt count first)
+  walk-as-manual first count =
+      record { begins = begins′ count first; counted = counted′ count first; lies = lies′ count first; there = there′ count first }

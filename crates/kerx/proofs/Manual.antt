@@ -1,47 +1,134 @@
--- kerx's subtables begin where the manual says.
-use Prim.Native.Nat.{ℕ, _+_}
-use mathlib.Core.Path.{_≡_, refl, sym, _∙_, ap}
+-- kerx's subtables begin where the manual says, and the answer for a pair is the manual's.
+use Prim.Native.Nat.{ℕ, _+_, _<_, _≤_, _%_}
+use mathlib.Core.Path.{_≡_, refl, sym, _∙_, ap, subst}
 use mathlib.Core.Bool.{Bool, true, false}
-use mathlib.Core.List.{List}
-use lib.Dec.{ltb}
-use lib.ListN.{drop}
+use mathlib.Core.List.{List, []}
+use mathlib.Core.Logic.{⊎-elim}
+use native.Mathlib.Omega.{arith}
 use native.Mathlib.Nat.{add-zero}
+use lib.Dec.{ltb}
+use lib.ListN.{length, drop, length-drop}
+use borrow.Author.Tests.{eq-eqb}
+use Rattle.laws.specs.Choose.{ifLt}
+use Rattle.laws.proofs.Numbers.{lt-or-ge}
 use Rattle.parse.specs.Reads.{u32At, readU32}
 use Rattle.parse.specs.declared.ReadU32.{ReadU32}
 use Rattle.parse.specs.declared.ReadU32.the-variants as U32
-use Rattle.parse.proofs.Laws.{u32-value, u32-from}
-use Rattle.kerning_lists.specs.Manual.{Stands}
+use Rattle.parse.proofs.Laws.{readU16-got, readU32-got, readU32-short, u32-from}
+use Rattle.tables.specs.ManualLookup.{Layout}
+use Rattle.pairs.specs.Pairs.{orderedKerx, classesKerx}
+use Rattle.pairs.specs.Reply.{replyOf}
+use Rattle.pairs.specs.Manual.{Rising, OrderedValue, ClassValue, Legible}
+use Rattle.pairs.specs.Manual as Pairs′
+use Rattle.pairs.specs.declared.PairReply.{PairReply}
+use Rattle.pairs.specs.declared.PairTable.the-variants.{Ordered, Classes}
+use Rattle.pairs.specs.declared.Opened.the-variants.{Ready}
+use Rattle.pairs.proofs.Manual.{ordered-as-manual, class-as-manual}
+use Rattle.kerning_lists.specs.Walk.{heads}
+use Rattle.kerning_lists.specs.Manual.{AsManual}
 use Rattle.kerning_lists.specs.declared.Subtable.{Subtable}
-use Rattle.kerning_lists.specs.declared.Head.the-variants.{At}
-use Rattle.kerning_lists.proofs.Manual.{Tells, no-head, walk-stands}
+use Rattle.kerning_lists.specs.declared.Head.the-variants.{At, Cut}
+use Rattle.kerning_lists.proofs.Manual.{no-head, walk-as-manual}
 use Rattle.kerx.specs.Heads.{subtableOf, headIn, headAt, listOf, walkOf}
-use Rattle.kerx.specs.Manual.{lengthAt}
+use Rattle.kerx.specs.Kerx.{pairIn}
+use Rattle.kerx.specs.Manual.{versionOf, countOf, lengthAt, subtableAt, HeadLies, HasPairs, HasClasses, tupleCount, pairCount, rowsOf, columnsOf, arrayOf}
 
-tells : (rtl : Bool) (bytes : List ℕ) (version at : ℕ) (s : Subtable) → headAt rtl bytes version at ≡ At s → Tells (lengthAt bytes) at s
-unfolding headIn subtableOf
-tells rtl bytes version at s e = go (readU32 part 0) (readU32 part 4) (ltb version 4) (readU32 part 8) refl refl refl refl
-  where
-    part : List ℕ
-    part = drop at bytes
+-- a head that lies in the table, and no other, is read as the manual has it
+module _ (rtl : Bool) (bytes : List ℕ) (version at : ℕ) where
+  u32-there : (i : ℕ) → at + i + 4 ≤ length bytes → readU32 (drop at bytes) i ≡ U32.Got (u32At bytes (at + i))
+  u32-there i h = readU32-got (drop at bytes) i (omega (arith, h, length-drop at bytes)) ∙ ap U32.Got (u32-from bytes at i)
 
-    told : (size coverage : ℕ) → readU32 part 0 ≡ U32.Got size → headIn rtl version at part ≡ At (subtableOf rtl at size coverage) → Tells (lengthAt bytes) at s
-    told size coverage f h =
-        let same : subtableOf rtl at size coverage ≡ s = (let z : At (subtableOf rtl at size coverage) ≡ At s = sym h ∙ e in cc) in
-        let n : size ≡ u32At bytes at = u32-value part 0 f .1 ∙ u32-from bytes at 0 ∙ ap (u32At bytes) (add-zero at) in
-        record {
-          place = ap (λ (x : Subtable). x .body) (sym same);
-          behind = ap (λ (x : Subtable). x .next) (sym same) ∙ ap (λ (x : ℕ). at + x) n;
-        }
+  size-there : at + 4 ≤ length bytes → readU32 (drop at bytes) 0 ≡ U32.Got (u32At bytes at)
+  size-there h = u32-there 0 (omega (arith, h)) ∙ ap (λ (p : ℕ). U32.Got (u32At bytes p)) (add-zero at)
 
-    go : (a b : ReadU32) (t : Bool) (d : ReadU32) → readU32 part 0 ≡ a → readU32 part 4 ≡ b → ltb version 4 ≡ t → readU32 part 8 ≡ d
-        → Tells (lengthAt bytes) at s
-    go (U32.Got size) (U32.Got coverage) true d f g p q = told size coverage f (rw (f, g, p, headIn))
-    go (U32.Got size) (U32.Got coverage) false (U32.Got tuples) f g p q = told size coverage f (rw (f, g, p, q, headIn))
-    go (U32.Got size) (U32.Got coverage) false U32.Short f g p q = no-head e (rw (f, g, p, q, headIn))
-    go (U32.Got size) U32.Short t d f g p q = no-head e (rw (f, g, headIn))
-    go U32.Short b t d f g p q = no-head e (rw (f, headIn))
+  u32-cut : (i : ℕ) → length bytes < at + i + 4 → readU32 (drop at bytes) i ≡ U32.Short
+  u32-cut i h = readU32-short (drop at bytes) i (omega (arith, h, length-drop at bytes))
 
-pub kerx-stands : (rtl : Bool) (bytes : List ℕ) → Stands (lengthAt bytes) 8 0 (walkOf rtl bytes)
-unfolding walkOf
-kerx-stands rtl bytes =
-    walk-stands (headAt rtl bytes (listOf bytes .version)) (lengthAt bytes) 8 (tells rtl bytes (listOf bytes .version)) (listOf bytes .count)
+  head-reads : HeadLies bytes version at → headAt rtl bytes version at ≡ At (subtableAt rtl bytes at)
+  unfolding headIn
+  head-reads h = go (ltb version 4) refl
+    where
+      go : (t : Bool) → ltb version 4 ≡ t → headAt rtl bytes version at ≡ At (subtableAt rtl bytes at)
+      go true p =
+          let k : at + 8 ≤ length bytes = rw p at h in
+          rw (size-there (omega (arith, k)), u32-there 4 (omega (arith, k)), p, headIn)
+      go false p =
+          let k : at + 12 ≤ length bytes = rw p at h in
+          rw (size-there (omega (arith, k)), u32-there 4 (omega (arith, k)), p, u32-there 8 (omega (arith, k)), headIn)
+
+  head-cut : length bytes < at + ifLt version 4 8 12 → headAt rtl bytes version at ≡ Cut
+  unfolding headIn
+  head-cut h = go (ltb version 4) (readU32 (drop at bytes) 0) (readU32 (drop at bytes) 4) refl refl refl
+    where
+      go : (t : Bool) (a b : ReadU32) → ltb version 4 ≡ t → readU32 (drop at bytes) 0 ≡ a → readU32 (drop at bytes) 4 ≡ b
+          → headAt rtl bytes version at ≡ Cut
+      go t U32.Short b p e f = rw (e, headIn)
+      go t (U32.Got size) U32.Short p e f = rw (e, f, headIn)
+      go true (U32.Got size) (U32.Got coverage) p e f =
+          let k : length bytes < at + 8 = rw p at h in
+          rw (e, u32-cut 4 (omega (arith, k)), headIn)
+      go false (U32.Got size) (U32.Got coverage) p e f =
+          let k : length bytes < at + 12 = rw p at h in
+          rw (e, f, p, u32-cut 8 (omega (arith, k)), headIn)
+
+  head-only : (s : Subtable) → headAt rtl bytes version at ≡ At s → HeadLies bytes version at
+  head-only s e =
+      ⊎-elim (λ (h : length bytes < at + ifLt version 4 8 12). no-head e (head-cut h)) (λ (h : at + ifLt version 4 8 12 ≤ length bytes). h)
+      (lt-or-ge (length bytes) (at + ifLt version 4 8 12))
+
+  behind : subtableAt rtl bytes at .next ≡ at + lengthAt bytes at
+  unfolding subtableOf
+  behind = refl
+
+-- where the list's own head lies in the table; else there is no subtable
+pub kerx-as-manual : (rtl : Bool) (bytes : List ℕ) → 8 ≤ length bytes
+    → AsManual (HeadLies bytes (versionOf bytes)) (subtableAt rtl bytes) (lengthAt bytes) 8 (countOf bytes) (walkOf rtl bytes)
+unfolding walkOf listOf
+kerx-as-manual rtl bytes h =
+    subst (AsManual (HeadLies bytes (versionOf bytes)) (subtableAt rtl bytes) (lengthAt bytes) 8 (countOf bytes))
+    (let e : heads (headAt rtl bytes (versionOf bytes)) (countOf bytes) 8 ≡ walkOf rtl bytes =
+    rw (readU16-got bytes 0 (omega (arith, h)), readU32-got bytes 4 (omega (arith, h))) in e)
+    (walk-as-manual (headAt rtl bytes (versionOf bytes)) (HeadLies bytes (versionOf bytes)) (subtableAt rtl bytes) (lengthAt bytes)
+    (behind rtl bytes (versionOf bytes)) (head-reads rtl bytes (versionOf bytes)) (head-only rtl bytes (versionOf bytes)) 8 (countOf bytes))
+
+pub kerx-without-list : (rtl : Bool) (bytes : List ℕ) → length bytes < 8 → walkOf rtl bytes ≡ []
+unfolding walkOf listOf heads
+kerx-without-list rtl bytes h = rw (readU32-short bytes 4 (omega (arith, h)), heads)
+
+-- the answer for a pair
+module _ (bytes : List ℕ) (version left right : ℕ) where
+  head-is : 12 ≤ length bytes → headIn false version 0 bytes ≡ At (subtableAt false bytes 0)
+  head-is h = head-reads false bytes version 0 (go (ltb version 4) refl)
+    where
+      go : (t : Bool) → ltb version 4 ≡ t → 0 + ifLt version 4 8 12 ≤ length bytes
+      go true p = rw p (omega (arith, h))
+      go false p = rw p (omega (arith, h))
+
+  pairs-are : HasPairs bytes → pairIn bytes version left right ≡ replyOf bytes (Ready (Ordered 28 (pairCount bytes))) left right
+  unfolding pairIn orderedKerx subtableOf
+  pairs-are has =
+      let h = has .head in
+      rw (head-is (omega (arith, h)), eq-eqb (u32At bytes 4 % 256) 0 (has .told), readU32-got bytes 12 (omega (arith, h)))
+
+  classes-are : HasClasses bytes
+      → pairIn bytes version left right ≡ replyOf bytes (Ready (Classes (rowsOf bytes) (columnsOf bytes) (arrayOf bytes))) left right
+  unfolding pairIn classesKerx subtableOf
+  classes-are has =
+      let h = has .head in
+      rw (head-is (omega (arith, h)), has .told, readU32-got bytes 16 (omega (arith, h)), readU32-got bytes 20 (omega (arith, h)), readU32-got bytes 24 (omega (arith, h)))
+
+  pub kerx-pair-as-manual : HasPairs bytes → tupleCount bytes version ≡ 0 → Rising bytes 28 (pairCount bytes)
+      → Pairs′.AsManual (pairIn bytes version left right) (OrderedValue bytes (tupleCount bytes version) 28 (pairCount bytes) left right)
+  kerx-pair-as-manual has none rising =
+      subst (λ (r : PairReply). Pairs′.AsManual r (OrderedValue bytes (tupleCount bytes version) 28 (pairCount bytes) left right)) (sym (pairs-are has))
+      (ordered-as-manual bytes (tupleCount bytes version) 28 (pairCount bytes) left right none rising)
+
+  pub kerx-class-as-manual : HasClasses bytes → (glyphs : ℕ) (leftLayout rightLayout : Layout)
+      → Legible (drop (rowsOf bytes) bytes) glyphs left leftLayout → Legible (drop (columnsOf bytes) bytes) glyphs right rightLayout
+      → Pairs′.AsManual (pairIn bytes version left right)
+      (ClassValue bytes glyphs (rowsOf bytes) (columnsOf bytes) (arrayOf bytes) left right leftLayout rightLayout)
+  kerx-class-as-manual has glyphs leftLayout rightLayout l r =
+      subst
+      (λ (x : PairReply). Pairs′.AsManual x (ClassValue bytes glyphs (rowsOf bytes) (columnsOf bytes) (arrayOf bytes) left right leftLayout rightLayout))
+      (sym (classes-are has))
+      (class-as-manual bytes glyphs (rowsOf bytes) (columnsOf bytes) (arrayOf bytes) left right leftLayout rightLayout l r)
