@@ -1,3 +1,4 @@
 -- Big-endian numbers in a table.
+pub mod Bytes
 pub mod Reads
 pub mod Use

@@ -7,6 +7,8 @@ ghost use Rattle.laws.specs.Bits.{isSet};
 ghost use Rattle.laws.specs.Signed.{signed16};
 ghost use Rattle.parse.specs.Reads.{u16At, readU8, readU16, readI16, readU32, readPart};
 
+pub mod bytes;
+
 pub enum ReadU8 {
     Got(u8),
     Short,
