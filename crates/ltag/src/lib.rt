@@ -1,6 +1,7 @@
 // The language tags of an `ltag` table: the index of a name among them.
 use answers::Check;
 use answers::Reply;
+use parse::bytes::Bytes;
 ghost use mathlib.Core.Path.{_≡_};
 ghost use Rattle.ltag.specs.Ltag.{equal, lookAt, sought, indexOf, languageIndex};
 
@@ -75,12 +76,26 @@ fn index_of(bytes: &[u8], name: &[u8]) -> Reply
     seek(bytes, name, count)
 }
 
-// The index of a name in the `ltag` table at `start`.
-pub fn language_index(table: &[u8], start: usize, name: &[u8]) -> Reply
+// The index of a name in the `ltag` table at `start`: the work behind the reader.
+fn index_from(table: &[u8], start: usize, name: &[u8]) -> Reply
     ensures { λ r. ⌜ r ≡ languageIndex (now (table .entry)) start (now (name .entry)) ⌝ }
 {
     if let Check::Refused(why) = answers::refuse_table(table.len()) {
         return Reply::Refused(why);
     }
     index_of(parse::from(table, start), name)
+}
+
+// The index of a name in the `ltag` table that a reader holds.
+pub fn language_index_in<'a, 'b>(bytes: Bytes<'a>, name: &'b [u8]) -> Reply
+    ensures { λ r. ⌜ r ≡ languageIndex (now (bytes .entry .table)) (bytes .entry .start) (now (name .entry)) ⌝ }
+{
+    index_from(bytes.table, bytes.start, name)
+}
+
+// The index of a name in the `ltag` table at `start`.
+pub fn language_index(table: &[u8], start: usize, name: &[u8]) -> Reply
+    ensures { λ r. ⌜ r ≡ languageIndex (now (table .entry)) start (now (name .entry)) ⌝ }
+{
+    language_index_in(Bytes::new(table, start), name)
 }

@@ -6,6 +6,7 @@ use crate::records::Kind;
 use crate::records::Spot;
 use answers::Check;
 use answers::Reply;
+use parse::bytes::Bytes;
 ghost use mathlib.Core.Path.{_≡_};
 ghost use Prim.Native.Nat.{_-_, _<_, _^_};
 ghost use Rattle.tables.specs.Lookup.{elementAt, elementOf, inRecords, trimmedAt, lookupAt, lookupReply};
@@ -119,8 +120,8 @@ pub fn lookup_at(bytes: &[u8], glyph: u16) -> Found
     }
 }
 
-// The element of a glyph in the lookup table at `start`.
-pub fn lookup(table: &[u8], start: usize, glyph: u16) -> Reply
+// The element of a glyph in the lookup table at `start`: the work behind the reader.
+fn lookup_from(table: &[u8], start: usize, glyph: u16) -> Reply
     ensures { λ r. ⌜ r ≡ lookupReply (now (table .entry)) start glyph ⌝ }
 {
     if let Check::Refused(why) = answers::refuse_table(table.len()) {
@@ -130,4 +131,18 @@ pub fn lookup(table: &[u8], start: usize, glyph: u16) -> Reply
         return Reply::Nothing;
     };
     Reply::Value(element as u32)
+}
+
+// The element of a glyph in the lookup table that a reader holds.
+pub fn lookup_in<'a>(bytes: Bytes<'a>, glyph: u16) -> Reply
+    ensures { λ r. ⌜ r ≡ lookupReply (now (bytes .entry .table)) (bytes .entry .start) glyph ⌝ }
+{
+    lookup_from(bytes.table, bytes.start, glyph)
+}
+
+// The element of a glyph in the lookup table at `start`.
+pub fn lookup(table: &[u8], start: usize, glyph: u16) -> Reply
+    ensures { λ r. ⌜ r ≡ lookupReply (now (table .entry)) start glyph ⌝ }
+{
+    lookup_in(Bytes::new(table, start), glyph)
 }

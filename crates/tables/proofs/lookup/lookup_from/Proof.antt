@@ -1,0 +1,58 @@
+use borrow.Author.Tests.{lt-ltb, le-ltb}
+use mathlib.Core.Path.{sym, _∙_}
+use Rattle.tables.specs.Lookup.{lookupReply}
+use borrow.Author.Needs.{needs}
+use Rattle.tables.proofs.lookup.lookup_from.Statement.{statement}
+use Rattle.tables.proofs.lookup.lookup_from.Tie as tie
+
+refuse-table-requires : tie.Need-refuse-table-requires
+refuse-table-requires c κs = search needs
+
+enum-known-why : tie.Need-enum-known-why
+enum-known-why c = search needs
+
+returns : tie.Need-returns
+unfolding lookupReply
+returns c = rw (sym (c .before .before .before .refuse-table .ensures) ∙ c .before .why .given .1, lookupReply)
+
+enum-told : tie.Need-enum-told
+enum-told c = search needs
+
+from-requires : tie.Need-from-requires
+from-requires c κs = search needs
+
+lookup-at-requires : tie.Need-lookup-at-requires
+lookup-at-requires c κs = search needs
+
+enum-known-element : tie.Need-enum-known-element
+enum-known-element c = search needs
+
+enum-told-2 : tie.Need-enum-told-2
+enum-told-2 c = search needs
+
+returns-2 : tie.Need-returns-2
+unfolding lookupReply
+returns-2 c = rw (sym (c .before .before .before .before .before .before .refuse-table .ensures) ∙ c .before .before .before .before .enum-told .given .1, ← (c .before .before .before .from .ensures), sym (c .before .before .lookup-at .ensures) ∙ c .enum-told2 .given .1, lookupReply)
+
+cast-t10 : tie.Need-cast-t10
+cast-t10 c = search needs
+
+returns-3 : tie.Need-returns-3
+unfolding lookupReply
+returns-3 c = rw (sym (c .before .before .before .before .before .before .before .refuse-table .ensures) ∙ c .before .before .before .before .before .enum-told .given .1, ← (c .before .before .before .before .from .ensures), sym (c .before .before .before .lookup-at .ensures) ∙ c .before .element .given .1, lookupReply)
+
+pub lookup-from-spec : {M : Type 1} → statement M
+lookup-from-spec =
+    tie.close
+    (tie.spec
+    refuse-table-requires
+    enum-known-why
+    returns
+    enum-told
+    from-requires
+    lookup-at-requires
+    enum-known-element
+    enum-told-2
+    returns-2
+    cast-t10
+    returns-3)
