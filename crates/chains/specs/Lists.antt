@@ -5,7 +5,7 @@ use mathlib.Core.List.{List}
 use Rattle.laws.specs.Choose.{ifEq}
 use Rattle.parse.specs.Reads.{inside, u16At, u32At, readU32}
 use Rattle.parse.specs.Use.{onU32}
-use Rattle.chains.specs.Orders.{kindOf, orderOf, isVertical}
+use Rattle.chains.specs.Orders.{kindNumber, orderOf, isVertical}
 use Rattle.chains.specs.declared.Cursor.{Cursor}
 use Rattle.chains.specs.declared.Chain.{Chain}
 use Rattle.chains.specs.declared.Feature.{Feature}
@@ -65,7 +65,7 @@ subtableAt table place left =
     record {
       place = place;
       coverage = u32At table (place + 4);
-      kind = kindOf (u32At table (place + 4));
+      kind = kindNumber (u32At table (place + 4));
       order = orderOf (u32At table (place + 4));
       vertical = isVertical (u32At table (place + 4));
       flags = u32At table (place + 8);

@@ -5,7 +5,7 @@ use mathlib.Core.Path.{_≡_}
 use mathlib.Core.List.{List}
 use lib.ListN.{length}
 use Rattle.parse.specs.Reads.{u16At, u32At}
-use Rattle.chains.specs.Orders.{kindOf, orderOf, isVertical}
+use Rattle.chains.specs.Orders.{kindNumber, orderOf, isVertical}
 use Rattle.chains.specs.Lists.{cursor, nextChain, nextFeature, nextSubtable}
 use Rattle.chains.specs.declared.Cursor.{Cursor}
 use Rattle.chains.specs.declared.Chain.{Chain}
@@ -79,7 +79,7 @@ module _ (table : List ℕ) where
       record {
         place = subtable;
         coverage = u32At table (subtable + 4);
-        kind = kindOf (u32At table (subtable + 4));
+        kind = kindNumber (u32At table (subtable + 4));
         order = orderOf (u32At table (subtable + 4));
         vertical = isVertical (u32At table (subtable + 4));
         flags = u32At table (subtable + 8);

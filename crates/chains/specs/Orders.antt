@@ -5,9 +5,9 @@ use Rattle.laws.specs.Bits.{isSet}
 use Rattle.chains.specs.declared.Order.{Order}
 use Rattle.chains.specs.declared.Order.the-variants.{Layout, ReverseLayout, Logical, ReverseLogical}
 
--- the kind is the low byte
-abbrev pub kindOf : ℕ → ℕ
-kindOf coverage = coverage % 256
+-- the number of its kind is the low byte
+abbrev pub kindNumber : ℕ → ℕ
+kindNumber coverage = coverage % 256
 
 -- by 0x10000000, the order of characters instead of layout, and 0x40000000, descending
 abbrev pub orderBy : (logical descending : Bool) → Order
