@@ -1,14 +1,18 @@
 // The shaper as a program: reads an input from standard input, shapes its line and prints it.
 use answers::Answer;
 use shaper::SHAPER_ROOM;
+use shaper::SHAPER_TABLE;
 use shaper::Shaped;
 
 const IN: i32 = 0;
 
 const OUT: i32 = 1;
 
-// The longest input that is taken has 4 + 32,768 + 2 + 8,192 bytes; one more shows that an input is longer.
-const MOST_BYTES: usize = 40_967;
+// The longest input that is taken: a table with its length, and glyphs of two bytes with their count.
+const LONGEST_INPUT: usize = 4 + SHAPER_TABLE as usize + 2 + 2 * SHAPER_ROOM;
+
+// One more shows that an input is longer.
+const MOST_BYTES: usize = LONGEST_INPUT + 1;
 
 fn print_number(name: &[u8], number: u64) {
     io::write_all(OUT, name);
