@@ -12,6 +12,7 @@ ghost use mathlib.Core.Path.{_≡_};
 ghost use mathlib.Core.Bool.{true, not};
 ghost use Prim.Native.Nat.{_≤_};
 ghost use lib.ListN.{length, drop};
+ghost use Rattle.laws.specs.Backward.{backward};
 ghost use Rattle.answers.specs.Refuse.{refuse};
 ghost use Rattle.line.specs.Line.{lineOf};
 ghost use Rattle.line.specs.Test.{isValid};
@@ -168,6 +169,15 @@ fn opens(kind: Kind, bytes: &[u8]) -> bool
     }
 }
 
+// Turns the line back behind a pass, whatever that answered.
+fn turn_back(reply: PassReply, glyphs: &mut [u16], tags: &mut [u16])
+    requires { ⌜ (reply .used ≤ length (now glyphs)) × (reply .used ≤ length (now tags)) ⌝ }
+    ensures glyphs { λ _. ⌜ now (glyphs .exit) ≡ backward (reply .used) (now (glyphs .entry)) ⌝ }
+    ensures tags { λ _. ⌜ now (tags .exit) ≡ backward (reply .used) (now (tags .entry)) ⌝ }
+{
+    line::edits::reverse(glyphs, tags, reply.used);
+}
+
 // The pass on the line, turned round where that is asked for; it is turned back however the pass ends.
 fn turn_and_work(
     turned: bool,
@@ -189,7 +199,7 @@ fn turn_and_work(
     }
     line::edits::reverse(glyphs, tags, used);
     let reply = work(kind, bytes, glyphs, tags, homes, used);
-    line::edits::reverse(glyphs, tags, reply.used);
+    turn_back(reply, glyphs, tags);
     reply
 }
 

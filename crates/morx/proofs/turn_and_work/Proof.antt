@@ -31,9 +31,9 @@ reverse-requires c κs = let v = valid-line (c .before .before .before .before .
 work-requires-2 : tie.Need-work-requires-2
 work-requires-2 c κs = turned-valid _ _ _ _ (c .before .before .before .before .before .before .before .reverse .ensures .0) (c .before .before .before .before .before .before .before .reverse .ensures .1) (c .before .before .before .before .before .before .before .before .before .before .before .before .before .before .before .pre)
 
-reverse-requires-2 : tie.Need-reverse-requires-2
+turn-back-requires : tie.Need-turn-back-requires
 unfolding workLeaves
-reverse-requires-2 c κs = let v = valid-line (worked-valid true _ _ _ _ _ _ (c .before .before .before .before .before .before .before .before .before .before .before .before .before .before .before .before .before .before .before .before .before .before .before .before .pre) (c .before .before .before .before .before .before .before .before .before .before .before .before .before .before .before .before .reverse .ensures .0) (c .before .before .before .before .before .before .before .before .before .before .before .before .before .before .before .before .reverse .ensures .1) (of-post (worked _ _ (lineOf _ _ _ _)) (lineOf _ _ _ _) _ _ _ _ (c .before .before .before .before .before .before .before .before .work2 .ensures))) in (v .within, fits-tags v)
+turn-back-requires c κs = let v = valid-line (worked-valid true _ _ _ _ _ _ (c .before .before .before .before .before .before .before .before .before .before .before .before .before .before .before .before .before .before .before .before .before .before .before .before .pre) (c .before .before .before .before .before .before .before .before .before .before .before .before .before .before .before .before .reverse .ensures .0) (c .before .before .before .before .before .before .before .before .before .before .before .before .before .before .before .before .reverse .ensures .1) (of-post (worked _ _ (lineOf _ _ _ _)) (lineOf _ _ _ _) _ _ _ _ (c .before .before .before .before .before .before .before .before .work2 .ensures))) in (v .within, fits-tags v)
 
 same-length-4 : tie.Need-same-length-4
 same-length-4 c = search needs
@@ -46,7 +46,7 @@ same-length-6 c = search needs
 
 returns-2 : tie.Need-returns-2
 unfolding turnedLeaves workLeaves
-returns-2 c = to-post (turnedWork _ _ _ (lineOf _ _ _ _)) (lineOf _ _ _ _) _ _ _ _ (turned-back _ _ _ _ _ _ _ (c .before .before .before .before .before .before .before .before .before .before .before .before .before .before .before .before .before .before .before .before .before .before .before .before .before .before .before .before .before .pre) (c .before .before .before .before .before .before .before .before .before .before .before .before .before .before .before .before .before .before .before .before .before .reverse .ensures .0) (c .before .before .before .before .before .before .before .before .before .before .before .before .before .before .before .before .before .before .before .before .before .reverse .ensures .1) (of-post (worked _ _ (lineOf _ _ _ _)) (lineOf _ _ _ _) _ _ _ _ (c .before .before .before .before .before .before .before .before .before .before .before .before .before .work2 .ensures)) (not-false _ (c .before .before .before .before .before .before .before .before .before .before .before .before .before .before .before .before .before .before .before .before .before .before .before .before .if1 .left)) (c .before .before .before .before .reverse2 .ensures .0) (c .before .before .before .before .reverse2 .ensures .1))
+returns-2 c = to-post (turnedWork _ _ _ (lineOf _ _ _ _)) (lineOf _ _ _ _) _ _ _ _ (turned-back _ _ _ _ _ _ _ (c .before .before .before .before .before .before .before .before .before .before .before .before .before .before .before .before .before .before .before .before .before .before .before .before .before .before .before .before .before .pre) (c .before .before .before .before .before .before .before .before .before .before .before .before .before .before .before .before .before .before .before .before .before .reverse .ensures .0) (c .before .before .before .before .before .before .before .before .before .before .before .before .before .before .before .before .before .before .before .before .before .reverse .ensures .1) (of-post (worked _ _ (lineOf _ _ _ _)) (lineOf _ _ _ _) _ _ _ _ (c .before .before .before .before .before .before .before .before .before .before .before .before .before .work2 .ensures)) (not-false _ (c .before .before .before .before .before .before .before .before .before .before .before .before .before .before .before .before .before .before .before .before .before .before .before .before .if1 .left)) (c .before .before .before .before .turn-back .ensures .0) (c .before .before .before .before .turn-back .ensures .1))
 
 pub turn-and-work-spec : {M : Type 1} → statement M
 turn-and-work-spec =
@@ -59,7 +59,7 @@ turn-and-work-spec =
     returns
     reverse-requires
     work-requires-2
-    reverse-requires-2
+    turn-back-requires
     same-length-4
     same-length-5
     same-length-6
