@@ -60,9 +60,10 @@ is_stale() { # FILE SOURCE..
     [ ! -e "$1" ] || [ -n "$(find "${@:2}" -newer "$1" -print -quit)" ]
 }
 
-# Copies the crate with the fields of the states, and of what a step hands over, made public.
+# Copies the crate with the fields of the states, of what a step hands over, and of morx's lists made public.
 open_crate() {
     local opened='RearrangementState|ContextualState|LigatureState|InsertionState|Format1State|Rearrange|Array' file
+    opened+='|Chains|Chain|Features|Subtables|Subtable'
     for file in aat.rs parse.rs; do
         sed -E "/^ *pub struct ($opened)\\b/,/\}/ s/^( *)([a-z_]+:)/\\1pub \\2/" "$top/docs/src/$file" >"$built/$file"
     done

@@ -29,10 +29,16 @@ pub enum Entry {
     KerxRun,
     KernStep,
     KerxStep,
+    MorxChains,
+    MorxNextChain,
+    MorxNextFeature,
+    MorxNextSubtable,
+    MorxOrder,
+    MorxShouldReverse,
 }
 
 /// The names, in the order of the numbers.
-const NAMES: [&str; 26] = [
+const NAMES: [&str; 32] = [
     "aat_lookup",
     "aat_survey",
     "aat_class_extended",
@@ -59,6 +65,12 @@ const NAMES: [&str; 26] = [
     "aat_kerx_run",
     "aat_kern_step",
     "aat_kerx_step",
+    "aat_morx_chains",
+    "aat_morx_next_chain",
+    "aat_morx_next_feature",
+    "aat_morx_next_subtable",
+    "aat_morx_order",
+    "aat_morx_should_reverse",
 ];
 
 impl Entry {

@@ -12,7 +12,7 @@ use crate::line::LARGEST_ROOM;
 use crate::oracle::{Answer, Fault, LONGEST_TABLE};
 use crate::passes::any_glyphs;
 use crate::random::Random;
-use crate::reply::number;
+use crate::reply::{add, number, numbers};
 use crate::trace::describe_state;
 use std::rc::Rc;
 
@@ -111,16 +111,12 @@ impl Question for Step {
     }
 
     fn describe_reply(&self, reply: &[u8]) -> String {
-        let (along, numbers) = reply[4..].split_at(8 * self.along.len());
-        let numbers: Vec<u64> = numbers.chunks_exact(8).map(number).collect();
+        let (along, bytes) = reply[4..].split_at(8 * self.along.len());
+        let numbers = numbers(bytes);
         let (state, advance) = numbers.split_at(STATE);
         let left = format!("state {}; advance {}", describe_state(state), advance[0]);
         format!("answer {}; {}; {}", number(&reply[..4]), left, describe_along(&along_of(along)))
     }
-}
-
-fn add(numbers: &[u64], bytes: &mut Vec<u8>) {
-    bytes.extend(numbers.iter().flat_map(|number| number.to_le_bytes()));
 }
 
 fn entry(kerning: Kerning) -> Entry {

@@ -21,6 +21,8 @@ mod lent_line;
 mod ligature_pass;
 mod limit;
 mod line;
+mod lists;
+mod lists_by_copy;
 mod lookup;
 mod lookup_tables;
 mod ltag;
@@ -92,6 +94,7 @@ fn ask_all(asked: &mut dyn Ask, cases: u64, seed: u64, seconds: u64) -> u64 {
     for machine in &step::MACHINES {
         steps::ask_all(asked.part(), machine, random, cases / 5);
     }
+    lists::ask_all(asked.part(), random, cases / 5);
     runs::ask_all(asked.part(), random, cases / 5);
     for kerning in [Kerning::Kern, Kerning::Kerx] {
         kerning_pairs::ask_all(asked.part(), kerning, random, cases / 5);

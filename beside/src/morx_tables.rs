@@ -108,3 +108,39 @@ pub fn any_machine(
     let parts = [any_with_values(random, glyphs.start, &class_of), words(&rows), words(&list)];
     machine(classes as u16, &[&parts, more].concat())
 }
+
+/// Any table of many heads: chains with features and with subtables of any coverage and few bytes. In one of two some counts
+/// and sizes are wrong.
+pub fn any_heads(random: &mut Random) -> Vec<u8> {
+    let goes_astray = random.once_in(2);
+    let chains: Vec<Vec<u8>> = (0..random.below(9))
+        .map(|_| {
+            let subtables: Vec<Vec<u8>> = (0..random.below(9))
+                .map(|_| {
+                    let size = random.below(5);
+                    let mut made = chosen_subtable(random.number() as u32, random.number() as u32, &random.bytes(size));
+                    mislead(random, goes_astray, &mut made[..4]);
+                    made
+                })
+                .collect();
+            let features = 12 * random.among(&[0, 1, 2, 5, 20]);
+            let mut made = chain(random.number() as u32, &random.bytes(features), &subtables);
+            for at in [4, 8, 12] {
+                mislead(random, goes_astray, &mut made[at..at + 4]);
+            }
+            made
+        })
+        .collect();
+    let mut table = morx(&chains);
+    mislead(random, goes_astray, &mut table[4..8]);
+    table
+}
+
+/// Sometimes changes a 32-bit count or size.
+fn mislead(random: &mut Random, goes_astray: bool, number: &mut [u8]) {
+    if goes_astray && random.once_in(12) {
+        let few = random.below(40) as u32;
+        let wrong = random.among(&[0, 1, few, few, 0xFFFF, 0x8000_0000, u32::MAX]);
+        number.copy_from_slice(&wrong.to_be_bytes());
+    }
+}

@@ -1,5 +1,6 @@
-//! A copy of the crate, made when this is built, in which the fields of the states and of what a step hands over are
-//! public, so that steps can be made from lent states. Nothing else differs: every pass is made by both, and compared.
+//! A copy of the crate, made when this is built, in which the fields of the states, of what a step hands over and of morx's
+//! lists are public, so that steps can be made from lent states and lists gone through from lent cursors. Nothing else
+//! differs: every pass and every list from its start on is made by both, and compared.
 
 #[path = "../../target/beside/aat.rs"]
 #[allow(dead_code)]

@@ -9,7 +9,7 @@ use crate::oracle::{caught, Answer, Fault, LONGEST_TABLE};
 use crate::pass::line_of;
 use crate::passes::{any_glyphs, any_line_of, any_subtable};
 use crate::random::Random;
-use crate::reply::number;
+use crate::reply::{add, numbers};
 use crate::step::{Lent, Machine, Sees, Slot, Told, DEEPEST};
 use crate::steps_by_copy::open;
 use crate::trace::describe_state;
@@ -134,17 +134,13 @@ impl Question for Step {
     }
 
     fn describe_reply(&self, reply: &[u8]) -> String {
-        let numbers = self.machine.state.len() + 1 + self.machine.edits;
-        let (line, numbers) = reply.split_at(reply.len() - 8 * numbers);
-        let numbers: Vec<u64> = numbers.chunks_exact(8).map(number).collect();
+        let count = self.machine.state.len() + 1 + self.machine.edits;
+        let (line, bytes) = reply.split_at(reply.len() - 8 * count);
+        let numbers = numbers(bytes);
         let (state, rest) = numbers.split_at(self.machine.state.len());
         let line = self.line.describe_reply(line);
         format!("{}; state {}; advance {}; edits {:?}", line, describe_state(state), rest[0], &rest[1..])
     }
-}
-
-fn add(numbers: &[u64], bytes: &mut Vec<u8>) {
-    bytes.extend(numbers.iter().flat_map(|number| number.to_le_bytes()));
 }
 
 /// Every question about a machine's lone step, with so many random ones.

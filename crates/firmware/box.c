@@ -42,6 +42,13 @@
                                version 2, start 8, index 8,
                                glyph 2, advance 8
       26 kerx_step             as 25                             as 25
+      27 morx_chains           start 8, cursor 2 x 8             answer 4, cursor
+      28 morx_next_chain       cursor 2 x 8, fields 6 x 8        answer 4, cursor, fields
+      29 morx_next_feature     cursor 2 x 8, fields 5 x 8        as 28
+      30 morx_next_subtable    as 28                             as 28
+      31 morx_order            coverage 4, order 4               answer 4, order 4
+      32 morx_should_reverse   coverage 4, direction 4,          answer 4, turned 4
+                               turned 4
 
    A name is its length 4 and the bytes. Glyphs, tags and homes are each a count 4 and so many numbers 2, the adjustments along
    the line a count 4 and so many numbers 8; a reply has the numbers alone.
@@ -79,6 +86,9 @@ static uint64_t state[66], edits[7];
 static size_t start, index, advance;
 static uint16_t glyph, version;
 static uint32_t ends;
+
+/* Where a list goes on, and what its next element has. */
+static uint64_t cursor[2], fields[6];
 
 static uint8_t input[65536], output[65536];
 static size_t input_len, input_at, output_len;
@@ -361,6 +371,46 @@ static void kern_one(kerning_step *entry) {
     put(advance, 8);
 }
 
+typedef uint32_t next_of_list(const uint8_t *, size_t, uint64_t *, uint64_t *);
+
+/* Not in aat.h yet. */
+uint32_t aat_morx_chains(const uint8_t *, size_t, size_t, uint64_t *);
+uint32_t aat_morx_next_chain(const uint8_t *, size_t, uint64_t *, uint64_t *);
+uint32_t aat_morx_next_feature(const uint8_t *, size_t, uint64_t *, uint64_t *);
+uint32_t aat_morx_next_subtable(const uint8_t *, size_t, uint64_t *, uint64_t *);
+uint32_t aat_morx_order(uint32_t, uint32_t *);
+uint32_t aat_morx_should_reverse(uint32_t, _Bool, uint32_t *);
+
+static void morx_chains(void) {
+    start = take(8);
+    take_numbers(cursor, 2);
+    put(aat_morx_chains(table, table_len, start, cursor), 4);
+    put_numbers(cursor, 2);
+}
+
+static void next(next_of_list *entry, int count) {
+    take_numbers(cursor, 2);
+    take_numbers(fields, count);
+    put(entry(table, table_len, cursor, fields), 4);
+    put_numbers(cursor, 2);
+    put_numbers(fields, count);
+}
+
+static void morx_order(void) {
+    uint32_t coverage = (uint32_t)take(4);
+    uint32_t order = (uint32_t)take(4);
+    put(aat_morx_order(coverage, &order), 4);
+    put(order, 4);
+}
+
+static void morx_should_reverse(void) {
+    uint32_t coverage = (uint32_t)take(4);
+    uint32_t right_to_left = (uint32_t)take(4);
+    uint32_t turned = (uint32_t)take(4);
+    put(aat_morx_should_reverse(coverage, right_to_left != 0, &turned), 4);
+    put(turned, 4);
+}
+
 static void answer(uint8_t call) {
     if (8 <= call && call <= 13) take_pass();
     switch (call) {
@@ -391,6 +441,12 @@ static void answer(uint8_t call) {
     case 24: kerx_run(); break;
     case 25: kern_one(aat_kern_step); break;
     case 26: kern_one(aat_kerx_step); break;
+    case 27: morx_chains(); break;
+    case 28: next(aat_morx_next_chain, 6); break;
+    case 29: next(aat_morx_next_feature, 5); break;
+    case 30: next(aat_morx_next_subtable, 6); break;
+    case 31: morx_order(); break;
+    case 32: morx_should_reverse(); break;
     default: exit(1);
     }
 }
