@@ -1,5 +1,6 @@
 # What run and bench share: where things lie, a Rust compiler, and the archive of the proved entries.
-# BESIDE_ARCHIVE names another archive, to see that wrong entries are caught.
+# BESIDE_ARCHIVE names another archive, to see that wrong entries are caught, and BESIDE_SHAPE the shaper's program, which has to be
+# there then.
 set -euo pipefail
 
 top=$(cd "$(dirname "${BASH_SOURCE[0]}")/.." && pwd)
@@ -7,6 +8,7 @@ firmware=$top/crates/firmware
 built=$top/target/beside
 target=x86_64-unknown-linux-gnu
 archive=${BESIDE_ARCHIVE:-$top/target/staticlib/libfirmware.a}
+program=${BESIDE_SHAPE:-$top/target/bin/shape}
 mkdir -p "$built"
 
 give_up() { # STATUS WORDS..

@@ -3,6 +3,8 @@
 #[allow(dead_code)]
 mod entries;
 #[allow(dead_code)]
+mod hex;
+#[allow(dead_code)]
 mod language_tables;
 #[allow(dead_code)]
 mod line;

@@ -1,6 +1,7 @@
 //! Questions to both sides, their answers compared, and what is said of a difference.
 
 use crate::entries::Entry;
+use crate::hex;
 use crate::oracle::Fault;
 use crate::pipe::{lend_table, TheBox};
 use crate::progress::Progress;
@@ -82,8 +83,9 @@ struct Waiting {
 }
 
 const BATCH_BYTES: usize = 1 << 18;
-const DIFFERENCES_SHOWN: u64 = 10;
-const BYTES_SHOWN: usize = 200;
+
+/// The most differences that are shown.
+pub const DIFFERENCES_SHOWN: u64 = 10;
 
 impl Ask for Comparison {
     fn ask(&mut self, table: &Rc<[u8]>, question: Box<dyn Question>) {
@@ -179,17 +181,11 @@ impl Comparison {
 
     fn print_case(&self, table: &[u8], question: &dyn Question, held: u64) {
         println!("difference: {}", question.describe(held));
-        let shown = &table[..table.len().min(BYTES_SHOWN)];
-        let more = if shown.len() < table.len() { ".." } else { "" };
-        println!("  table of {} bytes: {}{}", table.len(), hex(shown), more);
+        println!("  table of {}", hex::describe(table));
         if self.traces {
             question.trace(table).iter().for_each(|step| println!("    {}", step));
         }
     }
-}
-
-fn hex(bytes: &[u8]) -> String {
-    bytes.iter().map(|byte| format!("{:02x}", byte)).collect()
 }
 
 fn give_up(why: impl std::fmt::Display) -> ! {

@@ -1,5 +1,6 @@
 //! kern and kerx tables whose adjustments follow from the documents, and small ones that bring the machines to their limits.
 
+use crate::hex::bytes;
 use crate::kerning::{Kerning, ALONE_AT};
 use crate::kerning_tables::{Edition, Entry, NONE, PUSH, RESET, STAY};
 use crate::lookup_tables::words;
@@ -150,12 +151,6 @@ pub fn documented() -> Vec<Documented> {
             &[10, 0],
         ),
     ]
-}
-
-/// The bytes that these digits are.
-fn bytes(hex: &str) -> Vec<u8> {
-    let digits = |at: usize| u8::from_str_radix(&hex[at..at + 2], 16).expect("two digits");
-    (0..hex.len()).step_by(2).map(digits).collect()
 }
 
 /// A kerx table whose glyph 5 is pushed and whose glyph 6 takes this list, along the stream.

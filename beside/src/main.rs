@@ -4,6 +4,7 @@ mod classes;
 mod compare;
 mod contextual_pass;
 mod entries;
+mod hex;
 mod insertion_pass;
 mod kerning;
 mod kerning_by_copy;
@@ -42,6 +43,9 @@ mod reply;
 mod run;
 mod runs;
 mod sample;
+mod shaper;
+mod shaper_inputs;
+mod shaper_program;
 mod state_tables;
 mod step;
 mod steps;
@@ -61,14 +65,16 @@ use random::Random;
 use sample::Sample;
 use std::process::ExitCode;
 
-const USAGE: &str = "usage: beside compare|trace CASES SEED SECONDS BOX-COMMAND.. | beside sample FILE";
+const USAGE: &str = "usage: beside compare|trace CASES SEED SECONDS BOX-COMMAND.. | beside shape CASES SEED SECONDS \
+                     PROGRAM-COMMAND.. | beside sample FILE";
 
 fn main() -> ExitCode {
     oracle::quiet_crate();
     let words: Vec<String> = std::env::args().skip(1).collect();
     match words.iter().map(String::as_str).collect::<Vec<_>>()[..] {
-        [mode @ ("compare" | "trace"), cases, seed, seconds, _, ..] => {
+        [mode @ ("compare" | "trace" | "shape"), cases, seed, seconds, _, ..] => {
             match (cases.parse(), seed.parse(), seconds.parse()) {
+                (Ok(cases), Ok(seed), Ok(seconds)) if mode == "shape" => shape(cases, seed, seconds, &words[4..]),
                 (Ok(cases), Ok(seed), Ok(seconds)) => compare(mode == "trace", cases, seed, seconds, &words[4..]),
                 _ => failed(USAGE),
             }
@@ -134,6 +140,19 @@ fn compare(traces: bool, cases: u64, seed: u64, seconds: u64, command: &[String]
         checks, actions, classes
     );
     println!("{} cases, {} differences (seed {})", totals.cases, totals.differences, seed);
+    ExitCode::from(u8::from(totals.differences > 0))
+}
+
+/// Compares what the shaper's program prints with what the crate gives.
+fn shape(cases: u64, seed: u64, seconds: u64, command: &[String]) -> ExitCode {
+    let totals = match shaper_program::compare(command, cases, seed, seconds) {
+        Ok(totals) => totals,
+        Err(error) => return failed(error),
+    };
+    if totals.left_out > 0 {
+        println!("{} inputs were left out when {} seconds were over", totals.left_out, seconds);
+    }
+    println!("the program shape: {} inputs, {} differences (seed {})", totals.cases, totals.differences, seed);
     ExitCode::from(u8::from(totals.differences > 0))
 }
 

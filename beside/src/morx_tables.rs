@@ -1,5 +1,6 @@
 //! morx subtables as bytes, of given parts and from a seed, and how the crate is brought to read one.
 
+use crate::hex::bytes;
 use crate::lookup_tables::{any_with_values, with_values, words};
 use crate::oracle::aat::morx::{chains, SubtableKind};
 use crate::random::Random;
@@ -58,8 +59,7 @@ pub const CHAIN_HEADS: usize = 24;
 
 /// The body in such a table, which is written in hex.
 pub fn body_of(table: &str) -> Vec<u8> {
-    let digits = |at: usize| u8::from_str_radix(&table[at..at + 2], 16).expect("two digits");
-    (0..table.len()).step_by(2).map(digits).skip(CHAIN_HEADS + SUBTABLE_HEAD).collect()
+    bytes(table).split_off(CHAIN_HEADS + SUBTABLE_HEAD)
 }
 
 /// What the crate makes of the subtable of such a table.

@@ -116,12 +116,12 @@ fn ask_one_way(asked: &mut dyn Ask, table: &Rc<[u8]>, start: usize, line: &Line,
 }
 
 /// The lookup of document 01: 5 becomes 7 and 6 becomes 9.
-fn trimmed() -> Vec<u8> {
+pub fn trimmed() -> Vec<u8> {
     with_values(8, 5, &[7, 9])
 }
 
 /// A subtable of this order that puts two glyphs in behind each 10.
-fn puts_in(order: u32) -> Vec<u8> {
+pub fn puts_in(order: u32) -> Vec<u8> {
     let Kind { number, examples, .. } = insertion_pass::KIND;
     subtable(order | number, &examples().swap_remove(0).body)
 }
@@ -287,7 +287,7 @@ fn random_tables(asked: &mut dyn Ask, random: &mut Random, cases: u64) {
 }
 
 /// Any table: some chains, each of some subtables; now and then a count or a length is wrong.
-fn any_morx(random: &mut Random, glyphs: &Range<u16>) -> Vec<u8> {
+pub fn any_morx(random: &mut Random, glyphs: &Range<u16>) -> Vec<u8> {
     let chains: Vec<Vec<u8>> = (0..random.below(4)).map(|_| any_chain(random, glyphs)).collect();
     let mut table = morx(&chains);
     if random.once_in(12) {
