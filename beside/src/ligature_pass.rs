@@ -35,9 +35,18 @@ fn lists(actions: &[u32], components: &[u16], ligatures: &[u16]) -> [Vec<u8>; 3]
 /// adds 0 for glyph 10, 1 for 11 and more for a few behind them; the ligatures are 20, 21, 10, 11 and so on.
 fn small_body(entries: &[Placed], flags: &[u32]) -> Vec<u8> {
     let actions: Vec<u32> = flags.iter().map(|flags| action(*flags, -10)).collect();
+    small_machine(2, 2, &[0, 0], entries, &small_lists(&actions))
+}
+
+/// These actions with components that count up and the ligatures 20, 21, 10, 11 and so on.
+fn small_lists(actions: &[u32]) -> [Vec<u8>; 3] {
     let components: Vec<u16> = (0..12).collect();
-    let ligatures: Vec<u16> = [20, 21, 10, 11].repeat(30);
-    small_machine(2, 2, &[0, 0], entries, &lists(&actions, &components, &ligatures))
+    lists(actions, &components, &[20, 21, 10, 11].repeat(30))
+}
+
+/// A body whose one action, for glyph 10, is this word.
+fn one_action(action: u32) -> Vec<u8> {
+    small_machine(1, 1, &[0, 0], &[(0, 4, &[0, PUSH | ACT, 0])], &small_lists(&[action]))
 }
 
 /// The table of an entry that acts for each of two glyphs, 5 and 6, and stores twice.
@@ -87,6 +96,10 @@ fn examples() -> Vec<Example> {
         Example::new(small_body(&[push, at_end], &[0, LAST]), &[10], &[10], Ended).homes(&[0]),
         Example::new(small_body(&[push, far_action], &pair), &[10, 11], &[10, 11], Ended),
         Example::new(small_body(&[act], &[LAST]), &[], &[], Done(())),
+        // 30 bits are -1, the least and the largest number.
+        Example::new(one_action(LAST | 0x3FFF_FFFF), &[10], &[21], Done(())).homes(&[0]),
+        Example::new(one_action(LAST | 0x2000_0000), &[10], &[10], Ended).homes(&[0]),
+        Example::new(one_action(LAST | 0x1FFF_FFFF), &[10], &[10], Ended).homes(&[0]),
         Example::new(body_of(STORES_TWICE), &[5, 6], &[5, 23], Done(())).homes(&[0, 1]),
         Example::new(body_of(SUM_RUNS_ON), &[5, 6, 7], &[5, 24, none], Done(())).homes(&[0, 1, 1]),
         Example::new(body_of(CLASS_IS_KEPT), &[5, 6], &[24, 24], Done(())).homes(&[0, 0]),
