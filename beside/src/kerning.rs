@@ -2,7 +2,7 @@
 
 use crate::line::{Line, LARGEST_ROOM};
 use crate::oracle::aat::{kern, kerx};
-use crate::oracle::{caught, caught_as_none, Answer, Fault, LONGEST_TABLE};
+use crate::oracle::{caught_as_none, Answer, Fault, LONGEST_TABLE};
 use crate::pass::stepped;
 
 /// The two kerning tables.
@@ -69,12 +69,12 @@ impl<'a> Subtable<'a> {
     }
 
     /// The one subtable of a table made by `alone`.
-    pub fn alone(kerning: Kerning, table: &'a [u8]) -> Result<Option<Self>, Fault> {
+    pub fn alone(kerning: Kerning, table: &'a [u8]) -> Option<Self> {
         let start = ALONE_AT as u32;
-        caught(|| match kerning {
+        match kerning {
             Kerning::Kern => Subtable::of_kern(&kern::subtables(table, start).next()?),
             Kerning::Kerx => Subtable::of_kerx(&kerx::subtables(table, start, 0).next()?),
-        })
+        }
     }
 
     /// What a pair of glyphs adds; HEAD where the format has no pairs.
@@ -93,8 +93,12 @@ impl<'a> Subtable<'a> {
         Ok(caught_as_none(|| Some(self.add(glyphs, along)))?.unwrap_or(Answer::Ended))
     }
 
-    fn add(&self, glyphs: &[u16], along: &mut [i64]) -> Answer<()> {
+    /// The same, and a panic of the crate is one.
+    pub fn add(&self, glyphs: &[u16], along: &mut [i64]) -> Answer<()> {
         match self {
+            Subtable::KernPairs(pairs) => add_pairs(glyphs, along, |left, right| pairs.get(left, right)),
+            Subtable::KerxPairs(pairs) => add_pairs(glyphs, along, |left, right| pairs.get(left, right)),
+            Subtable::KerxClasses(classes) => add_pairs(glyphs, along, |left, right| classes.get(left, right)),
             Subtable::KernMachine(machine) => {
                 let mut state = kern::Format1State::new();
                 make_steps(glyphs, |place, glyph| {
@@ -107,16 +111,18 @@ impl<'a> Subtable<'a> {
                     machine.next(&mut state, place, glyph, |at, number| add_at(along, at, number))
                 })
             }
-            _ => {
-                for (place, pair) in glyphs.windows(2).enumerate() {
-                    if let Answer::Done(number) = self.get(pair[0], pair[1]) {
-                        add_at(along, place, number);
-                    }
-                }
-                Answer::Done(())
-            }
         }
     }
+}
+
+/// The number of every two neighbours, added at the first.
+fn add_pairs(glyphs: &[u16], along: &mut [i64], get: impl Fn(u16, u16) -> Option<i16>) -> Answer<()> {
+    for (place, pair) in glyphs.windows(2).enumerate() {
+        if let Some(number) = get(pair[0], pair[1]) {
+            add_at(along, place, number);
+        }
+    }
+    Answer::Done(())
 }
 
 /// The step at each place, going on by what it gives; None ends the pass. There is no step for the end of text.

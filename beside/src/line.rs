@@ -90,7 +90,7 @@ impl Line {
             if *component != place && *component < self.length() {
                 self.glyphs[*component] = DELETED;
                 let gone = self.tags[*component];
-                self.homes.iter_mut().filter(|home| **home == gone).for_each(|home| *home = tag);
+                self.homes.iter_mut().for_each(|home| *home = if *home == gone { tag } else { *home });
             }
         }
     }

@@ -2,8 +2,8 @@
 
 use crate::line::Line;
 use crate::oracle::aat::morx::{
-    Contextual, ContextualState, Insertion, InsertionState, Ligature, LigatureState, NonContextual, Rearrangement,
-    RearrangementState, SubtableKind,
+    Chain, Contextual, ContextualState, Insertion, InsertionState, Ligature, LigatureState, NonContextual,
+    Rearrangement, RearrangementState, Subtable, SubtableKind,
 };
 use crate::oracle::{caught_as_none, Answer, Fault};
 use crate::pass::{make_steps, stepped};
@@ -23,6 +23,16 @@ pub fn pass(subtable: &SubtableKind, line: &mut Line) -> Answer<()> {
 /// without overflow checks.
 pub fn caught_pass(subtable: &SubtableKind, line: &mut Line) -> Result<Answer<()>, Fault> {
     Ok(caught_as_none(|| Some(pass(subtable, line)))?.unwrap_or(Answer::Ended))
+}
+
+const VERTICAL: u32 = 0x8000_0000;
+const BOTH_WAYS: u32 = 0x2000_0000;
+
+/// Whether a run makes the pass by a chain's subtable, if that is of a kind that can be read.
+pub fn is_chosen(chain: &Chain, subtable: &Subtable) -> bool {
+    let coverage = subtable.coverage();
+    let is_vertical = coverage & VERTICAL != 0 && coverage & BOTH_WAYS == 0;
+    chain.default_flags() & subtable.flags() != 0 && !is_vertical
 }
 
 /// The number of a subtable's kind.

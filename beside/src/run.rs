@@ -4,13 +4,10 @@ use crate::line::Line;
 use crate::opened::aat::morx as opened;
 use crate::oracle::aat::morx::{chains, Chain, Subtable};
 use crate::oracle::{caught, Answer, Fault, LONGEST_TABLE};
-use crate::passes_by_crate::caught_pass;
+use crate::passes_by_crate::{caught_pass, is_chosen};
 
 /// The most heads that are counted.
 pub const MOST_HEADS: u32 = 65_535;
-
-const VERTICAL: u32 = 0x8000_0000;
-const BOTH_WAYS: u32 = 0x2000_0000;
 
 /// A subtable on the way of a run.
 pub struct Visit<'a> {
@@ -75,8 +72,7 @@ impl Run<'_> {
 
     fn visit<'a>(&self, chain: &Chain, subtable: &Subtable, opened: Option<opened::SubtableKind<'a>>) -> Visit<'a> {
         let (coverage, flags) = (subtable.coverage(), subtable.flags());
-        let is_vertical = coverage & VERTICAL != 0 && coverage & BOTH_WAYS == 0;
-        let is_chosen = chain.default_flags() & flags != 0 && !is_vertical;
+        let is_chosen = is_chosen(chain, subtable);
         Visit { coverage, flags, is_chosen, is_turned: subtable.should_reverse(self.right_to_left), opened }
     }
 

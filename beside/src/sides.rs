@@ -1,7 +1,9 @@
 //! The calls of both sides, for their times.
 
+use crate::kerning::Kerned;
 use crate::line::Line;
 use crate::random::Random;
+use crate::timing::Worked;
 
 impl Line {
     /// So many places with any glyphs below the limit, their tags in any order, in a room.
@@ -13,20 +15,33 @@ impl Line {
         let glyphs = (0..room).map(|_| random.below(limit) as u16).collect();
         Line { glyphs, tags, homes, used: length as u64 }
     }
+}
 
-    /// A number that depends on the length and a few places: to look at all would take a time of its own.
-    pub fn glance(&self) -> u64 {
-        let last = self.length() - 1;
-        let places = [0, 1, 2, last / 2, last - 2, last - 1, last];
+/// A few places of a line: to look at all would take a time of its own.
+fn some_places(line: &Line) -> [usize; 7] {
+    let last = line.length() - 1;
+    [0, 1, 2, last / 2, last - 2, last - 1, last]
+}
+
+impl Worked for Line {
+    fn glance(&self) -> u64 {
         let add = |seen, place: usize| seen * 31 + u64::from(self.glyphs[place]) * 7 + u64::from(self.tags[place]);
-        places.into_iter().fold(self.used, add)
+        some_places(self).into_iter().fold(self.used, add)
+    }
+}
+
+impl Worked for Kerned {
+    fn glance(&self) -> u64 {
+        let add = |seen: u64, place: usize| seen.wrapping_mul(31).wrapping_add(self.along[place] as u64);
+        some_places(&self.line).into_iter().fold(self.line.glance(), add)
     }
 }
 
 /// The proved entries.
 pub mod ours {
-    use super::Line;
+    use super::{Kerned, Line};
     use crate::entries::Entry;
+    use crate::kerning::Kerning;
 
     extern "C" {
         fn aat_lookup(table: *const u8, table_len: usize, start: usize, glyph: u16, value: *mut u32) -> u32;
@@ -112,6 +127,81 @@ pub mod ours {
             homes_len: usize,
             used: *mut u64,
         ) -> u32;
+        fn aat_morx_run(
+            table: *const u8,
+            table_len: usize,
+            start: usize,
+            right_to_left: u32,
+            glyphs: *mut u16,
+            glyphs_len: usize,
+            tags: *mut u16,
+            tags_len: usize,
+            homes: *mut u16,
+            homes_len: usize,
+            used: *mut u64,
+            heads: *mut u32,
+        ) -> u32;
+        fn aat_kern_pass(
+            table: *const u8,
+            table_len: usize,
+            start: usize,
+            version: u16,
+            glyphs: *const u16,
+            glyphs_len: usize,
+            tags: *const u16,
+            tags_len: usize,
+            homes: *const u16,
+            homes_len: usize,
+            used: usize,
+            along: *mut i64,
+            along_len: usize,
+        ) -> u32;
+        fn aat_kerx_pass(
+            table: *const u8,
+            table_len: usize,
+            start: usize,
+            version: u16,
+            glyphs: *const u16,
+            glyphs_len: usize,
+            tags: *const u16,
+            tags_len: usize,
+            homes: *const u16,
+            homes_len: usize,
+            used: usize,
+            along: *mut i64,
+            along_len: usize,
+        ) -> u32;
+        fn aat_kern_run(
+            table: *const u8,
+            table_len: usize,
+            start: usize,
+            glyphs: *const u16,
+            glyphs_len: usize,
+            tags: *const u16,
+            tags_len: usize,
+            homes: *const u16,
+            homes_len: usize,
+            used: usize,
+            along: *mut i64,
+            along_len: usize,
+            heads: *mut u32,
+        ) -> u32;
+        fn aat_kerx_run(
+            table: *const u8,
+            table_len: usize,
+            start: usize,
+            right_to_left: u32,
+            glyphs: *mut u16,
+            glyphs_len: usize,
+            tags: *mut u16,
+            tags_len: usize,
+            homes: *const u16,
+            homes_len: usize,
+            used: usize,
+            along: *mut i64,
+            along_len: usize,
+            heads: *mut u32,
+        ) -> u32;
     }
 
     /// The element of a glyph.
@@ -183,15 +273,64 @@ pub mod ours {
         };
         assert_eq!(answer, 0, "a pass over a line");
     }
+
+    /// A run of a morx table over the line, from left to right.
+    #[inline(always)]
+    pub fn run(line: &mut Line, table: &[u8]) {
+        let Line { glyphs, tags, homes, used } = line;
+        let (bytes, len, room, characters, mut heads) = (table.as_ptr(), table.len(), glyphs.len(), homes.len(), 0);
+        let (glyphs, tags, homes) = (glyphs.as_mut_ptr(), tags.as_mut_ptr(), homes.as_mut_ptr());
+        let answer =
+            unsafe { aat_morx_run(bytes, len, 0, 0, glyphs, room, tags, room, homes, characters, used, &mut heads) };
+        assert_eq!(answer, 0, "a run over a line");
+    }
+
+    /// A kerning pass by the subtable that the table begins with.
+    #[inline(always)]
+    pub fn kerning_pass(kerning: Kerning, version: u16, kerned: &mut Kerned, table: &[u8]) {
+        let Kerned { line, along } = kerned;
+        let (bytes, len, room, characters) = (table.as_ptr(), table.len(), line.glyphs.len(), line.homes.len());
+        let (glyphs, tags, homes) = (line.glyphs.as_ptr(), line.tags.as_ptr(), line.homes.as_ptr());
+        let (used, along) = (line.length(), along.as_mut_ptr());
+        let entry = match kerning {
+            Kerning::Kern => aat_kern_pass,
+            Kerning::Kerx => aat_kerx_pass,
+        };
+        let answer =
+            unsafe { entry(bytes, len, 0, version, glyphs, room, tags, room, homes, characters, used, along, room) };
+        assert_eq!(answer, 0, "a kerning pass over a line");
+    }
+
+    /// A run of the kern or kerx table that begins at a start, from left to right.
+    #[inline(always)]
+    pub fn kerning_run(kerning: Kerning, kerned: &mut Kerned, table: &[u8], start: usize) {
+        let Kerned { line, along } = kerned;
+        let (bytes, len, room, characters) = (table.as_ptr(), table.len(), line.glyphs.len(), line.homes.len());
+        let (used, mut heads, along) = (line.length(), 0, along.as_mut_ptr());
+        let (glyphs, tags, homes) = (line.glyphs.as_mut_ptr(), line.tags.as_mut_ptr(), line.homes.as_ptr());
+        let heads = &mut heads;
+        let answer = unsafe {
+            match kerning {
+                Kerning::Kern => aat_kern_run(
+                    bytes, len, start, glyphs, room, tags, room, homes, characters, used, along, room, heads,
+                ),
+                Kerning::Kerx => aat_kerx_run(
+                    bytes, len, start, 0, glyphs, room, tags, room, homes, characters, used, along, room, heads,
+                ),
+            }
+        };
+        assert_eq!(answer, 0, "a kerning run over a line");
+    }
 }
 
 /// The crate, each call a call as ours are, so that no part of it leaves the loop.
 pub mod theirs {
-    use super::Line;
+    use super::{Kerned, Line};
+    use crate::kerning::{Kerning, Subtable};
     use crate::morx_tables::the_subtable;
-    use crate::oracle::aat::{self, morx, ExtendedStateTable, StateTable};
+    use crate::oracle::aat::{self, kern, kerx, morx, ExtendedStateTable, StateTable};
     use crate::oracle::Bytes;
-    use crate::passes_by_crate;
+    use crate::passes_by_crate::{self, is_chosen};
 
     /// The element of a glyph.
     #[inline(never)]
@@ -230,5 +369,61 @@ pub mod theirs {
     pub fn pass(line: &mut Line, table: &[u8]) {
         let subtable = the_subtable(table).expect("a subtable");
         assert_eq!(passes_by_crate::pass(&subtable, line).number(), 0, "a pass over a line");
+    }
+    /// A run of a morx table over the line, from left to right.
+    #[inline(never)]
+    pub fn run(line: &mut Line, table: &[u8]) {
+        for chain in morx::chains(table, 0) {
+            for subtable in chain.subtables().filter(|subtable| is_chosen(&chain, subtable)) {
+                if let Some(kind) = subtable.kind() {
+                    let is_turned = subtable.should_reverse(false);
+                    if is_turned {
+                        line.reverse();
+                    }
+                    passes_by_crate::pass(&kind, line);
+                    if is_turned {
+                        line.reverse();
+                    }
+                }
+            }
+        }
+    }
+
+    /// A kerning pass by the subtable of a table of one.
+    #[inline(never)]
+    pub fn kerning_pass(kerning: Kerning, kerned: &mut Kerned, table: &[u8]) {
+        let subtable = Subtable::alone(kerning, table).expect("a subtable");
+        let (glyphs, along) = kerned.used();
+        assert_eq!(subtable.add(glyphs, along).number(), 0, "a kerning pass over a line");
+    }
+
+    /// A run of the kern or kerx table that begins at a start, from left to right.
+    #[inline(never)]
+    pub fn kerning_run(kerning: Kerning, kerned: &mut Kerned, table: &[u8], start: usize) {
+        kerned.used().1.fill(0);
+        match kerning {
+            Kerning::Kern => kern::subtables(table, start as u32)
+                .filter(|subtable| subtable.is_horizontal() && !subtable.cross_stream())
+                .for_each(|subtable| add(kerned, Subtable::of_kern(&subtable))),
+            Kerning::Kerx => kerx::subtables(table, start as u32, 0)
+                .filter(|it| !it.is_vertical() && !it.is_cross_stream() && !it.has_variations())
+                .for_each(|subtable| {
+                    let is_turned = subtable.should_reverse(false);
+                    if is_turned {
+                        kerned.reverse();
+                    }
+                    add(kerned, Subtable::of_kerx(&subtable));
+                    if is_turned {
+                        kerned.reverse();
+                    }
+                }),
+        }
+    }
+
+    fn add(kerned: &mut Kerned, subtable: Option<Subtable>) {
+        if let Some(subtable) = subtable {
+            let (glyphs, along) = kerned.used();
+            subtable.add(glyphs, along);
+        }
     }
 }

@@ -1,0 +1,155 @@
+//! How the times of two sides are taken, turn by turn, and told.
+
+use std::rc::Rc;
+
+/// What both sides do: in a turn, each makes so many calls and gives a sum of what they found.
+pub struct Subject {
+    name: String,
+    calls: usize,
+    ours: Turn,
+    theirs: Turn,
+}
+
+type Turn = Box<dyn FnMut() -> u64>;
+
+/// So many turns are taken, ours and theirs one after the other.
+pub const TURNS: usize = 101;
+
+/// What calls change: each turn of one side begins with what its last left, or with a copy of the first.
+pub trait Worked: Clone + 'static {
+    /// A number that depends on what calls change, but takes little time.
+    fn glance(&self) -> u64;
+}
+
+impl Subject {
+    /// A call for each glyph or name.
+    pub fn of_items<T: Copy + 'static>(
+        name: String,
+        table: Vec<u8>,
+        items: Vec<T>,
+        ours: impl Fn(&[u8], T) -> Option<u32> + 'static,
+        theirs: impl Fn(&[u8], T) -> Option<u32> + 'static,
+    ) -> Self {
+        let calls = items.len();
+        let asked = Rc::new((table, items));
+        Subject { name, calls, ours: turn(asked.clone(), ours), theirs: turn(asked, theirs) }
+    }
+
+    /// So many calls on one line, again and again, or each on a fresh copy of it; both sides begin with the same line.
+    pub fn of_work<T: Worked>(
+        name: String,
+        calls: usize,
+        first: T,
+        is_fresh: bool,
+        ours: impl Fn(&mut T) + 'static,
+        theirs: impl Fn(&mut T) + 'static,
+    ) -> Self {
+        let [ours, theirs] = [turn_on(calls, first.clone(), is_fresh, ours), turn_on(calls, first, is_fresh, theirs)];
+        Subject { name, calls, ours, theirs }
+    }
+
+    /// How long the two sides take.
+    pub fn measured(mut self) -> Figure {
+        let turns: Vec<_> =
+            (0..TURNS).map(|_| (time(&mut self.ours, self.calls), time(&mut self.theirs, self.calls))).collect();
+        let [_, ours, _] = quartiles(turns.iter().map(|(ours, _)| ours.0));
+        let [_, theirs, _] = quartiles(turns.iter().map(|(_, theirs)| theirs.0));
+        let [lower, _, upper] = quartiles(turns.iter().map(|(ours, theirs)| ours.0 / theirs.0));
+        let is_same = turns.iter().all(|(ours, theirs)| ours.1 == theirs.1);
+        Figure { name: self.name, ours, theirs, lower, upper, is_same }
+    }
+}
+
+fn turn_on<T: Worked>(calls: usize, first: T, is_fresh: bool, call: impl Fn(&mut T) + 'static) -> Turn {
+    let mut line = first.clone();
+    Box::new(move || {
+        for _ in 0..calls {
+            if is_fresh {
+                line.clone_from(&first);
+            }
+            call(&mut line);
+        }
+        line.glance()
+    })
+}
+
+fn turn<T: Copy + 'static>(asked: Rc<(Vec<u8>, Vec<T>)>, call: impl Fn(&[u8], T) -> Option<u32> + 'static) -> Turn {
+    Box::new(move || {
+        let (table, items) = &*asked;
+        let found = items.iter().filter_map(|item| call(table, *item));
+        found.map(|value| u64::from(value) + 1).sum()
+    })
+}
+
+/// Nanoseconds for one of a turn's calls, and the sum of what they found.
+fn time(turn: &mut Turn, calls: usize) -> (f64, u64) {
+    let began = nanoseconds();
+    let sum = turn();
+    ((nanoseconds() - began) as f64 / calls as f64, sum)
+}
+
+extern "C" {
+    fn clock_gettime(clock: i32, time: &mut [i64; 2]) -> i32;
+}
+
+/// The clock that goes on only while this thread is at work, so that other work on the machine counts for little.
+const OWN_TIME: i32 = 3;
+
+fn nanoseconds() -> i64 {
+    let mut time = [0; 2];
+    let answer = unsafe { clock_gettime(OWN_TIME, &mut time) };
+    assert_eq!(answer, 0, "a clock");
+    time[0] * 1_000_000_000 + time[1]
+}
+
+/// The median nanoseconds of a call that only one side has.
+pub fn time_alone(calls: usize, mut call: impl FnMut() + 'static) -> f64 {
+    let mut turn: Turn = Box::new(move || {
+        (0..calls).for_each(|_| call());
+        0
+    });
+    quartiles((0..TURNS).map(|_| time(&mut turn, calls).0))[1]
+}
+
+/// The numbers that a quarter, a half and three quarters are not above.
+fn quartiles(numbers: impl Iterator<Item = f64>) -> [f64; 3] {
+    let mut numbers: Vec<f64> = numbers.collect();
+    numbers.sort_by(f64::total_cmp);
+    [1, 2, 3].map(|quarter| numbers[numbers.len() * quarter / 4])
+}
+
+/// The median times of a call, and the quartiles of the ratios of turns.
+pub struct Figure {
+    name: String,
+    ours: f64,
+    theirs: f64,
+    lower: f64,
+    upper: f64,
+    /// Whether both sides found the same.
+    pub is_same: bool,
+}
+
+impl Figure {
+    /// The figure in a line.
+    pub fn describe(&self) -> String {
+        let Figure { name, ours, theirs, lower, upper, .. } = self;
+        format!("{:56} {:.2} ({:.2} to {:.2}): {:.1} ns to {:.1} ns", name, ours / theirs, lower, upper, ours, theirs)
+    }
+
+    /// The figure as a row of a table, which has this head.
+    pub fn row(&self) -> String {
+        let Figure { name, ours, theirs, lower, upper, .. } = self;
+        format!(
+            "| {} | {:.2} | {:.2} to {:.2} | {:.1} ns | {:.1} ns |",
+            name,
+            ours / theirs,
+            lower,
+            upper,
+            ours,
+            theirs
+        )
+    }
+}
+
+/// The head of a table of figures.
+pub const TABLE_HEAD: &str = "| Call | Ratio | Quartiles | Ours | The crate's |\n|---|---|---|---|---|";
