@@ -19,16 +19,20 @@ pub const DEEPEST: usize = 8;
 
 /// The machine of the one subtable of a table made by `alone`, where it has one.
 pub fn open(kerning: Kerning, table: &[u8]) -> Option<Machine<'_>> {
-    let start = ALONE_AT as u32;
+    machines(kerning, table, ALONE_AT as u32).next()?
+}
+
+/// The machine of each subtable of the table whose list begins at `start`, where it has one.
+pub fn machines(kerning: Kerning, table: &[u8], start: u32) -> Box<dyn Iterator<Item = Option<Machine<'_>>> + '_> {
     match kerning {
-        Kerning::Kern => match kern::subtables(table, start).next()?.kind()? {
+        Kerning::Kern => Box::new(kern::subtables(table, start).map(|subtable| match subtable.kind()? {
             kern::SubtableKind::Format1(machine) => Some(Machine::Kern(machine)),
             _ => None,
-        },
-        Kerning::Kerx => match kerx::subtables(table, start, 0).next()?.kind()? {
+        })),
+        Kerning::Kerx => Box::new(kerx::subtables(table, start, 0).map(|subtable| match subtable.kind()? {
             kerx::SubtableKind::Format1(machine) => Some(Machine::Kerx(machine)),
             _ => None,
-        },
+        })),
     }
 }
 

@@ -7,6 +7,7 @@ use crate::kerning_by_copy::open;
 use crate::kerning_examples::{documented, pushes, runs_on_past_its_end, small_bodies, Documented};
 use crate::kerning_pairs::editions;
 use crate::kerning_tables::{any_body, any_subtable, formats, Edition};
+use crate::kerning_trace::describe_pass;
 use crate::line::{Line, DELETED, LARGEST_ROOM};
 use crate::oracle::{caught, Answer, Fault, LONGEST_TABLE};
 use crate::pass::line_of;
@@ -84,6 +85,16 @@ impl Question for Pass {
 
     fn describe_reply(&self, reply: &[u8]) -> String {
         self.lent.describe_reply(reply)
+    }
+
+    fn trace(&self, table: &[u8]) -> Vec<String> {
+        let Edition { kerning, version, .. } = self.edition;
+        match table.get(self.start as usize..) {
+            Some(bytes) if self.lent.refuses_pass(table).is_none() => {
+                describe_pass(kerning, &kerning.alone(version, bytes), &self.lent)
+            }
+            _ => Vec::new(),
+        }
     }
 }
 

@@ -14,10 +14,11 @@ pub struct Run<'a> {
 }
 
 /// A subtable on the way of a run.
-struct Visit<'a> {
-    is_passed_over: bool,
-    is_turned: bool,
-    subtable: Option<Subtable<'a>>,
+pub struct Visit<'a> {
+    pub is_passed_over: bool,
+    /// Whether line and adjustments are turned round for it.
+    pub is_turned: bool,
+    pub subtable: Option<Subtable<'a>>,
 }
 
 impl<'a> Run<'a> {
@@ -31,8 +32,8 @@ impl<'a> Run<'a> {
         refusals.into_iter().find(|refusal| refusal.0).map(|refusal| refusal.1)
     }
 
-    /// The answer and the heads that were counted.
-    pub fn make(&self, lent: &mut Kerned) -> Result<(Answer<()>, u32), Fault> {
+    /// The answer and the heads that were counted; each subtable is shown before its pass.
+    pub fn make(&self, lent: &mut Kerned, show: &mut dyn FnMut(&Visit, &Kerned)) -> Result<(Answer<()>, u32), Fault> {
         lent.used().1.fill(0);
         let mut heads = 0;
         let mut left = self.visits();
@@ -41,6 +42,7 @@ impl<'a> Run<'a> {
                 return Ok((Answer::Limit, heads));
             }
             heads += 1;
+            show(&visit, lent);
             visit.make(lent)?;
         }
         Ok((Answer::Done(()), heads))

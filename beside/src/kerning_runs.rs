@@ -7,6 +7,7 @@ use crate::kerning_examples::{documented, Documented};
 use crate::kerning_pairs::editions;
 use crate::kerning_run::Run;
 use crate::kerning_tables::{any_body, formats, Edition};
+use crate::kerning_trace::describe_run;
 use crate::line::{Line, LARGEST_ROOM};
 use crate::lookup_tables::{damage, Made};
 use crate::oracle::{Answer, Fault, LONGEST_TABLE};
@@ -31,15 +32,18 @@ struct KerningRun {
 }
 
 impl KerningRun {
+    fn run<'a>(&self, table: &'a [u8]) -> Run<'a> {
+        Run { kerning: self.kerning, table, start: self.start, right_to_left: self.right_to_left != 0 }
+    }
+
     /// The answer, what the call has to leave, and the heads, where they are counted.
     fn after(&self, table: &[u8]) -> Result<(Answer<()>, Kerned, Option<u32>), Fault> {
         let mut lent = self.lent.clone();
-        let Self { kerning, start, .. } = *self;
-        let run = Run { kerning, table, start, right_to_left: self.right_to_left != 0 };
+        let run = self.run(table);
         if let Some(answer) = run.refusal(&lent) {
             return Ok((answer, lent, None));
         }
-        let (answer, heads) = run.make(&mut lent)?;
+        let (answer, heads) = run.make(&mut lent, &mut |_, _| {})?;
         match &self.written {
             Some(written) if answer != Answer::Done(()) || *written != lent.along => Err(Fault::Disputed),
             _ => Ok((answer, lent, Some(heads))),
@@ -75,6 +79,14 @@ impl Question for KerningRun {
     fn describe_reply(&self, reply: &[u8]) -> String {
         let (rest, heads) = reply.split_at(reply.len() - 4);
         format!("heads {}, {}", number(heads), self.lent.describe_reply(rest))
+    }
+
+    fn trace(&self, table: &[u8]) -> Vec<String> {
+        let run = self.run(table);
+        match run.refusal(&self.lent) {
+            None => describe_run(&run, &self.lent),
+            Some(_) => Vec::new(),
+        }
     }
 }
 

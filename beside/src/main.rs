@@ -15,6 +15,7 @@ mod kerning_run;
 mod kerning_runs;
 mod kerning_steps;
 mod kerning_tables;
+mod kerning_trace;
 mod language;
 mod language_tables;
 mod lent_along;

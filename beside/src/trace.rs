@@ -4,7 +4,8 @@ use crate::line::Line;
 use crate::run::{Run, Visit};
 use crate::steps_by_copy::{open, Opened};
 
-const STEPS_SHOWN: usize = 300;
+/// The most steps that are shown of one pass or run.
+pub const STEPS_SHOWN: usize = 300;
 
 /// The steps of the pass by the subtable of a table of one chain, each with the state and the line before it.
 pub fn describe_pass(table: &[u8], line: &Line) -> Vec<String> {
