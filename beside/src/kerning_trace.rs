@@ -5,7 +5,7 @@ use crate::kerning_by_copy::{machines, open, Machine};
 use crate::kerning_run::{Run, Visit};
 use crate::lent_along::describe_along;
 use crate::oracle::Answer;
-use crate::trace::{describe_state, STEPS_SHOWN};
+use crate::trace::{describe_state, end_pass, end_run};
 
 /// The steps of the pass by the one subtable of a table made by `alone`.
 pub fn describe_pass(kerning: Kerning, table: &[u8], lent: &Kerned) -> Vec<String> {
@@ -35,12 +35,8 @@ pub fn describe_run(run: &Run, lent: &Kerned) -> Vec<String> {
         }
     };
     let mut lent = lent.clone();
-    let end = match run.make(&mut lent, show) {
-        Ok((answer, heads)) => format!("answer {}, heads {}", answer.number(), heads),
-        Err(fault) => fault.describe().into(),
-    };
-    steps.truncate(STEPS_SHOWN);
-    steps.push(format!("{}; {}", end, lent.describe()));
+    let answer = run.make(&mut lent, show);
+    end_run(&mut steps, answer, &lent.describe());
     steps
 }
 
@@ -73,7 +69,5 @@ fn add_steps(subtable: &Subtable, machine: Option<Machine>, mut lent: Kerned, st
             subtable.pass(glyphs, along)
         }
     };
-    let end = answer.map_or_else(|fault| fault.describe().into(), |answer| format!("answer {}", answer.number()));
-    steps.truncate(STEPS_SHOWN);
-    steps.push(format!("{}; {}", end, describe_along(along)));
+    end_pass(steps, answer, &describe_along(along));
 }

@@ -67,141 +67,63 @@ pub mod ours {
             start: usize,
             end: usize,
         ) -> u32;
-        fn aat_rearrangement_pass(
-            table: *const u8,
-            table_len: usize,
-            start: usize,
-            glyphs: *mut u16,
-            glyphs_len: usize,
-            tags: *mut u16,
-            tags_len: usize,
-            homes: *const u16,
-            homes_len: usize,
-            used: usize,
-        ) -> u32;
-        fn aat_noncontextual_pass(
-            table: *const u8,
-            table_len: usize,
-            start: usize,
-            glyphs: *mut u16,
-            glyphs_len: usize,
-            tags: *const u16,
-            tags_len: usize,
-            homes: *const u16,
-            homes_len: usize,
-            used: usize,
-        ) -> u32;
-        fn aat_contextual_pass(
-            table: *const u8,
-            table_len: usize,
-            start: usize,
-            glyphs: *mut u16,
-            glyphs_len: usize,
-            tags: *const u16,
-            tags_len: usize,
-            homes: *const u16,
-            homes_len: usize,
-            used: usize,
-        ) -> u32;
-        fn aat_ligature_pass(
-            table: *const u8,
-            table_len: usize,
-            start: usize,
-            glyphs: *mut u16,
-            glyphs_len: usize,
-            tags: *const u16,
-            tags_len: usize,
-            homes: *mut u16,
-            homes_len: usize,
-            used: usize,
-        ) -> u32;
-        fn aat_insertion_pass(
-            table: *const u8,
-            table_len: usize,
-            start: usize,
-            glyphs: *mut u16,
-            glyphs_len: usize,
-            tags: *mut u16,
-            tags_len: usize,
-            homes: *const u16,
-            homes_len: usize,
-            used: *mut u64,
-        ) -> u32;
-        fn aat_morx_run(
-            table: *const u8,
-            table_len: usize,
-            start: usize,
-            right_to_left: u32,
-            glyphs: *mut u16,
-            glyphs_len: usize,
-            tags: *mut u16,
-            tags_len: usize,
-            homes: *mut u16,
-            homes_len: usize,
-            used: *mut u64,
-            heads: *mut u32,
-        ) -> u32;
-        fn aat_kern_pass(
-            table: *const u8,
-            table_len: usize,
-            start: usize,
-            version: u16,
-            glyphs: *const u16,
-            glyphs_len: usize,
-            tags: *const u16,
-            tags_len: usize,
-            homes: *const u16,
-            homes_len: usize,
-            used: usize,
-            along: *mut i64,
-            along_len: usize,
-        ) -> u32;
-        fn aat_kerx_pass(
-            table: *const u8,
-            table_len: usize,
-            start: usize,
-            version: u16,
-            glyphs: *const u16,
-            glyphs_len: usize,
-            tags: *const u16,
-            tags_len: usize,
-            homes: *const u16,
-            homes_len: usize,
-            used: usize,
-            along: *mut i64,
-            along_len: usize,
-        ) -> u32;
-        fn aat_kern_run(
-            table: *const u8,
-            table_len: usize,
-            start: usize,
-            glyphs: *const u16,
-            glyphs_len: usize,
-            tags: *const u16,
-            tags_len: usize,
-            homes: *const u16,
-            homes_len: usize,
-            used: usize,
-            along: *mut i64,
-            along_len: usize,
-            heads: *mut u32,
-        ) -> u32;
-        fn aat_kerx_run(
-            table: *const u8,
-            table_len: usize,
-            start: usize,
-            right_to_left: u32,
-            glyphs: *mut u16,
-            glyphs_len: usize,
-            tags: *mut u16,
-            tags_len: usize,
-            homes: *const u16,
-            homes_len: usize,
-            used: usize,
-            along: *mut i64,
-            along_len: usize,
-            heads: *mut u32,
-        ) -> u32;
+    }
+
+    /// Declares entries that are lent a table, its start and a line, with what they are told before the line and behind it.
+    macro_rules! on_lines {
+        ($($entry:ident($($before:ty),*; $($behind:ty),*);)*) => {
+            extern "C" {
+                $(fn $entry(
+                    table: *const u8,
+                    table_len: usize,
+                    start: usize,
+                    $(_: $before,)*
+                    glyphs: *mut u16,
+                    glyphs_len: usize,
+                    tags: *mut u16,
+                    tags_len: usize,
+                    homes: *mut u16,
+                    homes_len: usize,
+                    $(_: $behind),*
+                ) -> u32;)*
+            }
+        };
+    }
+
+    on_lines! {
+        aat_rearrangement_pass(; usize);
+        aat_noncontextual_pass(; usize);
+        aat_contextual_pass(; usize);
+        aat_ligature_pass(; usize);
+        aat_insertion_pass(; *mut u64);
+        aat_morx_run(u32; *mut u64, *mut u32);
+        aat_kern_pass(u16; usize, *mut i64, usize);
+        aat_kerx_pass(u16; usize, *mut i64, usize);
+        aat_kern_run(; usize, *mut i64, usize, *mut u32);
+        aat_kerx_run(u32; usize, *mut i64, usize, *mut u32);
+    }
+
+    /// Calls such an entry, which has to answer DONE.
+    macro_rules! call {
+        ($entry:ident, $table:expr, $start:expr, [$($before:expr),*], $line:expr, [$($behind:expr),*]) => {{
+            let (table, glyphs_len, homes_len): (&[u8], _, _) = ($table, $line.glyphs.len(), $line.homes.len());
+            let answer = unsafe {
+                $entry(
+                    table.as_ptr(),
+                    table.len(),
+                    $start,
+                    $($before,)*
+                    $line.glyphs.as_mut_ptr(),
+                    glyphs_len,
+                    $line.tags.as_mut_ptr(),
+                    glyphs_len,
+                    $line.homes.as_mut_ptr(),
+                    homes_len,
+                    $($behind),*
+                )
+            };
+            assert_eq!(answer, 0, stringify!($entry));
+        }};
     }
 
     /// The element of a glyph.
@@ -247,79 +169,44 @@ pub mod ours {
     /// A pass over the line by the subtable that the table begins with.
     #[inline(always)]
     pub fn pass(entry: Entry, line: &mut Line, table: &[u8]) {
-        let Line { glyphs, tags, homes, used } = line;
-        let (bytes, len, room, characters) = (table.as_ptr(), table.len(), glyphs.len(), homes.len());
-        let (glyphs, tags, homes, length) =
-            (glyphs.as_mut_ptr(), tags.as_mut_ptr(), homes.as_mut_ptr(), *used as usize);
-        let answer = unsafe {
-            match entry {
-                Entry::RearrangementPass => {
-                    aat_rearrangement_pass(bytes, len, 0, glyphs, room, tags, room, homes, characters, length)
-                }
-                Entry::NoncontextualPass => {
-                    aat_noncontextual_pass(bytes, len, 0, glyphs, room, tags, room, homes, characters, length)
-                }
-                Entry::ContextualPass => {
-                    aat_contextual_pass(bytes, len, 0, glyphs, room, tags, room, homes, characters, length)
-                }
-                Entry::LigaturePass => {
-                    aat_ligature_pass(bytes, len, 0, glyphs, room, tags, room, homes, characters, length)
-                }
-                Entry::InsertionPass => {
-                    aat_insertion_pass(bytes, len, 0, glyphs, room, tags, room, homes, characters, used)
-                }
-                _ => panic!("no pass"),
-            }
-        };
-        assert_eq!(answer, 0, "a pass over a line");
+        let length = line.length();
+        match entry {
+            Entry::RearrangementPass => call!(aat_rearrangement_pass, table, 0, [], line, [length]),
+            Entry::NoncontextualPass => call!(aat_noncontextual_pass, table, 0, [], line, [length]),
+            Entry::ContextualPass => call!(aat_contextual_pass, table, 0, [], line, [length]),
+            Entry::LigaturePass => call!(aat_ligature_pass, table, 0, [], line, [length]),
+            Entry::InsertionPass => call!(aat_insertion_pass, table, 0, [], line, [&mut line.used]),
+            _ => panic!("no pass"),
+        }
     }
 
     /// A run of a morx table over the line, from left to right.
     #[inline(always)]
     pub fn run(line: &mut Line, table: &[u8]) {
-        let Line { glyphs, tags, homes, used } = line;
-        let (bytes, len, room, characters, mut heads) = (table.as_ptr(), table.len(), glyphs.len(), homes.len(), 0);
-        let (glyphs, tags, homes) = (glyphs.as_mut_ptr(), tags.as_mut_ptr(), homes.as_mut_ptr());
-        let answer =
-            unsafe { aat_morx_run(bytes, len, 0, 0, glyphs, room, tags, room, homes, characters, used, &mut heads) };
-        assert_eq!(answer, 0, "a run over a line");
+        let mut heads = 0;
+        call!(aat_morx_run, table, 0, [0], line, [&mut line.used, &mut heads]);
     }
 
     /// A kerning pass by the subtable that the table begins with.
     #[inline(always)]
     pub fn kerning_pass(kerning: Kerning, version: u16, kerned: &mut Kerned, table: &[u8]) {
         let Kerned { line, along } = kerned;
-        let (bytes, len, room, characters) = (table.as_ptr(), table.len(), line.glyphs.len(), line.homes.len());
-        let (glyphs, tags, homes) = (line.glyphs.as_ptr(), line.tags.as_ptr(), line.homes.as_ptr());
-        let (used, along) = (line.length(), along.as_mut_ptr());
-        let entry = match kerning {
-            Kerning::Kern => aat_kern_pass,
-            Kerning::Kerx => aat_kerx_pass,
-        };
-        let answer =
-            unsafe { entry(bytes, len, 0, version, glyphs, room, tags, room, homes, characters, used, along, room) };
-        assert_eq!(answer, 0, "a kerning pass over a line");
+        let (length, room, along) = (line.length(), along.len(), along.as_mut_ptr());
+        match kerning {
+            Kerning::Kern => call!(aat_kern_pass, table, 0, [version], line, [length, along, room]),
+            Kerning::Kerx => call!(aat_kerx_pass, table, 0, [version], line, [length, along, room]),
+        }
     }
 
     /// A run of the kern or kerx table that begins at a start, from left to right.
     #[inline(always)]
     pub fn kerning_run(kerning: Kerning, kerned: &mut Kerned, table: &[u8], start: usize) {
         let Kerned { line, along } = kerned;
-        let (bytes, len, room, characters) = (table.as_ptr(), table.len(), line.glyphs.len(), line.homes.len());
-        let (used, mut heads, along) = (line.length(), 0, along.as_mut_ptr());
-        let (glyphs, tags, homes) = (line.glyphs.as_mut_ptr(), line.tags.as_mut_ptr(), line.homes.as_ptr());
-        let heads = &mut heads;
-        let answer = unsafe {
-            match kerning {
-                Kerning::Kern => aat_kern_run(
-                    bytes, len, start, glyphs, room, tags, room, homes, characters, used, along, room, heads,
-                ),
-                Kerning::Kerx => aat_kerx_run(
-                    bytes, len, start, 0, glyphs, room, tags, room, homes, characters, used, along, room, heads,
-                ),
-            }
-        };
-        assert_eq!(answer, 0, "a kerning run over a line");
+        let (length, room, along, mut heads) = (line.length(), along.len(), along.as_mut_ptr(), 0);
+        match kerning {
+            Kerning::Kern => call!(aat_kern_run, table, start, [], line, [length, along, room, &mut heads]),
+            Kerning::Kerx => call!(aat_kerx_run, table, start, [0], line, [length, along, room, &mut heads]),
+        }
     }
 }
 

@@ -1,11 +1,12 @@
 //! What the crate does, step by step, in words.
 
 use crate::line::Line;
+use crate::oracle::{Answer, Fault};
 use crate::run::{Run, Visit};
 use crate::steps_by_copy::{open, Opened};
 
 /// The most steps that are shown of one pass or run.
-pub const STEPS_SHOWN: usize = 300;
+const STEPS_SHOWN: usize = 300;
 
 /// The steps of the pass by the subtable of a table of one chain, each with the state and the line before it.
 pub fn describe_pass(table: &[u8], line: &Line) -> Vec<String> {
@@ -35,12 +36,8 @@ pub fn describe_run(run: &Run, line: &Line) -> Vec<String> {
         }
     };
     let mut line = line.clone();
-    let end = match run.make(&mut line, show) {
-        Ok((answer, heads)) => format!("answer {}, heads {}", answer.number(), heads),
-        Err(fault) => fault.describe().into(),
-    };
-    steps.truncate(STEPS_SHOWN);
-    steps.push(format!("{}; {}", end, line.describe()));
+    let answer = run.make(&mut line, show);
+    end_run(&mut steps, answer, &line.describe());
     steps
 }
 
@@ -50,9 +47,23 @@ fn add_steps(opened: &Opened, mut line: Line, steps: &mut Vec<String>) {
         let told = format!("{} step at place {}, glyph {}{}", opened.machine.kind.name, told.index, told.glyph, end);
         steps.push(format!("{}; state {}; {}", told, describe_state(state), line.describe()));
     });
-    let end = answer.map_or_else(|fault| fault.describe().into(), |answer| format!("answer {}", answer.number()));
+    end_pass(steps, answer, &line.describe());
+}
+
+/// Ends the steps of a pass with its answer and what it left.
+pub fn end_pass(steps: &mut Vec<String>, answer: Result<Answer<()>, Fault>, left: &str) {
+    end(steps, answer.map(|answer| format!("answer {}", answer.number())), left);
+}
+
+/// Ends the steps of a run with its answer, the heads and what it left.
+pub fn end_run(steps: &mut Vec<String>, answer: Result<(Answer<()>, u32), Fault>, left: &str) {
+    end(steps, answer.map(|(answer, heads)| format!("answer {}, heads {}", answer.number(), heads)), left);
+}
+
+fn end(steps: &mut Vec<String>, answer: Result<String, Fault>, left: &str) {
+    let answer = answer.unwrap_or_else(|fault| fault.describe().into());
     steps.truncate(STEPS_SHOWN);
-    steps.push(format!("{}; {}", end, line.describe()));
+    steps.push(format!("{}; {}", answer, left));
 }
 
 /// A state, with the count of zeros where many follow each other.
