@@ -1,4 +1,4 @@
-# What run and bench share: where things lie, a Rust compiler, and the archive of the proved entries.
+# What the scripts share: where things lie, a Rust compiler, the archive of the proved entries, and the box.
 # BESIDE_ARCHIVE names another archive, to see that wrong entries are caught, and BESIDE_SHAPE the shaper's program, which has to be
 # there then.
 set -euo pipefail
@@ -93,4 +93,12 @@ find_archive() {
     if is_stale "$archive" "$top/crates.txt" "$top"/crates/*/{src,specs,proofs}; then
         (cd "$top" && rt staticlib firmware) >&2 || give_up 2 "there is no archive to compare"
     fi
+}
+
+# The box as a program.
+build_box() {
+    build_stand_ins
+    compile "$firmware/box.c" "$built/box.o"
+    quietly "$tools/bin/rattle-link" --target $target --toolchain "$tools/toolchain" \
+        -o "$built/box" "$built/box.o" "$built/stand_ins.o" "$archive"
 }
