@@ -260,7 +260,11 @@ fn any_machine(random: &mut Random, edition: Edition, glyphs: &Range<u16>) -> Ve
         .map(|_| Entry {
             state: u16::from(any_below(random, states)),
             flags: any_flags(random, edition.kerning, stays, pushes),
-            list: if random.once_in(2) { NONE } else { random.below(numbers + 2) as u16 },
+            list: match random.below(32) {
+                0 => NONE - 1,
+                1..=16 => NONE,
+                _ => random.below(numbers + 2) as u16,
+            },
         })
         .collect();
     let lists: Vec<i16> = (0..numbers).map(|_| any_number(random)).collect();
