@@ -1,5 +1,6 @@
 //! The crate's kerning, as published, under document 01's rules of pairs and passes.
 
+use crate::entries::Entry;
 use crate::line::{Line, LARGEST_ROOM};
 use crate::oracle::aat::{kern, kerx};
 use crate::oracle::{caught_as_none, Answer, Fault, LONGEST_TABLE};
@@ -18,6 +19,14 @@ impl Kerning {
         match self {
             Kerning::Kern => "kern",
             Kerning::Kerx => "kerx",
+        }
+    }
+
+    /// The entry that is this table's, of kern's and kerx's.
+    pub fn its(self, [kern, kerx]: [Entry; 2]) -> Entry {
+        match self {
+            Kerning::Kern => kern,
+            Kerning::Kerx => kerx,
         }
     }
 

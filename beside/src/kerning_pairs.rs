@@ -20,7 +20,7 @@ struct OfPair {
 
 impl Asked for OfPair {
     fn entry(&self) -> Entry {
-        entry(self.edition.kerning)
+        self.edition.kerning.its(ENTRIES)
     }
 
     fn tell(&self, call: &mut Vec<u8>) {
@@ -51,16 +51,11 @@ impl Asked for OfPair {
     }
 }
 
-fn entry(kerning: Kerning) -> Entry {
-    match kerning {
-        Kerning::Kern => Entry::KernPair,
-        Kerning::Kerx => Entry::KerxPair,
-    }
-}
+const ENTRIES: [Entry; 2] = [Entry::KernPair, Entry::KerxPair];
 
 /// Every question about a table's pairs, with so many random ones.
 pub fn ask_all(asked: &mut dyn Ask, kerning: Kerning, random: &mut Random, cases: u64) {
-    if entry(kerning).is_declared() {
+    if kerning.its(ENTRIES).is_declared() {
         examples(asked, kerning);
         cut_subtables(asked, kerning);
         formats_and_bits(asked, kerning);

@@ -64,7 +64,7 @@ impl Pass {
 
 impl Question for Pass {
     fn entry(&self) -> Entry {
-        entry(self.edition.kerning)
+        self.edition.kerning.its(ENTRIES)
     }
 
     fn arguments(&self, _held: u64, call: &mut Vec<u8>) {
@@ -98,16 +98,11 @@ impl Question for Pass {
     }
 }
 
-fn entry(kerning: Kerning) -> Entry {
-    match kerning {
-        Kerning::Kern => Entry::KernPass,
-        Kerning::Kerx => Entry::KerxPass,
-    }
-}
+const ENTRIES: [Entry; 2] = [Entry::KernPass, Entry::KerxPass];
 
 /// Every question about a table's passes, with so many random ones.
 pub fn ask_all(asked: &mut dyn Ask, kerning: Kerning, random: &mut Random, cases: u64) {
-    if entry(kerning).is_declared() {
+    if kerning.its(ENTRIES).is_declared() {
         examples(asked, kerning);
         list_runs_on_past_its_end(asked, kerning);
         eight_and_nine_pushes(asked, kerning);

@@ -2,8 +2,8 @@
 
 use crate::kerning::{Kerned, Kerning, Subtable};
 use crate::oracle::aat::{kern, kerx};
-use crate::oracle::{caught, Answer, Fault, LONGEST_TABLE};
-use crate::run::MOST_HEADS;
+use crate::oracle::{caught, Answer, Fault};
+use crate::run::{refusal_of_run, MOST_HEADS};
 
 /// A whole run of the table whose list begins at `start`.
 pub struct Run<'a> {
@@ -24,12 +24,7 @@ pub struct Visit<'a> {
 impl<'a> Run<'a> {
     /// What the run is refused for.
     pub fn refusal(&self, lent: &Kerned) -> Option<Answer<()>> {
-        let refusals = [
-            (self.table.len() > LONGEST_TABLE, Answer::Table),
-            (!lent.is_line(), Answer::Line),
-            (self.start > self.table.len() as u64, Answer::Head),
-        ];
-        refusals.into_iter().find(|refusal| refusal.0).map(|refusal| refusal.1)
+        refusal_of_run(self.table, lent.is_line(), self.start)
     }
 
     /// The answer and the heads that were counted; each subtable is shown before its pass.

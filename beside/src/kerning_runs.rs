@@ -9,10 +9,10 @@ use crate::kerning_run::Run;
 use crate::kerning_tables::{any_body, formats, Edition};
 use crate::kerning_trace::describe_run;
 use crate::line::{Line, LARGEST_ROOM};
-use crate::lookup_tables::{damage, Made};
+use crate::lookup_tables::damage;
 use crate::oracle::{Answer, Fault, LONGEST_TABLE};
 use crate::pass::line_of;
-use crate::passes::any_glyphs;
+use crate::passes::for_each_table;
 use crate::random::Random;
 use crate::reply::number;
 use crate::run::MOST_HEADS;
@@ -53,7 +53,7 @@ impl KerningRun {
 
 impl Question for KerningRun {
     fn entry(&self) -> Entry {
-        entry(self.kerning)
+        self.kerning.its(ENTRIES)
     }
 
     fn arguments(&self, held: u64, call: &mut Vec<u8>) {
@@ -90,16 +90,11 @@ impl Question for KerningRun {
     }
 }
 
-fn entry(kerning: Kerning) -> Entry {
-    match kerning {
-        Kerning::Kern => Entry::KernRun,
-        Kerning::Kerx => Entry::KerxRun,
-    }
-}
+const ENTRIES: [Entry; 2] = [Entry::KernRun, Entry::KerxRun];
 
 /// Every question about a table's runs, with so many random ones.
 pub fn ask_all(asked: &mut dyn Ask, kerning: Kerning, random: &mut Random, cases: u64) {
-    if entry(kerning).is_declared() {
+    if kerning.its(ENTRIES).is_declared() {
         examples(asked, kerning);
         coverages(asked, kerning, random);
         cut_tables(asked, kerning, random);
@@ -234,30 +229,14 @@ fn many_heads(asked: &mut dyn Ask, kerning: Kerning) {
     }
 }
 
-const LINES_FOR_ONE_TABLE: u64 = 3;
-
 fn random_tables(asked: &mut dyn Ask, kerning: Kerning, random: &mut Random, cases: u64) {
-    let mut left = cases;
-    while left > 0 {
-        let glyphs = any_glyphs(random);
-        let mut table = any_table(random, kerning, &glyphs);
-        if random.once_in(4) {
-            damage(random, &mut table);
-        }
-        let made = Made::behind_others(random, table, Vec::new());
-        let table = Rc::from(&made.table[..]);
-        let start = made.any_start(random);
-        let lines = left.min(LINES_FOR_ONE_TABLE);
-        for _ in 0..lines {
-            let longest = random.among(&[2, 5, 12, 12, 24]);
-            let used = random.below(longest + 1);
-            let room = used + random.among(&[0, 1, 9]);
-            let lent = Kerned::any(random, &glyphs, used, room);
-            let right_to_left = random.among(&[0, 1, 2, u32::MAX]);
-            asked.ask(&table, Box::new(KerningRun { kerning, lent, start, right_to_left, written: None }));
-        }
-        left -= lines;
-    }
+    let any_table = |random: &mut Random, glyphs: &Range<u16>| any_table(random, kerning, glyphs);
+    for_each_table(random, cases, any_table, &mut |random, table, start, glyphs, used| {
+        let room = used + random.among(&[0, 1, 9]);
+        let lent = Kerned::any(random, glyphs, used, room);
+        let right_to_left = random.among(&[0, 1, 2, u32::MAX]);
+        asked.ask(table, Box::new(KerningRun { kerning, lent, start, right_to_left, written: None }));
+    });
 }
 
 /// Any table: some subtables; now and then the count or a size is wrong.

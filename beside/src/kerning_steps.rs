@@ -76,7 +76,7 @@ impl Step {
 
 impl Question for Step {
     fn entry(&self) -> Entry {
-        entry(self.edition.kerning)
+        self.edition.kerning.its(ENTRIES)
     }
 
     fn arguments(&self, held: u64, call: &mut Vec<u8>) {
@@ -119,16 +119,11 @@ impl Question for Step {
     }
 }
 
-fn entry(kerning: Kerning) -> Entry {
-    match kerning {
-        Kerning::Kern => Entry::KernStep,
-        Kerning::Kerx => Entry::KerxStep,
-    }
-}
+const ENTRIES: [Entry; 2] = [Entry::KernStep, Entry::KerxStep];
 
 /// Every question about a table's lone steps, with so many random ones.
 pub fn ask_all(asked: &mut dyn Ask, kerning: Kerning, random: &mut Random, cases: u64) {
-    if entry(kerning).is_declared() {
+    if kerning.its(ENTRIES).is_declared() {
         examples(asked, kerning);
         refusals(asked, kerning);
         lengths(asked, kerning);

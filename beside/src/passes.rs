@@ -371,6 +371,34 @@ pub fn any_glyphs(random: &mut Random) -> Range<u16> {
     first..first + count
 }
 
+/// Hands over whole tables of any glyphs, often behind other bytes and now and then damaged, each a few times, as many times as
+/// there are cases: with the start, the glyphs, and a length for the line.
+pub fn for_each_table(
+    random: &mut Random,
+    cases: u64,
+    any_table: impl Fn(&mut Random, &Range<u16>) -> Vec<u8>,
+    show: &mut dyn FnMut(&mut Random, &Rc<[u8]>, u64, &Range<u16>, usize),
+) {
+    let mut left = cases;
+    while left > 0 {
+        let glyphs = any_glyphs(random);
+        let mut table = any_table(random, &glyphs);
+        if random.once_in(4) {
+            damage(random, &mut table);
+        }
+        let made = Made::behind_others(random, table, Vec::new());
+        let table = Rc::from(&made.table[..]);
+        let start = made.any_start(random);
+        let lines = left.min(LINES_FOR_ONE_TABLE);
+        for _ in 0..lines {
+            let longest = random.among(&[2, 5, 12, 12, 24]);
+            let used = random.below(longest + 1);
+            show(random, &table, start, &glyphs, used);
+        }
+        left -= lines;
+    }
+}
+
 /// Any subtable: mostly whole and of its kind, often behind other bytes.
 pub fn any_subtable(random: &mut Random, kind: &Kind, glyphs: &Range<u16>) -> Made {
     let body = (kind.any_body)(random, glyphs);

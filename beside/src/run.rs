@@ -28,15 +28,20 @@ pub struct Run<'a> {
     pub right_to_left: bool,
 }
 
+/// What a run from this place of a table on is refused for, on what is a line or not.
+pub fn refusal_of_run(table: &[u8], is_line: bool, start: u64) -> Option<Answer<()>> {
+    let refusals = [
+        (table.len() > LONGEST_TABLE, Answer::Table),
+        (!is_line, Answer::Line),
+        (start > table.len() as u64, Answer::Head),
+    ];
+    refusals.into_iter().find(|refusal| refusal.0).map(|refusal| refusal.1)
+}
+
 impl Run<'_> {
     /// What the run is refused for.
     pub fn refusal(&self, line: &Line) -> Option<Answer<()>> {
-        let refusals = [
-            (self.table.len() > LONGEST_TABLE, Answer::Table),
-            (!line.is_line(), Answer::Line),
-            (self.start > self.table.len() as u64, Answer::Head),
-        ];
-        refusals.into_iter().find(|refusal| refusal.0).map(|refusal| refusal.1)
+        refusal_of_run(self.table, line.is_line(), self.start)
     }
 
     /// The answer and the heads that were counted; each subtable is shown before its pass, with the line.

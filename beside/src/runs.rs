@@ -5,11 +5,11 @@ use crate::entries::Entry;
 use crate::insertion_pass;
 use crate::lent_line::spoil;
 use crate::line::{Line, LARGEST_ROOM};
-use crate::lookup_tables::{damage, with_values, Made};
+use crate::lookup_tables::{damage, with_values};
 use crate::morx_tables::{chain, chosen_subtable, morx, subtable};
 use crate::oracle::{Answer, Fault, LONGEST_TABLE};
 use crate::pass::{line_of, Kind, Written};
-use crate::passes::{any_glyphs, any_line_of, KINDS};
+use crate::passes::{any_line_of, for_each_table, KINDS};
 use crate::random::Random;
 use crate::reply::number;
 use crate::run::{Run, MOST_HEADS};
@@ -259,31 +259,14 @@ fn full_rooms(asked: &mut dyn Ask) {
     });
 }
 
-const LINES_FOR_ONE_TABLE: u64 = 3;
-
 fn random_tables(asked: &mut dyn Ask, random: &mut Random, cases: u64) {
-    let mut left = cases;
-    while left > 0 {
-        let glyphs = any_glyphs(random);
-        let mut table = any_morx(random, &glyphs);
-        if random.once_in(4) {
-            damage(random, &mut table);
-        }
-        let made = Made::behind_others(random, table, Vec::new());
-        let table = Rc::from(&made.table[..]);
-        let start = made.any_start(random);
-        let lines = left.min(LINES_FOR_ONE_TABLE);
-        for _ in 0..lines {
-            let longest = random.among(&[2, 5, 12, 12, 24]);
-            let used = random.below(longest + 1);
-            let room = used + random.among(&[0, 1, 9, 40, 200]);
-            let mut line = any_line_of(random, &glyphs, used, room);
-            spoil(random, &mut line);
-            let right_to_left = random.among(&[0, 1, 2, u32::MAX]);
-            asked.ask(&table, Box::new(MorxRun { line, start, right_to_left, written: None }));
-        }
-        left -= lines;
-    }
+    for_each_table(random, cases, any_morx, &mut |random, table, start, glyphs, used| {
+        let room = used + random.among(&[0, 1, 9, 40, 200]);
+        let mut line = any_line_of(random, glyphs, used, room);
+        spoil(random, &mut line);
+        let right_to_left = random.among(&[0, 1, 2, u32::MAX]);
+        asked.ask(table, Box::new(MorxRun { line, start, right_to_left, written: None }));
+    });
 }
 
 /// Any table: some chains, each of some subtables; now and then a count or a length is wrong.
