@@ -132,7 +132,8 @@ fn shape(words: &[String]) -> Result<bool, String> {
     let tables = Tables::of(&font).map_err(in_file)?;
     check_glyphs(&wish, tables.glyphs).map_err(in_file)?;
     let mut the_box = start(command)?;
-    let languages = wish.language.as_ref().map(|name| tables.language(name, &mut the_box)).transpose().map_err(in_file)?;
+    let languages =
+        wish.language.as_ref().map(|name| tables.language(name, &mut the_box)).transpose().map_err(in_file)?;
     println!("{}: {}", wish.file, tables.describe());
     let mut is_same = true;
     let mut met = BTreeSet::new();
@@ -205,8 +206,8 @@ fn show_rows(met: &BTreeSet<u32>, looked_at: &BTreeSet<u32>) {
     println!("rows not looked at: {}", others.join(" "));
 }
 
-/// Wraps each table of a list into a font and shapes its line: both sides have to say the same, and the rows that are met
-/// have to be those that the list names.
+/// Wraps each table of a list into a font and shapes its line: both sides have to say the same, and the rows that are
+/// met have to be those that the list names.
 fn try_all(words: &[String]) -> Result<bool, String> {
     let (list, command) = words.split_first().ok_or(USAGE)?;
     let list = std::fs::read_to_string(list).map_err(|error| format!("{}: {}", list, error))?;
@@ -222,19 +223,26 @@ fn try_all(words: &[String]) -> Result<bool, String> {
     Ok(failed == 0)
 }
 
+/// One of the list: rows, table's name, line, table, and a language to look for. The font has 100 glyphs.
 fn try_one(line: &str, the_box: &mut TheBox) -> Result<(String, bool), String> {
     let parts: Vec<&str> = line.split("; ").collect();
-    let (named, name, glyphs, table) = match parts[..] {
-        [named, name, glyphs, table] => (named, name, glyphs, table),
+    let (named, name, glyphs, table, language) = match parts[..] {
+        [named, name, glyphs, table] => (named, name, glyphs, table, None),
+        [named, name, glyphs, table, language] => (named, name, glyphs, table, Some(language.trim_matches('"'))),
         _ => return Err(format!("no table to try: {}", line)),
     };
     let named: BTreeSet<u32> = named.split(' ').filter_map(|row| row.parse().ok()).collect();
-    let file = wrap(&[(tag(name)?, hex(table).ok_or_else(|| format!("no hex: {}", table))?)]);
+    let bytes = hex(table).ok_or_else(|| format!("no hex: {}", table))?;
+    let file = wrap(&[(tag(name)?, bytes), (*b"maxp", vec![0, 1, 0, 0, 0, 100])]);
     let font = Font::open(&file, None)?;
     let tables = Tables::of(&font)?;
-    let glyphs: Vec<u16> = glyphs.split(' ').map(glyph).collect::<Result<_, _>>()?;
-    let is_same = by_crate(&tables, &glyphs, false)? == by_box(&tables, &glyphs, false, the_box)?;
-    let met = tables.met(&glyphs, false, None);
+    let glyphs: Vec<u16> = glyphs.split_whitespace().map(glyph).collect::<Result<_, _>>()?;
+    let mut is_same = by_crate(&tables, &glyphs, false)? == by_box(&tables, &glyphs, false, the_box)?;
+    if let Some(language) = language {
+        let [theirs, ours] = tables.language(language, the_box)?;
+        is_same &= theirs == ours;
+    }
+    let met = tables.met(&glyphs, false, language);
     let same = if is_same { "the same" } else { "NOT the same" };
     let said = format!("{}, line {:?}: {}; rows {:?}, met {:?}", name, glyphs, same, named, met);
     Ok((said, is_same && met == named))

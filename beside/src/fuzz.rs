@@ -1,5 +1,5 @@
-//! Coverage-guided questions: libFuzzer's bytes choose a call of an exported entry and all that it is lent, and the crate,
-//! whose branches libFuzzer sees, and the proved entries answer it in one process.
+//! Coverage-guided questions: libFuzzer's bytes choose a call of an exported entry and all that it is lent, and the
+//! crate, whose branches libFuzzer sees, and the proved entries answer it in one process.
 
 // The modules have parts for the other programs.
 #![allow(dead_code)]

@@ -106,7 +106,8 @@ fn near_or_far(byte: u8) -> u64 {
 }
 
 impl Case {
-    /// The call that bytes choose: entry, start, list's version, what a step is told, the line, a state, a name, and the table.
+    /// The call that bytes choose: entry, start, list's version, what a step is told, the line, a state, a name, and the
+    /// table.
     pub fn of(bytes: &[u8]) -> Self {
         let mut source = Source(bytes);
         let entry = ENTRIES[usize::from(source.byte()) % ENTRIES.len()];
@@ -440,7 +441,8 @@ impl Case {
     }
 }
 
-/// A line with its adjustments: its length, the room behind it, its glyphs, tags turned by some places, and some characters.
+/// A line with its adjustments: its length, the room behind it, its glyphs, tags turned by some places, and some
+/// characters.
 fn kerned(source: &mut Source) -> Kerned {
     let used = usize::from(source.byte() % (LONGEST + 1));
     let room = used + usize::from(source.byte() % 40);

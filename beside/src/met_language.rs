@@ -10,8 +10,9 @@ pub fn watch(met: &mut Met, start: usize, name: &[u8]) -> Option<()> {
         let range = 12 + 4 * number;
         let (offset, length) = (usize::from(word(table, range)?), usize::from(word(table, range + 2)?));
         let tag = if offset < table.len() { table.get(offset..offset + length) } else { None };
-        met.row(11, tag.is_none());
-        met.row(12, offset == table.len() && length == 0 && name.is_empty());
+        let is_empty_at_end = offset == table.len() && length == 0 && name.is_empty();
+        met.row(11, tag.is_none() && !is_empty_at_end);
+        met.row(12, is_empty_at_end);
         let tag = tag?;
         if tag == name {
             break;

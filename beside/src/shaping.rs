@@ -36,8 +36,7 @@ pub struct Shaped {
     along: Vec<(&'static str, Vec<i64>)>,
 }
 
-const ANSWERS: [&str; 10] =
-    ["DONE", "NOTHING", "TABLE", "LINE", "PLACE", "STATE", "HEAD", "FULL", "ENDED", "LIMIT"];
+const ANSWERS: [&str; 10] = ["DONE", "NOTHING", "TABLE", "LINE", "PLACE", "STATE", "HEAD", "FULL", "ENDED", "LIMIT"];
 
 impl Shaped {
     /// The line in words, one for each place after the heads.
