@@ -32,13 +32,22 @@ module _ (table : List ℕ) (at size : ℕ) where
   unfolding inside
   inside-past h = rw (le-ltb _ _ h)
 
-  pub inside-cut : length table - at < size → inside table at size ≡ false
+  pub inside-over : length table < at + size → inside table at size ≡ false
   unfolding inside
-  inside-cut h = rw (lt-leb (at + size) (length table) (omega arith)) (go (ltb at (length table)))
+  inside-over h = rw (lt-leb (at + size) (length table) h) (go (ltb at (length table)))
     where
       go : (t : Bool) → both t false ≡ false
       go true = refl
       go false = refl
+
+  pub inside-cut : length table - at < size → inside table at size ≡ false
+  inside-cut h = inside-over (omega arith)
+
+  pub inside-small : length table < size → inside table at size ≡ false
+  inside-small h = inside-over (omega arith)
+
+  pub inside-behind : size ≤ length table → length table - size < at → inside table at size ≡ false
+  inside-behind k h = inside-over (omega arith)
 
   pub inside-yes : at < length table → size ≤ length table - at → inside table at size ≡ true
   unfolding inside
@@ -85,14 +94,18 @@ module _ (table : List ℕ) (at : ℕ) where
   unfolding readU8
   u8-read h = rw (inside-yes table at 1 h (omega arith))
 
-  pub u16-read : {n : ℕ} → at < length table → 2 ≤ length table - at → n ≡ u16At table at → U16.Got n ≡ readU16 table at
+  pub u16-read : {n : ℕ} → 2 ≤ length table → at ≤ length table - 2 → n ≡ u16At table at → U16.Got n ≡ readU16 table at
   unfolding readU16
-  u16-read h k e = rw (inside-yes table at 2 h k, e)
+  u16-read h k e = rw (inside-yes table at 2 (omega arith) (omega arith), e)
 
-  pub u32-read : {a b c d : ℕ} → at < length table → 4 ≤ length table - at → a ≡ getD table at 0 → b ≡ getD table (at + 1) 0
+  pub u32-read : {a b c d : ℕ} → 4 ≤ length table → at ≤ length table - 4 → a ≡ getD table at 0 → b ≡ getD table (at + 1) 0
       → c ≡ getD table (at + 2) 0 → d ≡ getD table (at + 3) 0 → U32.Got ((a * 256 + b) * 65536 + (c * 256 + d)) ≡ readU32 table at
   unfolding readU32
-  u32-read h k p q r s = rw (inside-yes table at 4 h k) (cc (add-assoc at 2 1))
+  u32-read h k p q r s = rw (inside-yes table at 4 (omega arith) (omega arith)) (cc (add-assoc at 2 1))
+
+  pub part-read : {size : ℕ} → size ≤ length table → at ≤ length table - size → at < length table → Part.Until (at + size) ≡ readPart table at size
+  unfolding readPart
+  part-read {size} h k l = rw (inside-yes table at size l (omega arith))
 
   pub i16-read : {u : ReadU16} {n : ℕ} {z : ℤ} → u ≡ readU16 table at → u ≡ U16.Got n → z ≡ signed16 n
       → I16.Got (toZ w16 (ofZ w16 z)) ≡ readI16 table at

@@ -70,10 +70,10 @@ pub fn u16_at(table: &[u8], at: usize) -> u16
 pub fn read_u16(table: &[u8], at: usize) -> ReadU16
     ensures { λ r. ⌜ r ≡ readU16 (now (table .entry)) at ⌝ }
 {
-    if table.len() <= at {
+    if table.len() < 2 {
         return ReadU16::Short;
     }
-    if table.len() - at < 2 {
+    if table.len() - 2 < at {
         return ReadU16::Short;
     }
     ReadU16::Got(u16_at(table, at))
@@ -82,10 +82,10 @@ pub fn read_u16(table: &[u8], at: usize) -> ReadU16
 pub fn read_u32(table: &[u8], at: usize) -> ReadU32
     ensures { λ r. ⌜ r ≡ readU32 (now (table .entry)) at ⌝ }
 {
-    if table.len() <= at {
+    if table.len() < 4 {
         return ReadU32::Short;
     }
-    if table.len() - at < 4 {
+    if table.len() - 4 < at {
         return ReadU32::Short;
     }
     let high = wide(table[at]) * 256 + wide(table[at + 1]);
@@ -116,10 +116,13 @@ pub fn read_i16(table: &[u8], at: usize) -> ReadI16
 pub fn read_part(table: &[u8], at: usize, size: usize) -> ReadPart
     ensures { λ r. ⌜ r ≡ readPart (now (table .entry)) at size ⌝ }
 {
-    if table.len() <= at {
+    if table.len() < size {
         return ReadPart::Short;
     }
-    if table.len() - at < size {
+    if table.len() - size < at {
+        return ReadPart::Short;
+    }
+    if table.len() <= at {
         return ReadPart::Short;
     }
     ReadPart::Until(at + size)

@@ -1,19 +1,19 @@
 use Rattle.parse.specs.Reads.{readU16}
-use Rattle.parse.proofs.Laws.{inside-past, inside-cut, u16-read}
+use Rattle.parse.proofs.Laws.{inside-small, inside-behind, u16-read}
 use borrow.Author.Needs.{needs}
 use Rattle.parse.proofs.read_u16.Statement.{statement}
 use Rattle.parse.proofs.read_u16.Tie as tie
 
 returns : tie.Need-returns
 unfolding readU16
-returns c = rw (inside-past _ _ 2 (c .if1 .taken))
+returns c = rw (inside-small _ _ 2 (c .if1 .taken))
 
 sub-if2 : tie.Need-sub-if2
 sub-if2 c = search needs
 
 returns-2 : tie.Need-returns-2
 unfolding readU16
-returns-2 c = rw (inside-cut _ _ 2 (c .if2 .taken))
+returns-2 c = rw (inside-behind _ _ 2 (c .before .if1 .left) (c .if2 .taken))
 
 u16-at-requires : tie.Need-u16-at-requires
 u16-at-requires c κs = search needs

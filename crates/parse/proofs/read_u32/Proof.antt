@@ -1,21 +1,21 @@
 use Rattle.parse.proofs.Laws.{u32-read}
 use native.Mathlib.Omega.{arith}
 use Rattle.parse.specs.Reads.{readU32}
-use Rattle.parse.proofs.Laws.{inside-past, inside-cut, inside-yes}
+use Rattle.parse.proofs.Laws.{inside-small, inside-behind}
 use borrow.Author.Needs.{needs}
 use Rattle.parse.proofs.read_u32.Statement.{statement}
 use Rattle.parse.proofs.read_u32.Tie as tie
 
 returns : tie.Need-returns
 unfolding readU32
-returns c = rw (inside-past _ _ 4 (c .if1 .taken))
+returns c = rw (inside-small _ _ 4 (c .if1 .taken))
 
 sub-if2 : tie.Need-sub-if2
 sub-if2 c = search needs
 
 returns-2 : tie.Need-returns-2
 unfolding readU32
-returns-2 c = rw (inside-cut _ _ 4 (c .if2 .taken))
+returns-2 c = rw (inside-behind _ _ 4 (c .before .if1 .left) (c .if2 .taken))
 
 shared-slice-read-wide : tie.Need-shared-slice-read-wide
 shared-slice-read-wide c = search needs
