@@ -9,9 +9,9 @@ use lib.ListN.{length, drop}
 use borrow.Author.Tests.{eq-eqb}
 use Rattle.laws.specs.Signed.{signed16}
 use Rattle.parse.specs.Reads.{inside, u16At, readI16}
-use Rattle.parse.proofs.Laws.{inside-yes, inside-fits, readU32-got}
+use Rattle.parse.proofs.Laws.{inside-yes, inside-fits}
 use Rattle.tables.specs.Records.{pairPlace}
-use Rattle.tables.specs.Search.{against, sideOf, sideOfPair, searched}
+use Rattle.tables.specs.Search.{searched}
 use Rattle.tables.specs.Order.{Holds, TheOne}
 use Rattle.tables.specs.ManualLookup as Lookup′
 use Rattle.tables.specs.ManualLookup.{Layout}
@@ -23,7 +23,7 @@ use Rattle.tables.specs.declared.lookup.Why.{Why}
 use Rattle.tables.specs.declared.lookup.Why.the-variants.{NotCovered, CutShort}
 use Rattle.tables.specs.declared.lookup.Found.{Found}
 use Rattle.tables.specs.declared.lookup.Found.the-variants as Found′
-use Rattle.tables.proofs.Finding.{find-finds}
+use Rattle.tables.proofs.Finding.{search-finds-pair}
 use Rattle.tables.proofs.ManualLookup.{lookup-as-manual}
 use Rattle.pairs.specs.Pairs.{keyOf, numberAt, numberIn, orderedNumber, numberInRow, classNumber, numberOf}
 use Rattle.pairs.specs.Reply.{numberReply, replyOf}
@@ -81,16 +81,8 @@ no-value : (n : Number) (Value : ℤ → Type 0) (why : Why) → n ≡ Nothing w
 no-value n Value why e never = joined n Value (λ value f. not-both n why f e) (λ value v. absurd (never value v))
 
 module _ (bytes : List ℕ) (tuples first count left right : ℕ) (none : tuples ≡ 0) (rising : Rising bytes first count) where
-  reads : (i : ℕ) → i < count
-      → sideOf bytes first Keys′.Pairs (keyOf left right) i ≡ against (keyOf left right) (pairKey bytes first i) (pairKey bytes first i)
-  unfolding sideOf sideOfPair
-  reads i h = rw (readU32-got bytes (pairPlace first i) (omega (arith, rising .whole i h)), sideOfPair)
-
   the-one : TheOne (pairKey bytes first) (pairKey bytes first) count (keyOf left right) (searched bytes first Keys′.Pairs count (keyOf left right))
-  unfolding searched
-  the-one =
-      find-finds (sideOf bytes first Keys′.Pairs (keyOf left right)) (pairKey bytes first) (pairKey bytes first) count (keyOf left right)
-      reads (λ i h. omega arith) (rising .upward)
+  the-one = search-finds-pair bytes first count (keyOf left right) (λ i h. omega (arith, rising .whole i h)) (rising .upward)
 
   value-is : (i : ℕ) → i < count → numberIn bytes first (At i) ≡ By (pairValue bytes tuples first i)
   unfolding numberIn
@@ -99,7 +91,7 @@ module _ (bytes : List ℕ) (tuples first count left right : ℕ) (none : tuples
       ∙ ap By (sym (rw (eq-eqb tuples 0 none)))
 
   pub ordered-as-manual : AsManual (replyOf bytes (Ready (Ordered first count)) left right) (OrderedValue bytes tuples first count left right)
-  unfolding replyOf numberOf orderedNumber numberIn TheOne
+  unfolding replyOf numberOf orderedNumber numberIn
   ordered-as-manual = go (searched bytes first Keys′.Pairs count (keyOf left right)) refl
     where
       right-one : (s : Spot) → searched bytes first Keys′.Pairs count (keyOf left right) ≡ s

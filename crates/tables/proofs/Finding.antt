@@ -8,12 +8,12 @@ use native.Mathlib.Omega.{arith}
 use lib.ListN.{length}
 use borrow.Author.Tests.{lt-ltb, le-ltb}
 use Rattle.laws.proofs.Numbers.{eq-or-ne, lt-or-ge}
-use Rattle.parse.specs.Reads.{readU16}
-use Rattle.parse.proofs.Laws.{readU16-got}
-use Rattle.tables.specs.Records.{recordPlace}
-use Rattle.tables.specs.Search.{against, sideOf, sideOfRecord, sideOfRange, sideOfArray, sideOfSingle, find, searched}
+use Rattle.parse.specs.Reads.{u32At, readU16}
+use Rattle.parse.proofs.Laws.{readU16-got, readU32-got}
+use Rattle.tables.specs.Records.{recordPlace, pairPlace}
+use Rattle.tables.specs.Search.{against, sideOf, sideOfRecord, sideOfRange, sideOfArray, sideOfSingle, sideOfPair, find, searched}
 use Rattle.tables.specs.Order.{Good, InOrder, Holds, TheOne, firstOf, lastOf}
-use Rattle.tables.specs.declared.records.Keys.the-variants.{Glyphs}
+use Rattle.tables.specs.declared.records.Keys.the-variants.{Glyphs, Pairs}
 use Rattle.tables.specs.declared.records.Kind.{Kind}
 use Rattle.tables.specs.declared.records.Kind.the-variants.{Ranges, Arrays, Singles}
 use Rattle.tables.specs.declared.records.Side.{Side}
@@ -48,7 +48,7 @@ module _ (side : ℕ → Side) (first last : ℕ → ℕ) (count key : ℕ)
   Fine = TheOne first last count key
 
   none : (lo hi : ℕ) → Between lo hi → hi ≤ lo → Fine Absent
-  unfolding TheOne Fine
+  unfolding Fine
   none lo hi b h j held =
       ⊎-elim
       (λ (p : j < lo). omega (arith, b .passed j p, held .below))
@@ -56,7 +56,7 @@ module _ (side : ℕ → Side) (first last : ℕ → ℕ) (count key : ℕ)
       (lt-or-ge j lo)
 
   here : (i : ℕ) → i < count → first i ≤ key → key ≤ last i → Fine (At i)
-  unfolding TheOne Fine
+  unfolding Fine
   here i h a b = (
     record { counted = h; above = a; below = b },
     λ j held.
@@ -153,3 +153,17 @@ unfolding searched
 search-finds bytes kind count glyph all =
     find-finds (sideOf bytes 12 (Glyphs kind) glyph) (firstOf bytes kind) (lastOf bytes kind) count glyph
     (λ i h. side-is bytes kind glyph i (all i h)) (λ i h. all i h .upward) (λ i h. all (suc i) h .behind i refl)
+
+-- so many pairs lie in the table, with rising keys
+module _ (bytes : List ℕ) (first count key : ℕ) (whole : (i : ℕ) → i < count → pairPlace first i + 4 ≤ length bytes)
+    (upward : (i : ℕ) → suc i < count → u32At bytes (pairPlace first i) < u32At bytes (pairPlace first (suc i))) where
+  abbrev keyAt : ℕ → ℕ
+  keyAt i = u32At bytes (pairPlace first i)
+
+  pair-side : (i : ℕ) → i < count → sideOf bytes first Pairs key i ≡ against key (keyAt i) (keyAt i)
+  unfolding sideOf sideOfPair
+  pair-side i h = rw (readU32-got bytes (pairPlace first i) (whole i h), sideOfPair)
+
+  pub search-finds-pair : TheOne keyAt keyAt count key (searched bytes first Pairs count key)
+  unfolding searched
+  search-finds-pair = find-finds (sideOf bytes first Pairs key) keyAt keyAt count key pair-side (λ i h. omega arith) upward

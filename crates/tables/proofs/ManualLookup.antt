@@ -169,7 +169,7 @@ module _ (bytes : List ℕ) (glyphs glyph : ℕ) (kind : Kind) (e : lookupAt byt
     (sizes : unitSize bytes ≡ strideOf kind) (small : glyph < 65535) (count : readU16 bytes 4 ≡ Got (unitCount bytes))
     (all : InOrder bytes kind (unitCount bytes)) where
   units-as-manual : AsManual bytes glyphs glyph (units kind)
-  unfolding inRecords elementIn Lies TheOne
+  unfolding inRecords elementIn Lies
   units-as-manual = go (searched bytes 12 (Glyphs kind) (unitCount bytes) glyph) refl
     where
       found-is : (s : Spot) → searched bytes 12 (Glyphs kind) (unitCount bytes) glyph ≡ s → lookupAt bytes glyph ≡ elementIn bytes kind glyph s

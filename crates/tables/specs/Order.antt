@@ -38,7 +38,7 @@ pub record Holds (first last : ℕ → ℕ) (count key i : ℕ) : Type 0 where
   pub below : key ≤ last i
 
 -- what a search is to find: the one record that holds the key, or that there is none
-unfoldable pub TheOne : (first last : ℕ → ℕ) → ℕ → ℕ → Spot → Type 0
+abbrev pub TheOne : (first last : ℕ → ℕ) → ℕ → ℕ → Spot → Type 0
 TheOne first last count key (At i) = Holds first last count key i × ((j : ℕ) → Holds first last count key j → j ≡ i)
 TheOne first last count key Absent = (j : ℕ) → Holds first last count key j → ⊥
 TheOne first last count key Cut = ⊥
