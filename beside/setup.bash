@@ -76,8 +76,13 @@ entries_of() { # FILE
     grep -o 'aat_[a-z_]*(' "$1" | sort -u
 }
 
-compile() { # FILE OBJECT
-    quietly "$tools/toolchain/bin/clang" --target=$target --no-default-config -O2 -Wall -Wextra -Werror -c "$1" -o "$2"
+compile() { # FILE OBJECT WORDS..
+    quietly "$tools/toolchain/bin/clang" --target=$target --no-default-config -O2 -Wall -Wextra -Werror "${@:3}" -c "$1" -o "$2"
+}
+
+# Links objects and the archive to a program.
+link() { # PROGRAM OBJECT..
+    quietly "$tools/bin/rattle-link" --target $target --toolchain "$tools/toolchain" -o "$@" "$archive"
 }
 
 # Stand-ins, never called, for the entries that the box names and aat.h does not declare yet. One that it declares has to be
@@ -99,6 +104,5 @@ find_archive() {
 build_box() {
     build_stand_ins
     compile "$firmware/box.c" "$built/box.o"
-    quietly "$tools/bin/rattle-link" --target $target --toolchain "$tools/toolchain" \
-        -o "$built/box" "$built/box.o" "$built/stand_ins.o" "$archive"
+    link "$built/box" "$built/box.o" "$built/stand_ins.o"
 }

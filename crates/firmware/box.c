@@ -373,14 +373,6 @@ static void kern_one(kerning_step *entry) {
 
 typedef uint32_t next_of_list(const uint8_t *, size_t, uint64_t *, uint64_t *);
 
-/* Not in aat.h yet. */
-uint32_t aat_morx_chains(const uint8_t *, size_t, size_t, uint64_t *);
-uint32_t aat_morx_next_chain(const uint8_t *, size_t, uint64_t *, uint64_t *);
-uint32_t aat_morx_next_feature(const uint8_t *, size_t, uint64_t *, uint64_t *);
-uint32_t aat_morx_next_subtable(const uint8_t *, size_t, uint64_t *, uint64_t *);
-uint32_t aat_morx_order(uint32_t, uint32_t *);
-uint32_t aat_morx_should_reverse(uint32_t, _Bool, uint32_t *);
-
 static void morx_chains(void) {
     start = take(8);
     take_numbers(cursor, 2);
@@ -407,7 +399,7 @@ static void morx_should_reverse(void) {
     uint32_t coverage = (uint32_t)take(4);
     uint32_t right_to_left = (uint32_t)take(4);
     uint32_t turned = (uint32_t)take(4);
-    put(aat_morx_should_reverse(coverage, right_to_left != 0, &turned), 4);
+    put(aat_morx_should_reverse(coverage, right_to_left, &turned), 4);
     put(turned, 4);
 }
 
