@@ -1,6 +1,15 @@
-/* The entries of libfirmware.a, for C programs on x86-64.
+/* The entries of libaat.a (libfirmware.a, where it is proved), for C programs on x86-64.
 
-   Each gives the number of its answer. On the answers from AAT_NOTHING to AAT_HEAD all that was lent stays as it was. */
+   Conventions
+   - Every entry gives the number of its answer, an enum aat_answer. Any bytes, numbers and lengths get one, and the work
+     ends. A pointer has to point to as many elements as the length behind it says, or the number in brackets; where that is
+     0 it may be any but null. What an entry writes may not overlap anything else that it is lent.
+   - On the answers from AAT_NOTHING to AAT_HEAD everything that was lent stays as it was. What an entry writes otherwise stands
+     under "Writes"; all else stays as it was on every answer. Nothing is kept between calls.
+   - table, table_len, start: the bytes of a font table, or of a whole font, and the byte of it where the entry's own table,
+     subtable (its head included) or state table begins. Longer than AAT_LONGEST_TABLE is AAT_TABLE.
+   - glyph 0xFFFF is a deleted glyph. Flags told as uint32_t are set where they are not 0.
+   - Where several of AAT_TABLE to AAT_HEAD apply, the answer is the one with the smallest number. */
 
 #ifndef AAT_H
 #define AAT_H
@@ -35,165 +44,203 @@ enum aat_verdict {
 
 enum { AAT_LONGEST_TABLE = 16777216, AAT_LARGEST_ROOM = 4096 };
 
-/* The 16-bit element of glyph in the lookup table that begins at start. */
+/* Lookups, classes and languages */
+
+/* The element of 16 bits that a glyph has in the lookup table at start, in any of its six formats.
+   Answers: AAT_DONE, AAT_NOTHING (no element, or it can't be read), AAT_TABLE.
+   Writes: value. */
 uint32_t aat_lookup(const uint8_t *table, size_t table_len, size_t start, uint16_t glyph, uint32_t *value);
 
-/* Whether the records of the lookup table that begins at start are in order; with AAT_BAD, record is the number of the first
-   that is not, and else stays as it was. */
+/* Whether the records of the lookup table at start are in order, so that a search by halves finds what is there.
+   Answers: AAT_DONE, AAT_NOTHING (format or count can't be read), AAT_TABLE.
+   Writes: verdict, an enum aat_verdict; record with AAT_BAD alone: the number of the first record that is out of order. */
 uint32_t aat_survey(const uint8_t *table, size_t table_len, size_t start, uint32_t *verdict, uint32_t *record);
 
-/* The class of glyph in the extended state table that begins at start. */
+/* The class of a glyph in the extended (morx, kerx) or classic (kern) state table at start: 1 where the class table does
+   not cover it, 2 for a deleted glyph.
+   Answers: AAT_DONE, AAT_TABLE, AAT_HEAD (the start is past the table, or the state table's head can't be read).
+   Writes: value. */
 uint32_t aat_class_extended(const uint8_t *table, size_t table_len, size_t start, uint16_t glyph, uint32_t *value);
-
-/* The class of glyph in the classic state table that begins at start. */
 uint32_t aat_class_classic(const uint8_t *table, size_t table_len, size_t start, uint16_t glyph, uint32_t *value);
 
-/* The index of the tag with the bytes of name in the ltag table that begins at start. */
+/* The index of the tag whose bytes are those of name, name_len of them, in the ltag table at start.
+   Answers: AAT_DONE, AAT_NOTHING, AAT_TABLE.
+   Writes: value. */
 uint32_t aat_language_index(const uint8_t *table, size_t table_len, size_t start, const uint8_t *name, size_t name_len,
                             uint32_t *value);
 
-/* A line is lent as glyphs and tags, one of each for every place of its room, and homes, one for every character: the tag
-   of the glyph that it belongs to. The line is the first places, as many as the used length says. Their tags are the
-   numbers below the used length, once each; every home is one of them, and there are no more homes than places. */
+/* The line
 
-/* Starts a line of homes_len characters: the first tags and all homes count up from 0, and used is homes_len. */
+   A line is lent as glyphs and tags, one of each for every place of its room, and homes, one for every typed character: the
+   tag of the glyph that it belongs to. The line itself is the first places, as many as used says. Their tags are the
+   numbers below used, once each; every home is one of them, and there are no more homes than places. A line that is not so,
+   slices of different room, or a room above AAT_LARGEST_ROOM is AAT_LINE. From a fresh line on, whatever the entries below
+   do to it, every character belongs to exactly one place, and used is the number of characters and of the glyphs put in. */
+
+/* Starts a line of homes_len characters, whose glyphs stand in the first places already.
+   Answers: AAT_DONE, AAT_LINE (slices of different room, a room too large, or more characters than places).
+   Writes: tags and homes, which count up from 0, the tags no further than the line; used, which is homes_len. */
 uint32_t aat_fresh(const uint16_t *glyphs, size_t glyphs_len, uint16_t *tags, size_t tags_len, uint16_t *homes,
                    size_t homes_len, size_t *used);
 
-/* Rearranges the window from start to end, both places included and the end cut to the line, by the verb of this number
-   modulo 16; tags move with glyphs. */
+/* Rearranges the window from the place start to the place end, both included and the end cut to the line, by the verb of
+   this number modulo 16.
+   Answers: AAT_DONE, AAT_LINE, AAT_PLACE (start above end, or above used).
+   Writes: glyphs and tags, which move together. */
 uint32_t aat_verb(uint16_t *glyphs, size_t glyphs_len, uint16_t *tags, size_t tags_len, const uint16_t *homes,
                   size_t homes_len, size_t used, uint16_t verb, size_t start, size_t end);
 
-/* Goes over the line by the rearrangement subtable, its head included, that begins at start; tags move with glyphs. */
+/* Passes: one morx subtable over the whole line
+
+   Answers of every pass: AAT_DONE; AAT_ENDED, with what was done before the subtable broke off; AAT_TABLE, AAT_LINE;
+   AAT_HEAD where no subtable of the entry's kind can be read at start. */
+
+/* Rearrangement (kind 0). Writes: glyphs and tags, which move together. */
 uint32_t aat_rearrangement_pass(const uint8_t *table, size_t table_len, size_t start, uint16_t *glyphs, size_t glyphs_len,
                                 uint16_t *tags, size_t tags_len, const uint16_t *homes, size_t homes_len, size_t used);
 
-/* Goes over the line by the non-contextual subtable, its head included, that begins at start. */
-uint32_t aat_noncontextual_pass(const uint8_t *table, size_t table_len, size_t start, uint16_t *glyphs, size_t glyphs_len,
-                                const uint16_t *tags, size_t tags_len, const uint16_t *homes, size_t homes_len, size_t used);
-
-/* Goes over the line by the contextual subtable, its head included, that begins at start. */
+/* Contextual substitution (kind 1). Writes: glyphs. */
 uint32_t aat_contextual_pass(const uint8_t *table, size_t table_len, size_t start, uint16_t *glyphs, size_t glyphs_len,
                              const uint16_t *tags, size_t tags_len, const uint16_t *homes, size_t homes_len, size_t used);
 
-/* Goes over the line by the ligature subtable, its head included, that begins at start; a component's place becomes 0xFFFF and
-   its characters go to the ligature's tag. */
+/* Ligatures (kind 2). Writes: glyphs, where a component's place becomes 0xFFFF; homes, where its characters go to the
+   ligature. */
 uint32_t aat_ligature_pass(const uint8_t *table, size_t table_len, size_t start, uint16_t *glyphs, size_t glyphs_len,
                            const uint16_t *tags, size_t tags_len, uint16_t *homes, size_t homes_len, size_t used);
 
-/* Goes over the line by the insertion subtable, its head included, that begins at start; used is left to say how long the line
-   is then. Inserted glyphs get the tags from the used length up, in order. */
+/* Non-contextual substitution (kind 4). Writes: glyphs. It is never AAT_ENDED. */
+uint32_t aat_noncontextual_pass(const uint8_t *table, size_t table_len, size_t start, uint16_t *glyphs, size_t glyphs_len,
+                                const uint16_t *tags, size_t tags_len, const uint16_t *homes, size_t homes_len, size_t used);
+
+/* Insertion (kind 5). AAT_FULL, too: the next insertion would not fit the room, and those before it stay.
+   Writes: glyphs and tags, which move together, inserted ones with the tags from used up; used. */
 uint32_t aat_insertion_pass(const uint8_t *table, size_t table_len, size_t start, uint16_t *glyphs, size_t glyphs_len,
                             uint16_t *tags, size_t tags_len, const uint16_t *homes, size_t homes_len, size_t *used);
 
-/* Goes over the line by the morx subtable, its head included, that begins at start, of whatever kind; used is left to say how
-   long the line is then. AAT_HEAD is for the kinds that are left out, too. */
+/* The pass of whatever kind the subtable is; AAT_HEAD is for the kinds that are left out, too.
+   Writes: what that kind's pass writes. */
 uint32_t aat_morx_pass(const uint8_t *table, size_t table_len, size_t start, uint16_t *glyphs, size_t glyphs_len,
                        uint16_t *tags, size_t tags_len, uint16_t *homes, size_t homes_len, size_t *used);
 
-/* Runs the whole morx table that begins at start over the line, from right to left where right_to_left is not 0: every
-   subtable that its chain's default flags choose. used is left to say how long the line is then, and heads how many heads of
-   chains and subtables were read. What can't be read or opened is passed over, and a subtable that breaks off ends alone. */
+/* A whole morx table */
+
+/* Runs the morx table at start over the line, from right to left where that flag is set: every subtable that its chain's
+   default flags choose and that is not for vertical text alone, in order. A subtable that can't be opened is passed over,
+   one that breaks off ends alone, and a list ends where its next head can't be read.
+   Answers: AAT_DONE, AAT_FULL (an insertion did not fit), AAT_LIMIT (65,535 heads were counted, and there is another), each
+   with all that was done before; AAT_TABLE, AAT_LINE, AAT_HEAD (the start is past the table).
+   Writes: glyphs, tags, homes, used; heads: how many heads of chains and subtables were read. */
 uint32_t aat_morx_run(const uint8_t *table, size_t table_len, size_t start, uint32_t right_to_left, uint16_t *glyphs,
                       size_t glyphs_len, uint16_t *tags, size_t tags_len, uint16_t *homes, size_t homes_len, size_t *used,
                       uint32_t *heads);
 
-/* Kerning leaves the line as it is and adds to the adjustments, along, one for each place of the room. */
+/* The lists of a morx table: its chains, and each chain's features and subtables
 
-/* Adds what the kern subtable, its head included, that begins at start says of the line; version is its list's. AAT_LINE is
-   for an adjustment beyond 2^40 in size, too, and AAT_HEAD for the formats that are left out. */
+   A cursor is the byte of the table where its list's next element begins, and how many elements the list's count still
+   gives; any two numbers may be lent as one. Where there is a next element, the entry leaves the cursor behind it, and its
+   fields, the first of them 1. At the end of the list, where the count is used up or the element's head does not lie in the
+   table, the answer is AAT_DONE, too, the fields are 0 each, and the cursor stays as it was. The other answer is AAT_TABLE. */
+
+/* The cursor at the chains of the morx table at start. AAT_HEAD, too: the start is past the table. Writes: cursor. */
+uint32_t aat_morx_chains(const uint8_t *table, size_t table_len, size_t start, uint64_t cursor[2]);
+
+/* The next chain. Writes: cursor; fields: 1, the default flags, the cursor at its features, the cursor at its subtables. */
+uint32_t aat_morx_next_chain(const uint8_t *table, size_t table_len, uint64_t cursor[2], uint64_t fields[6]);
+
+/* The next feature. Writes: cursor; fields: 1, the type, the setting, the flags that it enables, those that it does not
+   disable. */
+uint32_t aat_morx_next_feature(const uint8_t *table, size_t table_len, uint64_t cursor[2], uint64_t fields[5]);
+
+/* The next subtable. Writes: cursor; fields: 1, the byte where its head begins, which is the start for the passes, the
+   coverage, the flags, the kind, and the order as aat_morx_order gives it. */
+uint32_t aat_morx_next_subtable(const uint8_t *table, size_t table_len, uint64_t cursor[2], uint64_t fields[6]);
+
+/* The order in which a subtable of this coverage wants the glyphs. It is always AAT_DONE.
+   Writes: order: 0 layout, 1 reverse layout, 2 logical, 3 reverse logical. */
+uint32_t aat_morx_order(uint32_t coverage, uint32_t *order);
+
+/* Whether a line is turned for a subtable of this coverage. It is always AAT_DONE. Writes: reversed: 1 or 0. */
+uint32_t aat_morx_should_reverse(uint32_t coverage, uint32_t right_to_left, uint32_t *reversed);
+
+/* Kerning
+
+   It leaves the line as it is and adds to the adjustments, along, one for each place of the room; along_len is the room, or
+   it is AAT_LINE. version is that of the list that the subtable stands in. A version 0 of kern is its old edition. */
+
+/* What the kern or kerx subtable at start adds between two glyphs.
+   Answers: AAT_DONE, AAT_NOTHING (no number for them), AAT_TABLE, AAT_HEAD (no subtable can be read, or its format has no
+   pairs).
+   Writes: value. */
+uint32_t aat_kern_pair(const uint8_t *table, size_t table_len, size_t start, uint16_t version, uint16_t left, uint16_t right,
+                       int32_t *value);
+uint32_t aat_kerx_pair(const uint8_t *table, size_t table_len, size_t start, uint16_t version, uint16_t left, uint16_t right,
+                       int32_t *value);
+
+/* Adds what the kern or kerx subtable at start says of the line.
+   Answers: AAT_DONE; AAT_ENDED, with what was added before the subtable broke off; AAT_TABLE; AAT_LINE, also for an
+   adjustment beyond 2^40 in size; AAT_HEAD, also for the formats that are left out.
+   Writes: along, below used. */
 uint32_t aat_kern_pass(const uint8_t *table, size_t table_len, size_t start, uint16_t version, const uint16_t *glyphs,
                        size_t glyphs_len, const uint16_t *tags, size_t tags_len, const uint16_t *homes, size_t homes_len,
                        size_t used, int64_t *along, size_t along_len);
-
-/* The same by the kerx subtable that begins at start. */
 uint32_t aat_kerx_pass(const uint8_t *table, size_t table_len, size_t start, uint16_t version, const uint16_t *glyphs,
                        size_t glyphs_len, const uint16_t *tags, size_t tags_len, const uint16_t *homes, size_t homes_len,
                        size_t used, int64_t *along, size_t along_len);
 
-/* Runs the whole kern table that begins at start over the line; start 0 is no table. The adjustments of the line are set to 0
-   first; heads is left to say how many heads of subtables were read. */
+/* Runs the kern table at start over the line; start 0 is no table. The adjustments of the line are set to 0 first. Vertical
+   and cross-stream subtables are passed over.
+   Answers: AAT_DONE, AAT_LIMIT (as with aat_morx_run), AAT_TABLE, AAT_LINE, AAT_HEAD (the start is past the table).
+   Writes: along, below used; heads: how many heads of subtables were read. */
 uint32_t aat_kern_run(const uint8_t *table, size_t table_len, size_t start, const uint16_t *glyphs, size_t glyphs_len,
                       const uint16_t *tags, size_t tags_len, const uint16_t *homes, size_t homes_len, size_t used,
                       int64_t *along, size_t along_len, uint32_t *heads);
 
-/* The same by the kerx table, from right to left where right_to_left is not 0. Glyphs and tags are turned and turned back. */
+/* The same by the kerx table, from right to left where that flag is set; subtables with variations are passed over, too.
+   Glyphs and tags are turned for some subtables, and turned back: they are as they were. */
 uint32_t aat_kerx_run(const uint8_t *table, size_t table_len, size_t start, uint32_t right_to_left, uint16_t *glyphs,
                       size_t glyphs_len, uint16_t *tags, size_t tags_len, const uint16_t *homes, size_t homes_len, size_t used,
                       int64_t *along, size_t along_len, uint32_t *heads);
 
-/* A step of a machine is what its pass does at one place: index and glyph are those of the place, and ends is not 0 at end of
-   text, where a pass gives the length and glyph 0xFFFF. The state, its numbers in the order named, is 0 each at the start of a
-   pass; the step leaves the new one there. The advance is how many places to go on, and 0 with AAT_FULL and AAT_ENDED. */
+/* Single steps of the machines
 
-/* One step by the rearrangement subtable, its head included, that begins at start, on a line of so many places. The state is
-   the state table's, the first and the last mark, and the steps in a row that did not advance. window is left to say what
-   aat_verb is to be called with: first and last place, and verb; 0 each where the step makes no edit. */
+   A step is what a pass does at one place: index and glyph are those of the place, and ends is set at end of text, where a
+   pass gives the length and glyph 0xFFFF. state holds the machine's own numbers, in the order named; all are 0 at the start
+   of a pass.
+   Answers of every step: AAT_DONE; AAT_ENDED, with what was done before the step broke off; AAT_TABLE, AAT_LINE; AAT_PLACE
+   (index above the length); AAT_STATE (no state that the machine can have on this line); AAT_HEAD.
+   Writes of every step: state; advance, how many places to go on, and 0 on all other answers than AAT_DONE. */
+
+/* Rearrangement, on a line of length places. state: the state table's, the first and the last mark, and the steps in a row
+   that did not advance. Writes, too: window, what aat_verb is to be called with: first and last place, and verb; 0 each
+   where there is no edit. */
 uint32_t aat_rearrangement_step(uint64_t state[4], const uint8_t *table, size_t table_len, size_t start, size_t length,
                                 size_t index, uint16_t glyph, uint32_t ends, size_t *advance, uint64_t window[3]);
 
-/* One step by the contextual subtable, its head included, that begins at start; it writes its glyphs into the line. The state
-   is the state table's, whether a mark is set (1 or 0), its place, and the glyph that is remembered for it. */
+/* Contextual substitution. state: the state table's, whether a mark is set (1 or 0), its place, and the glyph remembered
+   for it.
+   Writes, too: glyphs. */
 uint32_t aat_contextual_step(uint64_t state[4], const uint8_t *table, size_t table_len, size_t start, uint16_t *glyphs,
                              size_t glyphs_len, const uint16_t *tags, size_t tags_len, const uint16_t *homes,
                              size_t homes_len, size_t used, size_t index, uint16_t glyph, uint32_t ends, size_t *advance);
 
-/* One step by the ligature subtable, its head included, that begins at start; it writes its glyphs and homes into the line. The
-   state is the state table's, how many slots of the stack are used, 32 places and 32 glyphs. */
+/* Ligatures. state: the state table's, how many slots of the stack are used, 32 places and 32 glyphs. Writes, too: glyphs,
+   homes. */
 uint32_t aat_ligature_step(uint64_t state[66], const uint8_t *table, size_t table_len, size_t start, uint16_t *glyphs,
                            size_t glyphs_len, const uint16_t *tags, size_t tags_len, uint16_t *homes, size_t homes_len,
                            size_t used, size_t index, uint16_t glyph, uint32_t ends, size_t *advance);
 
-/* One step by the insertion subtable, its head included, that begins at start, on a line of so many places in a room of so many.
-   The state is the state table's, the mark, and the steps in a row that did not advance. edits is left to say what is to be
-   inserted: how many times (0, 1 or 2), then each time the place, how many glyphs, and the byte of the table where they begin;
-   the rest of it is 0. */
+/* Insertion, on a line of length places in a room of room. AAT_FULL, too. state: the state table's, the mark, and the steps
+   in a row that did not advance. Writes, too: edits, what is to be put in: how many times (0, 1 or 2), then each time the
+   place, how many glyphs, and the byte of the table where they begin; the rest of it is 0. */
 uint32_t aat_insertion_step(uint64_t state[3], const uint8_t *table, size_t table_len, size_t start, size_t length,
                             size_t room, size_t index, uint16_t glyph, uint32_t ends, size_t *advance, uint64_t edits[7]);
 
-/* The lists of a morx table: its chains, and each chain's features and subtables. A cursor is the byte of the table where its
-   list's next element begins, and how many elements the list's count still gives; any two numbers may be lent as one. Where
-   there is a next element, the entry leaves the cursor behind it and its fields, the first of them 1. At the end of the list,
-   where the count is used up or the element's head does not lie in the table, the fields are 0 each and the cursor stays as it
-   was; the answer is AAT_DONE there, too. */
-
-/* The cursor at the chains of the morx table that begins at start. */
-uint32_t aat_morx_chains(const uint8_t *table, size_t table_len, size_t start, uint64_t cursor[2]);
-
-/* The next chain. Its fields: 1, the default flags, the cursor at its features, the cursor at its subtables. */
-uint32_t aat_morx_next_chain(const uint8_t *table, size_t table_len, uint64_t cursor[2], uint64_t fields[6]);
-
-/* The next feature. Its fields: 1, the type, the setting, the flags that it enables, those that it does not disable. */
-uint32_t aat_morx_next_feature(const uint8_t *table, size_t table_len, uint64_t cursor[2], uint64_t fields[5]);
-
-/* The next subtable. Its fields: 1, the byte where its head begins, which is the start for the passes, the coverage, the flags,
-   the kind, and the number of the order as aat_morx_order gives it. */
-uint32_t aat_morx_next_subtable(const uint8_t *table, size_t table_len, uint64_t cursor[2], uint64_t fields[6]);
-
-/* The order in which a subtable of this coverage wants the glyphs: 0 layout, 1 reverse layout, 2 logical, 3 reverse logical. */
-uint32_t aat_morx_order(uint32_t coverage, uint32_t *order);
-
-/* Whether a line, from right to left where right_to_left is not 0, is turned for a subtable of this coverage: 1 or 0. */
-uint32_t aat_morx_should_reverse(uint32_t coverage, uint32_t right_to_left, uint32_t *reversed);
-
-/* What the kern subtable, its head included, that begins at start adds between two glyphs; version is its list's. AAT_HEAD is for
-   the formats that have no pairs, too. */
-uint32_t aat_kern_pair(const uint8_t *table, size_t table_len, size_t start, uint16_t version, uint16_t left, uint16_t right,
-                       int32_t *value);
-
-/* The same by the kerx subtable that begins at start. */
-uint32_t aat_kerx_pair(const uint8_t *table, size_t table_len, size_t start, uint16_t version, uint16_t left, uint16_t right,
-                       int32_t *value);
-
-/* One step of the machine of the kern subtable, its head included, that begins at start, on a line of so many places; it adds to
-   the adjustments, along, and has no end of text. The state is the state table's, how many slots of the stack are used, the
-   steps in a row that did not advance, and 8 places. AAT_LINE is for a length above along_len and for an adjustment beyond 2^40 in
-   size, and AAT_HEAD for every format but 1. */
+/* Kerning by format 1 of kern or kerx, on a line of length places; it has no end of text. AAT_LINE is for a length above
+   along_len or AAT_LARGEST_ROOM, and for an adjustment beyond 2^40 in size, and AAT_HEAD for every format but 1. state: the
+   state table's, how many slots of the stack are used, the steps in a row that did not advance, and 8 places. Writes, too:
+   along. */
 uint32_t aat_kern_step(uint64_t state[11], const uint8_t *table, size_t table_len, size_t start, uint16_t version,
                        size_t length, size_t index, uint16_t glyph, int64_t *along, size_t along_len, size_t *advance);
-
-/* The same by the kerx subtable that begins at start. */
 uint32_t aat_kerx_step(uint64_t state[11], const uint8_t *table, size_t table_len, size_t start, uint16_t version,
                        size_t length, size_t index, uint16_t glyph, int64_t *along, size_t along_len, size_t *advance);
 
