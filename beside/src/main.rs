@@ -47,6 +47,7 @@ mod sample;
 mod shaper;
 mod shaper_inputs;
 mod shaper_program;
+mod shaper_sample;
 mod state_tables;
 mod step;
 mod steps;
@@ -162,6 +163,7 @@ const SAMPLE_SEED: u64 = 1;
 fn sample(file: &str) -> ExitCode {
     let mut sample = Sample::default();
     lookup::ask_sample(&mut sample, &mut Random::new(SAMPLE_SEED));
+    shaper_sample::add_all(&mut sample, &mut Random::new(SAMPLE_SEED));
     if let Err(error) = std::fs::write(file, &sample.bytes) {
         return failed(error);
     }

@@ -4,6 +4,7 @@
 //! question with its answer. For `lookup` (1) and the survey (2) these are the start in four bytes,
 //! the glyph in two (0 for the survey), the answer in one, and two numbers of two bytes each: the
 //! element and 0, or the verdict and the bad record, 0 for what is not given. All is big-endian.
+//! `shaper_sample` adds inputs of the shaper.
 
 use crate::compare::{Ask, Question};
 use std::rc::Rc;

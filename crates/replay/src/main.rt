@@ -1,8 +1,14 @@
 // Replays a sample of the crate's answers, with no Rust at hand: `beside/run --sample FILE` writes what is read here.
+mod results;
+
 use answers::Reply;
+use shaper::SHAPER_ROOM;
 use tables::survey::Surveyed;
 
 const OUT: i32 = 1;
+
+// The shaper's number in the sample: it is no exported entry.
+const SHAPER: u32 = 0;
 
 // More cases than a sample has.
 const MOST_CASES: u32 = 100_000;
@@ -20,14 +26,6 @@ struct Numbers {
     answer: u32,
     first: u32,
     second: u32,
-}
-
-// The 16-bit number at a place of a case's fields.
-fn word(bytes: &[u8], at: usize) -> u32 {
-    let parse::ReadU16::Got(number) = parse::read_u16(bytes, at) else {
-        return 0;
-    };
-    number as u32
 }
 
 fn byte(bytes: &[u8], at: usize) -> u32 {
@@ -105,10 +103,10 @@ fn differs(ours: Numbers, fields: &[u8]) -> Case {
     if ours.answer != byte(fields, 6) {
         return Case::Differs;
     }
-    if ours.first != word(fields, 7) {
+    if ours.first != results::word(fields, 7) as u32 {
         return Case::Differs;
     }
-    if ours.second != word(fields, 9) {
+    if ours.second != results::word(fields, 9) as u32 {
         return Case::Differs;
     }
     Case::Same
@@ -127,10 +125,39 @@ fn ask(entry: u32, table: &[u8], fields: &[u8]) -> Case {
     }
 }
 
-// Reads a case's table and fields, and asks it.
+// Reads the numbers of a result, and compares the shaper's with them.
+fn replay_result(input: &[u8], numbers: &mut [u8]) -> Case {
+    if io::read_full(0, numbers) != numbers.len() {
+        return Case::Broken;
+    }
+    let mut glyphs = [0u16; SHAPER_ROOM];
+    let mut tags = [0u16; SHAPER_ROOM];
+    let mut homes = [0u16; SHAPER_ROOM];
+    let shaped = shaper::shape(input, &mut glyphs, &mut tags, &mut homes);
+    if results::is_result(numbers, shaped, &glyphs, &tags, &homes) {
+        return Case::Same;
+    }
+    Case::Differs
+}
+
+// Reads how long a result is, and replays it.
+fn replay_shaper(input: &[u8]) -> Case {
+    let mut size = [0u8; 2];
+    if io::read_full(0, &mut size) != 2 {
+        return Case::Broken;
+    }
+    let length = results::word(&size, 0) as usize;
+    let mut buffer = io::large_buffer();
+    replay_result(input, &mut buffer[..length])
+}
+
+// Reads a case's table and fields, and asks it; of the shaper it is the input and the result.
 fn replay_case(entry: u32, table: &mut [u8]) -> Case {
     if io::read_full(0, table) != table.len() {
         return Case::Broken;
+    }
+    if entry == SHAPER {
+        return replay_shaper(table);
     }
     let mut fields = [0u8; 11];
     if io::read_full(0, &mut fields) != 11 {
@@ -145,7 +172,7 @@ fn replay_one(buffer: &mut [u8]) -> Case {
     if io::read_full(0, &mut head) == 0 {
         return Case::Ended;
     }
-    let length = word(&head, 1) as usize;
+    let length = results::word(&head, 1) as usize;
     if buffer.len() < length {
         return Case::Broken;
     }

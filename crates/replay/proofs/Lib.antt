@@ -1,0 +1,2 @@
+-- Laws of the comparison with a result.
+mod Words

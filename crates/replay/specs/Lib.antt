@@ -1,0 +1,2 @@
+-- The sample.
+pub mod Results
