@@ -1,5 +1,7 @@
 // Runs document 01's known answers through the proved entries and prints each; those it marks are proved in specs/Known.antt.
 use answers::Reply;
+use shaper::SHAPER_ROOM;
+use shaper::Shaped;
 
 const OUT: i32 = 1;
 
@@ -77,6 +79,14 @@ fn print_glyphs(glyphs: &[u16]) {
     }
 }
 
+// The first words; all of them are there.
+fn print_first(words: &[u16], count: usize) {
+    if words.len() < count {
+        return;
+    }
+    print_glyphs(&words[..count]);
+}
+
 // The line 10 to 14 after a verb on a window.
 fn print_verb(verb: u16, start: usize, end: usize) {
     let mut glyphs: [u16; 5] = [10, 11, 12, 13, 14];
@@ -93,6 +103,45 @@ fn print_verb(verb: u16, start: usize, end: usize) {
     io::write_all(OUT, b"\n");
 }
 
+// Whether the offset of a ligature action is the one that document 01 gives.
+fn print_offset(action: u32, offset: i32) {
+    io::write_all(OUT, b"offset of action ");
+    io::print_hex(OUT, action as u64, 8);
+    if ligature::actions::offset_of(action) == offset {
+        io::write_all(OUT, b": as written\n");
+        return;
+    }
+    io::write_all(OUT, b": another\n");
+}
+
+// A result of the shaper.
+fn print_shaped(
+    shaped: Shaped,
+    glyphs: &[u16; SHAPER_ROOM],
+    tags: &[u16; SHAPER_ROOM],
+    homes: &[u16; SHAPER_ROOM],
+) {
+    let answer = shaped.answer;
+    print_number(b"shaper: answer ", answers::number(answer) as u64);
+    print_number(b" heads ", shaped.heads as u64);
+    print_number(b" length ", shaped.used as u64);
+    io::write_all(OUT, b" glyphs");
+    print_first(glyphs, shaped.used);
+    io::write_all(OUT, b" tags");
+    print_first(tags, shaped.used);
+    io::write_all(OUT, b" homes");
+    print_first(homes, shaped.characters);
+    io::write_all(OUT, b"\n");
+}
+
+fn print_shaper(input: &[u8]) {
+    let mut glyphs = [0u16; SHAPER_ROOM];
+    let mut tags = [0u16; SHAPER_ROOM];
+    let mut homes = [0u16; SHAPER_ROOM];
+    let shaped = shaper::shape(input, &mut glyphs, &mut tags, &mut homes);
+    print_shaped(shaped, &glyphs, &tags, &homes);
+}
+
 fn main() {
     print_verb(1, 0, 4);
     print_verb(13, 0, 4);
@@ -104,4 +153,10 @@ fn main() {
     print_lookup(4);
     print_lookup(7);
     print_class(0xFFFF);
+    print_offset(0x3FFFFFFF, -1);
+    print_offset(0x20000000, -536_870_912);
+    print_offset(0x1FFFFFFF, 536_870_911);
+    print_shaper(
+        b"\x00\x00\x00\x2E\x00\x02\x00\x00\x00\x00\x00\x01\x00\x00\x00\x01\x00\x00\x00\x26\x00\x00\x00\x00\x00\x00\x00\x01\x00\x00\x00\x16\x00\x00\x00\x04\x00\x00\x00\x01\x00\x08\x00\x05\x00\x02\x00\x07\x00\x09\x00\x03\x00\x05\x00\x06\x00\x14",
+    );
 }
