@@ -144,7 +144,8 @@ impl Question for Next {
 /// A call of `aat_morx_order`, or, with a direction, of `aat_morx_should_reverse`.
 struct Coverage {
     coverage: u32,
-    right_to_left: Option<bool>,
+    /// Not 0 where the text runs from right to left.
+    right_to_left: Option<u32>,
 }
 
 impl Coverage {
@@ -152,10 +153,10 @@ impl Coverage {
     fn told(&self) -> Option<u32> {
         let table = in_chain(&subtable(self.coverage, &[]));
         let subtable = chains(&table, 0).next()?.subtables().next()?;
-        Some(
-            self.right_to_left
-                .map_or_else(|| subtable.order() as u32, |right_to_left| subtable.should_reverse(right_to_left).into()),
-        )
+        Some(match self.right_to_left {
+            None => subtable.order() as u32,
+            Some(right_to_left) => subtable.should_reverse(right_to_left != 0).into(),
+        })
     }
 }
 
@@ -167,7 +168,7 @@ impl Question for Coverage {
     fn arguments(&self, held: u64, call: &mut Vec<u8>) {
         call.extend(self.coverage.to_le_bytes());
         if let Some(right_to_left) = self.right_to_left {
-            call.extend(u32::from(right_to_left).to_le_bytes());
+            call.extend(right_to_left.to_le_bytes());
         }
         call.extend((held as u32).to_le_bytes());
     }
@@ -182,7 +183,7 @@ impl Question for Coverage {
     fn describe(&self, held: u64) -> String {
         let asked = match self.right_to_left {
             None => "order".into(),
-            Some(right_to_left) => format!("whether a line that runs right to left ({}) is turned", right_to_left),
+            Some(right_to_left) => format!("whether a line is turned, right to left {},", right_to_left),
         };
         format!("{} for coverage {:08x}, lent value {}", asked, self.coverage, held as u32)
     }
@@ -229,7 +230,9 @@ fn ask_lists(asked: &mut dyn Ask, table: &Rc<[u8]>, start: u64) {
     ask_list(asked, table, List::Chains, chains_from(table, start), chains, told, &mut |asked, chain, fields| {
         let [features, subtables] = [[fields[1], fields[2]], [fields[3], fields[4]]];
         ask_list(asked, table, List::Features, features, chain.features(), told_of_feature, &mut |_, _, _| {});
-        ask_list(asked, table, List::Subtables, subtables, chain.subtables(), told_of_subtable, &mut ask_coverage);
+        let ask_more =
+            &mut |asked: &mut dyn Ask, subtable: &Subtable, _: &[u64]| ask_coverage(asked, subtable.coverage());
+        ask_list(asked, table, List::Subtables, subtables, chain.subtables(), told_of_subtable, ask_more);
     });
 }
 
@@ -270,9 +273,9 @@ fn told_of_subtable(subtable: &Subtable) -> Vec<u64> {
     vec![coverage.into(), subtable.flags().into(), (coverage & 0xFF).into(), subtable.order() as u64]
 }
 
-fn ask_coverage(asked: &mut dyn Ask, subtable: &Subtable, _fields: &[u64]) {
-    let coverage = subtable.coverage();
-    for right_to_left in [None, Some(false), Some(true)] {
+/// Its order, and whether it turns lines of either direction, with two numbers for the second.
+fn ask_coverage(asked: &mut dyn Ask, coverage: u32) {
+    for right_to_left in [None, Some(0), Some(1), Some(0x8000_0000)] {
         asked.ask_alone(Box::new(Coverage { coverage, right_to_left }));
     }
 }
@@ -367,9 +370,7 @@ fn long_tables(asked: &mut dyn Ask) {
 fn coverages(asked: &mut dyn Ask, random: &mut Random) {
     for order in 0..16 {
         for others in [0, 1, 0xFF, 0x0FFF_FFFF, random.number() as u32 >> 4] {
-            for right_to_left in [None, Some(false), Some(true)] {
-                asked.ask_alone(Box::new(Coverage { coverage: order << 28 | others, right_to_left }));
-            }
+            ask_coverage(asked, order << 28 | others);
         }
     }
 }
