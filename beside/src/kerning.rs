@@ -3,7 +3,7 @@
 use crate::entries::Entry;
 use crate::line::{Line, LARGEST_ROOM};
 use crate::oracle::aat::{kern, kerx};
-use crate::oracle::{caught_as_none, Answer, Fault, LONGEST_TABLE};
+use crate::oracle::{caught, caught_as_none, Answer, Fault, LONGEST_TABLE};
 use crate::pass::stepped;
 
 /// The two kerning tables.
@@ -78,7 +78,12 @@ impl<'a> Subtable<'a> {
     }
 
     /// The one subtable of a table made by `alone`.
-    pub fn alone(kerning: Kerning, table: &'a [u8]) -> Option<Self> {
+    pub fn alone(kerning: Kerning, table: &'a [u8]) -> Result<Option<Self>, Fault> {
+        caught(|| Subtable::first(kerning, table))
+    }
+
+    /// The same, and a panic of the crate is one.
+    pub fn first(kerning: Kerning, table: &'a [u8]) -> Option<Self> {
         let start = ALONE_AT as u32;
         match kerning {
             Kerning::Kern => Subtable::of_kern(&kern::subtables(table, start).next()?),

@@ -38,7 +38,7 @@ impl Asked for OfPair {
             Some(bytes) => kerning.alone(version, bytes),
             None => return Ok((Answer::Head, None)),
         };
-        let answer = match caught(|| Subtable::alone(kerning, &bytes))? {
+        let answer = match Subtable::alone(kerning, &bytes)? {
             Some(subtable) => caught(|| subtable.get(self.left, self.right))?,
             None => Answer::Head,
         };

@@ -9,7 +9,7 @@ use crate::kerning_pairs::editions;
 use crate::kerning_tables::{any_body, any_subtable, formats, Edition};
 use crate::kerning_trace::describe_pass;
 use crate::line::{Line, DELETED, LARGEST_ROOM};
-use crate::oracle::{caught, Answer, Fault, LONGEST_TABLE};
+use crate::oracle::{Answer, Fault, LONGEST_TABLE};
 use crate::pass::line_of;
 use crate::passes::any_glyphs;
 use crate::random::Random;
@@ -45,7 +45,7 @@ impl Pass {
             Some(bytes) => kerning.alone(version, bytes),
             None => return Ok(Answer::Head),
         };
-        let subtable = match caught(|| Subtable::alone(kerning, &table))? {
+        let subtable = match Subtable::alone(kerning, &table)? {
             Some(subtable) => subtable,
             None => return Ok(Answer::Head),
         };

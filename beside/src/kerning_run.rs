@@ -27,8 +27,17 @@ impl<'a> Run<'a> {
         refusal_of_run(self.table, lent.is_line(), self.start)
     }
 
-    /// The answer and the heads that were counted; each subtable is shown before its pass.
-    pub fn make(&self, lent: &mut Kerned, show: &mut dyn FnMut(&Visit, &Kerned)) -> Result<(Answer<()>, u32), Fault> {
+    /// The answer and the heads that were counted.
+    pub fn make(&self, lent: &mut Kerned) -> Result<(Answer<()>, u32), Fault> {
+        self.make_showing(lent, &mut |_, _| {})
+    }
+
+    /// The same, each subtable shown before its pass.
+    pub fn make_showing(
+        &self,
+        lent: &mut Kerned,
+        show: &mut dyn FnMut(&Visit, &Kerned),
+    ) -> Result<(Answer<()>, u32), Fault> {
         lent.used().1.fill(0);
         let mut heads = 0;
         let mut left = self.visits();

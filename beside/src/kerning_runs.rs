@@ -43,7 +43,7 @@ impl KerningRun {
         if let Some(answer) = run.refusal(&lent) {
             return Ok((answer, lent, None));
         }
-        let (answer, heads) = run.make(&mut lent, &mut |_, _| {})?;
+        let (answer, heads) = run.make(&mut lent)?;
         match &self.written {
             Some(written) if answer != Answer::Done(()) || *written != lent.along => Err(Fault::Disputed),
             _ => Ok((answer, lent, Some(heads))),

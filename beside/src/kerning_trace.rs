@@ -10,7 +10,7 @@ use crate::trace::{describe_state, end_pass, end_run};
 /// The steps of the pass by the one subtable of a table made by `alone`.
 pub fn describe_pass(kerning: Kerning, table: &[u8], lent: &Kerned) -> Vec<String> {
     let mut steps = Vec::new();
-    if let Some(subtable) = Subtable::alone(kerning, table) {
+    if let Ok(Some(subtable)) = Subtable::alone(kerning, table) {
         add_steps(&subtable, open(kerning, table), lent.clone(), &mut steps);
     }
     steps
@@ -35,7 +35,7 @@ pub fn describe_run(run: &Run, lent: &Kerned) -> Vec<String> {
         }
     };
     let mut lent = lent.clone();
-    let answer = run.make(&mut lent, show);
+    let answer = run.make_showing(&mut lent, show);
     end_run(&mut steps, answer, &lent.describe());
     steps
 }

@@ -279,7 +279,7 @@ pub mod theirs {
     /// A kerning pass by the subtable of a table of one.
     #[inline(never)]
     pub fn kerning_pass(kerning: Kerning, kerned: &mut Kerned, table: &[u8]) {
-        let subtable = Subtable::alone(kerning, table).expect("a subtable");
+        let subtable = Subtable::first(kerning, table).expect("a subtable");
         let (glyphs, along) = kerned.used();
         assert_eq!(subtable.add(glyphs, along).number(), 0, "a kerning pass over a line");
     }
