@@ -106,7 +106,7 @@ fn near_or_far(byte: u8) -> u64 {
 }
 
 impl Case {
-    /// The call that bytes choose: entry, start, list's version, what a step is told, the line, a state, a name, and the
+    /// The call that bytes choose: entry, start, list's version, what a step is told, the line, a state, a name, the
     /// table.
     pub fn of(bytes: &[u8]) -> Self {
         let mut source = Source(bytes);

@@ -261,7 +261,7 @@ fn any_machine(random: &mut Random, edition: Edition, glyphs: &Range<u16>) -> Ve
             state: u16::from(any_below(random, states)),
             flags: any_flags(random, edition.kerning, stays, pushes),
             list: match random.below(32) {
-                0 => NONE - 1,
+                0 => random.among(&[0x1000, NONE - 1]),
                 1..=16 => NONE,
                 _ => random.below(numbers + 2) as u16,
             },

@@ -1,5 +1,5 @@
-//! Which rows of docs/DIFFERENCES.md a line meets: lookups and state tables as the crate reads them, and what the rows ask
-//! of them.
+//! Which rows of docs/DIFFERENCES.md a line meets: lookups and state tables as the crate reads them, and what the rows
+//! ask of them.
 
 use crate::oracle::{aat, Answer, Bytes};
 use crate::sfnt::{long, word};

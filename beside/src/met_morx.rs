@@ -1,5 +1,5 @@
-//! Which rows of docs/DIFFERENCES.md a line meets in the run of a morx table: the subtables that are chosen, and each step
-//! of theirs before the crate makes it.
+//! Which rows of docs/DIFFERENCES.md a line meets in the run of a morx table: the subtables that are chosen, and each
+//! step of theirs before the crate makes it.
 
 use crate::line::Line;
 use crate::met::{Entry, Met, MOST_CYCLES, NONE};
