@@ -192,7 +192,7 @@ fn show_places(crates: &Shaped, boxes: &Shaped) {
     let width = left.iter().map(String::len).max().unwrap_or(0);
     for place in 0..left.len().max(right.len()) {
         let [left, right] = [&left, &right].map(|column| column.get(place).map_or("", String::as_str));
-        println!("{:width$} | {}", left, right, width = width);
+        println!("{:width$} | {}", left, right.trim_end(), width = width);
     }
 }
 
