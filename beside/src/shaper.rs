@@ -1,7 +1,7 @@
-//! What the shaper's program has to print, by document 01 and over the crate.
+//! What the shaper answers, by document 01 and over the crate, and what its program prints of that.
 
 use crate::line::{Line, LARGEST_ROOM};
-use crate::lookup_tables::numbers;
+use crate::lookup_tables::{numbers, words};
 use crate::oracle::{Answer, Fault};
 use crate::pass::line_of;
 use crate::run::Run;
@@ -11,9 +11,8 @@ pub const SHAPER_TABLE: usize = 32_768;
 
 /// An input: the table's length, the table, the number of glyphs, the glyphs.
 pub fn input_of(table: &[u8], glyphs: &[u16]) -> Vec<u8> {
-    let count = (glyphs.len() as u16).to_be_bytes();
-    let length = (table.len() as u32).to_be_bytes();
-    [&length, table, &count, &glyphs.iter().flat_map(|glyph| glyph.to_be_bytes()).collect::<Vec<u8>>()].concat()
+    let (length, count) = (table.len() as u32, glyphs.len() as u16);
+    [&length.to_be_bytes(), table, &count.to_be_bytes(), &words(glyphs)].concat()
 }
 
 /// The table and the glyphs of an input, or what it is refused for.
@@ -36,16 +35,37 @@ fn split(bytes: &[u8], length: usize) -> Result<(&[u8], &[u8]), Answer<()>> {
     Ok((bytes.get(..length).ok_or(Answer::Line)?, &bytes[length..]))
 }
 
-/// All that the program has to print for an input.
-pub fn printed(input: &[u8]) -> Result<String, Fault> {
+/// An answer with its heads and its line, which has neither places nor characters where the input is refused.
+pub struct Shaped {
+    pub answer: Answer<()>,
+    pub heads: u32,
+    pub line: Line,
+}
+
+impl Shaped {
+    pub fn refused(answer: Answer<()>) -> Self {
+        Shaped { answer, heads: 0, line: Line::none() }
+    }
+}
+
+/// What document 01 says of an input.
+pub fn shaped(input: &[u8]) -> Result<Shaped, Fault> {
     let (table, glyphs) = match parts_of(input) {
         Ok(parts) => parts,
-        Err(answer) => return Ok(format!("answer {}\n", answer.number())),
+        Err(answer) => return Ok(Shaped::refused(answer)),
     };
     let mut line = line_of(&glyphs, LARGEST_ROOM);
-    let run = Run { table, start: 0, right_to_left: false };
-    let (answer, heads) = run.make(&mut line, &mut |_, _| {})?;
-    Ok(format!("answer {}\nheads {}\n{}", answer.number(), heads, print_line(&line)))
+    let (answer, heads) = Run { table, start: 0, right_to_left: false }.make(&mut line, &mut |_, _| {})?;
+    Ok(Shaped { answer, heads, line })
+}
+
+/// All that the program has to print for an input.
+pub fn printed(input: &[u8]) -> Result<String, Fault> {
+    let Shaped { answer, heads, line } = shaped(input)?;
+    Ok(match answer {
+        Answer::Table | Answer::Line => format!("answer {}\n", answer.number()),
+        _ => format!("answer {}\nheads {}\n{}", answer.number(), heads, print_line(&line)),
+    })
 }
 
 fn print_line(line: &Line) -> String {

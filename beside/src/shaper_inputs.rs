@@ -84,13 +84,17 @@ fn full_rooms(show: &mut dyn FnMut(Vec<u8>)) {
     }
 }
 
+/// An input whose subtable comes again and again, as many times as told, since its length is 0.
+pub fn input_again(subtable: &[u8], times: u32, glyphs: &[u16]) -> Vec<u8> {
+    let mut again = chain(1, &[], &[[&[0; 4], &subtable[4..]].concat()]);
+    again[12..16].copy_from_slice(&times.to_be_bytes());
+    input_of(&morx(&[again]), glyphs)
+}
+
 /// As many heads as are counted, and more: LIMIT.
 fn many_heads(show: &mut dyn FnMut(Vec<u8>)) {
-    let again = [&[0; 4], &subtable(4, &trimmed())[4..]].concat();
-    for count in [MOST_HEADS - 2, MOST_HEADS - 1, MOST_HEADS, u32::MAX] {
-        let mut many = chain(1, &[], &[again.clone()]);
-        many[12..16].copy_from_slice(&count.to_be_bytes());
-        show(input_of(&morx(&[many]), &[5, 6, 20]));
+    for times in [MOST_HEADS - 2, MOST_HEADS - 1, MOST_HEADS, u32::MAX] {
+        show(input_again(&subtable(4, &trimmed()), times, &[5, 6, 20]));
     }
 }
 

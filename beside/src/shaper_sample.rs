@@ -4,19 +4,18 @@
 //! in two bytes, and the result in numbers of two bytes: answer, heads, used length and characters, then the used glyphs, the
 //! used tags and the homes. A refusal has 0 for all but the answer.
 
-use crate::line::{Line, LARGEST_ROOM};
+use crate::line::LARGEST_ROOM;
 use crate::lookup_tables::words;
 use crate::morx_tables::{chain, chosen_subtable, morx, subtable};
-use crate::oracle::{Answer, Fault};
+use crate::oracle::Answer;
 use crate::pass::line_of;
 use crate::passes::{any_glyphs, KINDS};
 use crate::random::Random;
-use crate::run::{Run, MOST_HEADS};
+use crate::run::MOST_HEADS;
 use crate::runs::{any_morx, puts_in, trimmed};
 use crate::sample::Sample;
-
-/// The most bytes that the shaper's table may have.
-const LONGEST_TABLE: usize = 32_768;
+use crate::shaper::{input_of, shaped, Shaped, SHAPER_TABLE};
+use crate::shaper_inputs::input_again;
 
 /// The input of document 01's example.
 const EXAMPLE: &[u8] = include_bytes!("../../crates/shape/stdin");
@@ -25,13 +24,6 @@ const EXAMPLE: &[u8] = include_bytes!("../../crates/shape/stdin");
 const TURNED: u32 = 0x4000_0000;
 
 const RANDOM_TABLES: usize = 60;
-
-/// An answer with its heads and its line, which has neither places nor characters where the input is refused.
-struct Shaped {
-    answer: Answer<()>,
-    heads: u32,
-    line: Line,
-}
 
 /// Adds every input to the sample.
 pub fn add_all(sample: &mut Sample, random: &mut Random) {
@@ -45,26 +37,13 @@ pub fn add_all(sample: &mut Sample, random: &mut Random) {
     random_tables(sample, random);
 }
 
-/// An input of this table and these glyphs.
-fn input_of(table: &[u8], glyphs: &[u16]) -> Vec<u8> {
-    let (length, count) = (table.len() as u32, glyphs.len() as u16);
-    [&length.to_be_bytes(), table, &count.to_be_bytes(), &words(glyphs)].concat()
-}
-
 /// An input whose table has these subtables.
 fn input_with(subtables: &[Vec<u8>], glyphs: &[u16]) -> Vec<u8> {
     input_of(&morx(&[chain(1, &[], subtables)]), glyphs)
 }
 
-/// An input whose subtable comes again and again, as many times as told, since its length is 0.
-fn input_again(subtable: &[u8], times: u32, glyphs: &[u16]) -> Vec<u8> {
-    let mut again = chain(1, &[], &[[&[0; 4], &subtable[4..]].concat()]);
-    again[12..16].copy_from_slice(&times.to_be_bytes());
-    input_of(&morx(&[again]), glyphs)
-}
-
 fn tables_refused(sample: &mut Sample) {
-    for length in [LONGEST_TABLE as u32 + 1, 0xFFFF, 0x1_0000, u32::MAX] {
+    for length in [SHAPER_TABLE as u32 + 1, 0xFFFF, 0x1_0000, u32::MAX] {
         add_refused(sample, &length.to_be_bytes(), Answer::Table);
         add_refused(sample, &[&length.to_be_bytes(), &EXAMPLE[4..]].concat(), Answer::Table);
     }
@@ -77,7 +56,7 @@ fn lines_refused(sample: &mut Sample) {
     }
     add_refused(sample, &[EXAMPLE, &[0]].concat(), Answer::Line);
     add_refused(sample, &[EXAMPLE, &[0, 5]].concat(), Answer::Line);
-    add_refused(sample, &[&(LONGEST_TABLE as u32).to_be_bytes(), &EXAMPLE[4..]].concat(), Answer::Line);
+    add_refused(sample, &[&(SHAPER_TABLE as u32).to_be_bytes(), &EXAMPLE[4..]].concat(), Answer::Line);
     add_refused(sample, &input_of(&[], &[5; LARGEST_ROOM + 1]), Answer::Line);
 }
 
@@ -115,48 +94,6 @@ fn random_tables(sample: &mut Sample, random: &mut Random) {
     }
 }
 
-/// What document 01 says of an input.
-fn shaped(input: &[u8]) -> Result<Shaped, Fault> {
-    let (table, glyphs) = match taken_apart(input) {
-        Ok(parts) => parts,
-        Err(answer) => return Ok(Shaped { answer, heads: 0, line: Line::none() }),
-    };
-    let mut line = line_of(&glyphs, LARGEST_ROOM);
-    let (answer, heads) = Run { table, start: 0, right_to_left: false }.make(&mut line, &mut |_, _| {})?;
-    Ok(Shaped { answer, heads, line })
-}
-
-/// The table and the glyphs of an input, or why it is refused.
-fn taken_apart(input: &[u8]) -> Result<(&[u8], Vec<u16>), Answer<()>> {
-    let (length, behind) = split(input, 4)?;
-    let length = length.iter().fold(0, |number, byte| number << 8 | usize::from(*byte));
-    if length > LONGEST_TABLE {
-        return Err(Answer::Table);
-    }
-    let (table, behind) = split(behind, length)?;
-    let (count, glyphs) = split(behind, 2)?;
-    let glyphs: Vec<u16> = match glyphs.len() % 2 {
-        0 => glyphs.chunks(2).map(word).collect(),
-        _ => return Err(Answer::Line),
-    };
-    if glyphs.len() != usize::from(word(count)) || glyphs.len() > LARGEST_ROOM {
-        return Err(Answer::Line);
-    }
-    Ok((table, glyphs))
-}
-
-/// So many bytes, and those behind them; LINE where there are fewer.
-fn split(bytes: &[u8], count: usize) -> Result<(&[u8], &[u8]), Answer<()>> {
-    if count > bytes.len() {
-        return Err(Answer::Line);
-    }
-    Ok(bytes.split_at(count))
-}
-
-fn word(bytes: &[u8]) -> u16 {
-    u16::from_be_bytes([bytes[0], bytes[1]])
-}
-
 /// The result in numbers.
 fn numbers(shaped: &Shaped) -> Vec<u16> {
     let Shaped { answer, heads, line } = shaped;
@@ -186,7 +123,7 @@ fn add_ending(sample: &mut Sample, input: &[u8], answer: Answer<()>) {
 
 /// The same, for an input that is refused by this answer.
 fn add_refused(sample: &mut Sample, input: &[u8], answer: Answer<()>) {
-    add_written(sample, input, &Shaped { answer, heads: 0, line: Line::none() });
+    add_written(sample, input, &Shaped::refused(answer));
 }
 
 /// The same, for an input whose whole result document 01 gives.
