@@ -7,6 +7,7 @@
 mod compare;
 mod contextual_pass;
 mod entries;
+mod hex;
 mod insertion_pass;
 mod kerning;
 mod kerning_by_copy;

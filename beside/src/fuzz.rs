@@ -9,6 +9,7 @@ mod contextual_pass;
 mod entries;
 mod fuzz_case;
 mod fuzz_seeds;
+mod hex;
 mod insertion_pass;
 mod kerning;
 mod kerning_by_copy;
