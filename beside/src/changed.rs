@@ -26,6 +26,8 @@ mod lent_line;
 mod ligature_pass;
 mod limit;
 mod line;
+mod lists;
+mod lists_by_copy;
 mod lookup;
 mod lookup_tables;
 mod ltag;
@@ -89,6 +91,7 @@ fn ask(part: &str, asked: &mut Limited, random: &mut Random, cases: u64) {
         "classes" => classes::ask_all(asked.part(), random, cases),
         "language" => language::ask_all(asked.part(), random, cases),
         "verbs" => verbs::ask_all(asked.part(), random, cases),
+        "lists" => lists::ask_all(asked.part(), random, cases),
         "runs" => runs::ask_all(asked.part(), random, cases),
         "kern" => ask_kerning(Kerning::Kern, asked, random, cases),
         "kerx" => ask_kerning(Kerning::Kerx, asked, random, cases),
