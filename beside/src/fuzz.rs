@@ -105,15 +105,15 @@ extern "C" fn ask_both(bytes: *const u8, count: usize) -> c_int {
     std::process::abort()
 }
 
-const SEEDS_PER_ENTRY: u64 = 60;
+const SEEDS_PER_ENTRY: usize = 60;
 
 /// Writes what to begin with into a directory.
 fn write_seeds(directory: &str) -> std::io::Result<()> {
     let random = &mut Random::new(1);
-    for number in 0..ENTRIES.len() {
-        for one in 0..SEEDS_PER_ENTRY {
-            std::fs::write(format!("{}/{}-{}", directory, number, one), fuzz_seeds::seed(random, number))?;
-        }
+    let numbers = (0..ENTRIES.len()).flat_map(|number| vec![number; SEEDS_PER_ENTRY]);
+    let seeds = numbers.map(|number| fuzz_seeds::seed(random, number));
+    for (number, seed) in seeds.chain(fuzz_seeds::known()).enumerate() {
+        std::fs::write(format!("{}/{}", directory, number), seed)?;
     }
     Ok(())
 }

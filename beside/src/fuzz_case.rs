@@ -67,7 +67,7 @@ const MOST_CYCLES: u64 = 17;
 const MOST_HEADS: usize = 2_000;
 
 /// The most places of a line.
-const LONGEST: u8 = 24;
+pub const LONGEST: u8 = 40;
 
 /// Bytes that never end: zeros follow the last.
 struct Source<'a>(&'a [u8]);

@@ -1,11 +1,11 @@
 //! Bytes to begin with: calls of every entry on tables that mostly make sense.
 
 use crate::entries::Entry;
-use crate::fuzz_case::{state_of, ENTRIES};
+use crate::fuzz_case::{state_of, ENTRIES, LONGEST};
 use crate::kerning::Kerning;
 use crate::kerning_tables::{any_body, formats, Edition};
 use crate::language_tables::any_ltag;
-use crate::line::DELETED;
+use crate::line::{Line, DELETED};
 use crate::lookup_tables::{words, Made};
 use crate::morx_tables::{chain, morx, subtable};
 use crate::pass::Kind;
@@ -26,23 +26,57 @@ struct About {
 
 /// A call of the entry of this number.
 pub fn seed(random: &mut Random, number: usize) -> Vec<u8> {
-    let entry = ENTRIES[number];
-    let about = about(random, entry);
+    let about = about(random, ENTRIES[number]);
     let used = random.below(9);
-    let [index, ways, turn] = [random.below(used + 1), random.below(4), random.below(4)];
+    let [index, ways, turn] = [random.below(used + 1), random.below(4), random.below(4)].map(|number| number as u8);
     let more = random.among(&[0, 1, 8, 30]);
     let glyphs: Vec<u16> = (0..used + 2).map(|_| any_glyph(random, &about.glyphs)).collect();
-    let mut bytes = vec![number as u8, about.start as u8, about.version as u8, ways as u8, index as u8];
-    bytes.extend(words(&glyphs[..2]));
-    bytes.extend([used as u8, more, turn as u8, used as u8, 0]);
-    bytes.extend(words(&glyphs[2..]));
-    bytes.resize(bytes.len() + state_of(entry), 0);
-    if entry == Entry::LanguageIndex {
-        bytes.push(about.name.len() as u8);
-        bytes.extend(about.name);
+    about.bytes(number, [ways, index, more, turn], &glyphs)
+}
+
+/// Calls whose results follow from the documents, or that bring the machines to their limits, by the passes.
+pub fn known() -> Vec<Vec<u8>> {
+    let mut seeds = Vec::new();
+    for kind in &KINDS {
+        let mut add = |body: &[u8], line: &Line| {
+            if line.is_line() && line.length() <= LONGEST.into() && body.len() < LONGEST_BODY {
+                let more = (line.glyphs.len() - line.length()).min(30) as u8;
+                let about = About::whole(subtable(kind.number, body), 0);
+                let number = ENTRIES.iter().position(|entry| *entry == kind.pass).expect("a pass of the list");
+                let glyphs = [&[0, 0], &line.glyphs[..line.length()]].concat();
+                seeds.push(about.bytes(number, [0, 0, more, 0], &glyphs));
+            }
+        };
+        (kind.examples)().iter().for_each(|example| add(&example.body, &example.before));
+        (kind.limits)(&mut |body, line| add(&body, &line));
     }
-    bytes.extend(about.table);
-    bytes
+    seeds
+}
+
+const LONGEST_BODY: usize = 1_200;
+
+impl About {
+    fn whole(table: Vec<u8>, version: u16) -> Self {
+        About { table, start: 0, version, glyphs: 0..1, name: Vec::new() }
+    }
+
+    /// The call of the entry of this number: the ways, the index, the room behind the line and the turn of its tags, then
+    /// a pair of glyphs and the line.
+    fn bytes(self, number: usize, told: [u8; 4], glyphs: &[u16]) -> Vec<u8> {
+        let [ways, index, more, turn] = told;
+        let used = glyphs.len() as u8 - 2;
+        let mut bytes = vec![number as u8, self.start as u8, self.version as u8, ways, index];
+        bytes.extend(words(&glyphs[..2]));
+        bytes.extend([used, more, turn, used, 0]);
+        bytes.extend(words(&glyphs[2..]));
+        bytes.resize(bytes.len() + state_of(ENTRIES[number]), 0);
+        if ENTRIES[number] == Entry::LanguageIndex {
+            bytes.push(self.name.len() as u8);
+            bytes.extend(self.name);
+        }
+        bytes.extend(self.table);
+        bytes
+    }
 }
 
 fn any_glyph(random: &mut Random, glyphs: &Range<u16>) -> u16 {
