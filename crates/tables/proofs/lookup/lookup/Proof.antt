@@ -1,4 +1,4 @@
--- A walk of its MIR, by hand: the reader that one call returns is held in a local and passed to the within. Of `Bytes::new` and `lookup_in` the proof knows their contracts alone.
+-- A walk of its MIR, by hand: the reader that one call returns is held in a local and passed on. Of `Bytes::new` and `lookup_in` the proof knows their contracts alone.
 -- In a local of a body MIR erases the lifetime of the struct's type, so the value is shown to have the type at `erased`.
 use mathlib.Core.Path.{_≡_, refl, ap, _∙_}
 use Prim.Native.Nat.{ℕ, _<_, _^_}
