@@ -122,6 +122,8 @@ impl Watched<'_> {
             _ => return,
         }
         met.row(36, is_kern && subtable.version != 0 && subtable.coverage & 0x2000 != 0);
+        met.row(43, is_kern && subtable.version == 0 && subtable.coverage & 0xA != 0);
+        met.row(44, is_kern && (subtable.version > 1 || subtable.version == 0 && subtable.format == 1));
     }
 
     fn watch_machine(&self, met: &mut Met, subtable: &Listed, alone: &[u8], glyphs: &[u16]) {
@@ -256,4 +258,4 @@ fn is_class_array_empty(table: &[u8], body: usize) -> Option<bool> {
 }
 
 /// The rows that are looked at in these runs, with those of their lookups and state tables.
-pub const ROWS: [u32; 23] = [1, 2, 3, 4, 5, 6, 7, 8, 9, 15, 25, 26, 27, 28, 29, 30, 31, 32, 33, 34, 35, 36, 37];
+pub const ROWS: [u32; 25] = [1, 2, 3, 4, 5, 6, 7, 8, 9, 15, 25, 26, 27, 28, 29, 30, 31, 32, 33, 34, 35, 36, 37, 43, 44];

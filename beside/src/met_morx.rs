@@ -20,7 +20,7 @@ pub fn watch(met: &mut Met, run: &Run, line: &Line) {
             if visit.is_turned {
                 line.reverse();
             }
-            watch_subtable(met, at + SUBTABLE_HEAD, visit.opened, run.table, line);
+            watch_subtable(met, at + SUBTABLE_HEAD, visit, run.table, line);
         }
     };
     // A fault is shown where the sides are compared.
@@ -50,7 +50,8 @@ fn places(run: &Run) -> Vec<usize> {
     places
 }
 
-fn watch_subtable(met: &mut Met, body: usize, opened: Option<SubtableKind>, table: &[u8], mut line: Line) {
+fn watch_subtable(met: &mut Met, body: usize, visit: Visit, table: &[u8], mut line: Line) {
+    let Visit { opened, is_turned, .. } = visit;
     let number = match opened {
         Some(SubtableKind::Rearrangement(_)) => 0,
         Some(SubtableKind::Contextual(_)) => 1,
@@ -69,7 +70,7 @@ fn watch_subtable(met: &mut Met, body: usize, opened: Option<SubtableKind>, tabl
         None => return,
     };
     let _ = machine.pass(&mut line, &mut |told, state, line| {
-        let mut step = Step { met, body, told, state, line };
+        let mut step = Step { met, body, is_turned, told, state, line };
         match number {
             0 => step.rearrangement(),
             1 => step.contextual(),
@@ -83,6 +84,7 @@ fn watch_subtable(met: &mut Met, body: usize, opened: Option<SubtableKind>, tabl
 struct Step<'a, 'b> {
     met: &'a mut Met<'b>,
     body: usize,
+    is_turned: bool,
     told: Told,
     state: &'a [u64],
     line: &'a Line,
@@ -126,6 +128,9 @@ impl Step<'_, '_> {
         let (mut state, mut mark, mut mark_glyph) = (state as u16, mark as usize, mark_glyph as u16);
         let (is_end, index) = (self.is_end(), self.told.index as usize);
         if is_end && mark_set == 0 {
+            let entry = self.entry(4, state, 0)?;
+            let lookups = [self.word(entry.payload)?, self.word(entry.payload + 2)?];
+            self.met.row(38, lookups != [NONE; 2]);
             return Some(());
         }
         if index == 0 && !is_end {
@@ -188,9 +193,11 @@ impl Step<'_, '_> {
             let entry = self.entry(2, state, class)?;
             state = entry.state;
             if entry.flags & 0x8000 != 0 {
+                self.met.row(39, stack.len() == 32);
                 if stack.len() == 32 {
                     return None;
                 }
+                self.met.row(40, stack.iter().any(|slot| slot.0 == index));
                 stack.push((index, self.told.glyph));
             }
             if entry.flags & 0x2000 != 0 {
@@ -222,11 +229,15 @@ impl Step<'_, '_> {
             let action = long(self.met.table, actions + 4 * number)?;
             number += 1;
             let offset = (action << 2) as i32 >> 2;
-            let component = usize::try_from(i64::from(glyph) + i64::from(offset)).ok()?;
-            sum += usize::from(self.word(components + 2 * component)?);
+            let component = usize::try_from(i64::from(glyph) + i64::from(offset)).ok();
+            let component = component.and_then(|component| self.word(components + 2 * component));
+            self.met.row(39, component.is_none());
+            sum += usize::from(component?);
             let [is_last, stores] = [0x8000_0000, 0x4000_0000].map(|bit| action & bit != 0);
             if is_last || stores {
-                let ligature = self.word(ligatures + 2 * sum)?;
+                let ligature = self.word(ligatures + 2 * sum);
+                self.met.row(39, ligature.is_none());
+                let ligature = ligature?;
                 let others: Vec<usize> = stack[depth + 1..].iter().map(|slot| slot.0).collect();
                 line.ligate(place, ligature, &others);
                 stack[depth].1 = ligature;
@@ -248,7 +259,10 @@ impl Step<'_, '_> {
         let [at_current, at_mark] = [self.word(entry.payload)?, self.word(entry.payload + 2)?];
         let [current, marked] = [entry.flags >> 5 & 0x1F, entry.flags & 0x1F];
         self.met.row(15, entry.stays() && self.state[2] == MOST_CYCLES);
-        self.met.row(23, entry.flags & 0x8000 != 0 && at_mark != NONE && marked > 0);
+        let [inserts, inserts_at_mark] = [at_current != NONE && current > 0, at_mark != NONE && marked > 0];
+        self.met.row(23, entry.flags & 0x8000 != 0 && inserts_at_mark);
+        self.met.row(41, entry.flags & 0x8800 == 0x8800 && inserts);
+        self.met.row(42, self.is_turned && (inserts || inserts_at_mark));
         let lists = self.part(16)?;
         for (index, count) in [(at_mark, marked), (at_current, current)] {
             let is_behind = lists + 2 * usize::from(index) >= self.met.table.len();
@@ -265,4 +279,4 @@ fn write(glyphs: &mut [u16], place: usize, glyph: u16) {
 }
 
 /// The rows that are looked at in a morx run, with those of its lookups and state tables.
-pub const ROWS: [u32; 17] = [1, 2, 3, 4, 5, 6, 14, 15, 16, 17, 18, 19, 20, 21, 22, 23, 24];
+pub const ROWS: [u32; 22] = [1, 2, 3, 4, 5, 6, 14, 15, 16, 17, 18, 19, 20, 21, 22, 23, 24, 38, 39, 40, 41, 42];
