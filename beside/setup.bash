@@ -71,11 +71,6 @@ open_crate() {
     done
 }
 
-# The entries that a C file names.
-entries_of() { # FILE
-    grep -o 'aat_[a-z_]*(' "$1" | sort -u
-}
-
 compile() { # FILE OBJECT WORDS..
     quietly "$tools/toolchain/bin/clang" --target=$target --no-default-config -O2 -Wall -Wextra -Werror "${@:3}" -c "$1" -o "$2"
 }
@@ -83,14 +78,6 @@ compile() { # FILE OBJECT WORDS..
 # Links objects and the archive to a program.
 link() { # PROGRAM OBJECT..
     quietly "$tools/bin/rattle-link" --target $target --toolchain "$tools/toolchain" -o "$@" "$archive"
-}
-
-# Stand-ins, never called, for the entries that the box names and aat.h does not declare yet. One that it declares has to be
-# in the archive.
-build_stand_ins() {
-    comm -23 <(entries_of "$firmware/box.c") <(entries_of "$firmware/aat.h") |
-        sed 's/.*/__attribute__((weak)) void &void) { __builtin_trap(); }/' >"$built/stand_ins.c"
-    compile "$built/stand_ins.c" "$built/stand_ins.o"
 }
 
 find_archive() {
@@ -102,7 +89,6 @@ find_archive() {
 
 # The box as a program.
 build_box() {
-    build_stand_ins
     compile "$firmware/box.c" "$built/box.o"
-    link "$built/box" "$built/box.o" "$built/stand_ins.o"
+    link "$built/box" "$built/box.o"
 }

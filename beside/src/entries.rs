@@ -73,26 +73,10 @@ const NAMES: [&str; 32] = [
     "aat_morx_should_reverse",
 ];
 
-impl Entry {
-    /// Whether aat.h has it. What is not declared there is not asked for; what is must be in the archive.
-    pub fn is_declared(self) -> bool {
-        declares(NAMES[self as usize - 1])
-    }
-}
-
-/// The entries that are asked for once aat.h declares them.
-pub fn not_declared() -> Vec<&'static str> {
-    NAMES.into_iter().filter(|name| !declares(name)).collect()
-}
-
 /// The entries that aat.h declares and nobody asks for.
 pub fn not_asked_for() -> Vec<&'static str> {
     let declared = HEADER.lines().filter_map(|line| line.strip_prefix("uint32_t ")?.split_once('('));
     declared.map(|(name, _)| name).filter(|name| !NAMES.contains(name)).collect()
-}
-
-fn declares(name: &str) -> bool {
-    HEADER.contains(&format!("\nuint32_t {}(", name))
 }
 
 const HEADER: &str = include_str!("../../crates/firmware/aat.h");

@@ -93,7 +93,7 @@ fn reply_of_box(call: Vec<u8>) -> Vec<u8> {
 extern "C" fn ask_both(bytes: *const u8, count: usize) -> c_int {
     let bytes = if count == 0 { &[] } else { unsafe { std::slice::from_raw_parts(bytes, count) } };
     let case = Case::of(bytes);
-    if !case.entry.is_declared() || case.is_long() {
+    if case.is_long() {
         return 0;
     }
     let given = reply_of_box(case.call());

@@ -55,14 +55,12 @@ const ENTRIES: [Entry; 2] = [Entry::KernPair, Entry::KerxPair];
 
 /// Every question about a table's pairs, with so many random ones.
 pub fn ask_all(asked: &mut dyn Ask, kerning: Kerning, random: &mut Random, cases: u64) {
-    if kerning.its(ENTRIES).is_declared() {
-        examples(asked, kerning);
-        cut_subtables(asked, kerning);
-        formats_and_bits(asked, kerning);
-        far_starts(asked, kerning);
-        long_tables(asked, kerning);
-        random_subtables(asked, kerning, random, cases);
-    }
+    examples(asked, kerning);
+    cut_subtables(asked, kerning);
+    formats_and_bits(asked, kerning);
+    far_starts(asked, kerning);
+    long_tables(asked, kerning);
+    random_subtables(asked, kerning, random, cases);
 }
 
 fn ask_pair(asked: &mut dyn Ask, table: &Rc<[u8]>, start: u64, edition: Edition, pair: (u16, u16)) {

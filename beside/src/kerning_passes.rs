@@ -102,20 +102,18 @@ const ENTRIES: [Entry; 2] = [Entry::KernPass, Entry::KerxPass];
 
 /// Every question about a table's passes, with so many random ones.
 pub fn ask_all(asked: &mut dyn Ask, kerning: Kerning, random: &mut Random, cases: u64) {
-    if kerning.its(ENTRIES).is_declared() {
-        examples(asked, kerning);
-        list_runs_on_past_its_end(asked, kerning);
-        eight_and_nine_pushes(asked, kerning);
-        short_bodies(asked, kerning);
-        cut_subtables(asked, kerning, random);
-        formats_and_bits(asked, kerning, random);
-        far_starts(asked, kerning);
-        large_adjustments(asked, kerning);
-        refused_lines(asked, kerning);
-        long_tables(asked, kerning);
-        long_lines(asked, kerning, random);
-        random_subtables(asked, kerning, random, cases);
-    }
+    examples(asked, kerning);
+    list_runs_on_past_its_end(asked, kerning);
+    eight_and_nine_pushes(asked, kerning);
+    short_bodies(asked, kerning);
+    cut_subtables(asked, kerning, random);
+    formats_and_bits(asked, kerning, random);
+    far_starts(asked, kerning);
+    large_adjustments(asked, kerning);
+    refused_lines(asked, kerning);
+    long_tables(asked, kerning);
+    long_lines(asked, kerning, random);
+    random_subtables(asked, kerning, random, cases);
 }
 
 fn ask_pass(asked: &mut dyn Ask, edition: Edition, table: &Rc<[u8]>, start: usize, lent: &Kerned) {

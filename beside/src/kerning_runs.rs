@@ -94,16 +94,14 @@ const ENTRIES: [Entry; 2] = [Entry::KernRun, Entry::KerxRun];
 
 /// Every question about a table's runs, with so many random ones.
 pub fn ask_all(asked: &mut dyn Ask, kerning: Kerning, random: &mut Random, cases: u64) {
-    if kerning.its(ENTRIES).is_declared() {
-        examples(asked, kerning);
-        coverages(asked, kerning, random);
-        cut_tables(asked, kerning, random);
-        far_starts(asked, kerning);
-        refused_lines(asked, kerning);
-        long_tables(asked, kerning);
-        many_heads(asked, kerning);
-        random_tables(asked, kerning, random, cases);
-    }
+    examples(asked, kerning);
+    coverages(asked, kerning, random);
+    cut_tables(asked, kerning, random);
+    far_starts(asked, kerning);
+    refused_lines(asked, kerning);
+    long_tables(asked, kerning);
+    many_heads(asked, kerning);
+    random_tables(asked, kerning, random, cases);
 }
 
 /// A run in either direction, with two numbers for the second.

@@ -123,15 +123,13 @@ const ENTRIES: [Entry; 2] = [Entry::KernStep, Entry::KerxStep];
 
 /// Every question about a table's lone steps, with so many random ones.
 pub fn ask_all(asked: &mut dyn Ask, kerning: Kerning, random: &mut Random, cases: u64) {
-    if kerning.its(ENTRIES).is_declared() {
-        examples(asked, kerning);
-        refusals(asked, kerning);
-        lengths(asked, kerning);
-        slots(asked, kerning);
-        short_bodies(asked, kerning, random);
-        random_states(asked, kerning, random, cases);
-        random_passes(asked, kerning, random, cases / 50);
-    }
+    examples(asked, kerning);
+    refusals(asked, kerning);
+    lengths(asked, kerning);
+    slots(asked, kerning);
+    short_bodies(asked, kerning, random);
+    random_states(asked, kerning, random, cases);
+    random_passes(asked, kerning, random, cases / 50);
 }
 
 fn ask_step(asked: &mut dyn Ask, table: &Rc<[u8]>, step: &Step) {

@@ -200,16 +200,14 @@ fn lent(held: u64, count: usize) -> Vec<u64> {
 
 /// Every question about lists, with so many random ones.
 pub fn ask_all(asked: &mut dyn Ask, random: &mut Random, cases: u64) {
-    if Entry::MorxChains.is_declared() {
-        examples(asked);
-        cut_tables(asked);
-        counts_and_sizes(asked);
-        far_starts(asked);
-        far_cursors(asked);
-        long_tables(asked);
-        coverages(asked, random);
-        random_tables(asked, random, cases);
-    }
+    examples(asked);
+    cut_tables(asked);
+    counts_and_sizes(asked);
+    far_starts(asked);
+    far_cursors(asked);
+    long_tables(asked);
+    coverages(asked, random);
+    random_tables(asked, random, cases);
 }
 
 fn ask_next(asked: &mut dyn Ask, table: &Rc<[u8]>, list: List, cursor: Cursor) {

@@ -115,10 +115,9 @@ fn ask_all(asked: &mut dyn Ask, cases: u64, seed: u64, seconds: u64) -> u64 {
 
 /// Compares the box with the crate; where it `traces`, shows the steps of cases that differ.
 fn compare(traces: bool, cases: u64, seed: u64, seconds: u64, command: &[String]) -> ExitCode {
-    for (why, names) in [("not declared in aat.h", entries::not_declared()), ("unknown", entries::not_asked_for())] {
-        if !names.is_empty() {
-            eprintln!("not compared, as {}: {}", why, names.join(", "));
-        }
+    let unknown = entries::not_asked_for();
+    if !unknown.is_empty() {
+        return failed(format!("aat.h declares what nobody asks for: {}", unknown.join(", ")));
     }
     let mut count = Count::default();
     ask_all(&mut count, cases, seed, 0);

@@ -138,36 +138,32 @@ impl Question for Pass {
 /// Every question about a kind's own pass, with so many random ones.
 pub fn ask_own(asked: &mut dyn Ask, kind: &'static Kind, random: &mut Random, cases: u64) {
     let by = By { entry: kind.pass, kind };
-    if by.entry.is_declared() {
-        examples(asked, by);
-        short_bodies(asked, by);
-        limits(asked, by);
-        cut_subtables(asked, by);
-        coverages(asked, by);
-        far_starts(asked, by);
-        far_offsets(asked, by);
-        refused_lines(asked, by);
-        long_tables(asked, by);
-        long_lines(asked, by, random);
-        random_subtables(asked, by, random, cases);
-    }
+    examples(asked, by);
+    short_bodies(asked, by);
+    limits(asked, by);
+    cut_subtables(asked, by);
+    coverages(asked, by);
+    far_starts(asked, by);
+    far_offsets(asked, by);
+    refused_lines(asked, by);
+    long_tables(asked, by);
+    long_lines(asked, by, random);
+    random_subtables(asked, by, random, cases);
 }
 
 /// Every question about the pass that takes every kind, with so many random ones for each.
 pub fn ask_general(asked: &mut dyn Ask, random: &mut Random, cases: u64) {
     let of_kind = |kind| By { entry: Entry::MorxPass, kind };
-    if Entry::MorxPass.is_declared() {
-        for by in KINDS.iter().map(of_kind) {
-            examples(asked, by);
-            cut_subtables(asked, by);
-            coverages(asked, by);
-            random_subtables(asked, by, random, cases);
-        }
-        many_subtables(asked, random, cases);
-        far_starts(asked, of_kind(&KINDS[0]));
-        refused_lines(asked, of_kind(&KINDS[0]));
-        long_tables(asked, of_kind(&KINDS[0]));
+    for by in KINDS.iter().map(of_kind) {
+        examples(asked, by);
+        cut_subtables(asked, by);
+        coverages(asked, by);
+        random_subtables(asked, by, random, cases);
     }
+    many_subtables(asked, random, cases);
+    far_starts(asked, of_kind(&KINDS[0]));
+    refused_lines(asked, of_kind(&KINDS[0]));
+    long_tables(asked, of_kind(&KINDS[0]));
 }
 
 fn ask_pass(asked: &mut dyn Ask, by: By, table: &Rc<[u8]>, start: usize, line: &Line) {

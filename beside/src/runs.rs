@@ -89,9 +89,6 @@ impl Question for MorxRun {
 
 /// Every question about runs, with so many random ones.
 pub fn ask_all(asked: &mut dyn Ask, random: &mut Random, cases: u64) {
-    if !Entry::MorxRun.is_declared() {
-        return;
-    }
     examples(asked);
     one_subtable(asked);
     cut_tables(asked);

@@ -145,16 +145,14 @@ impl Question for Step {
 
 /// Every question about a machine's lone step, with so many random ones.
 pub fn ask_all(asked: &mut dyn Ask, machine: &'static Machine, random: &mut Random, cases: u64) {
-    if machine.step.is_declared() {
-        examples(asked, machine);
-        refusals(asked, machine);
-        lengths(asked, machine);
-        slots(asked, machine);
-        short_bodies(asked, machine, random);
-        limits(asked, machine);
-        random_states(asked, machine, random, cases);
-        random_passes(asked, machine, random, cases / 50);
-    }
+    examples(asked, machine);
+    refusals(asked, machine);
+    lengths(asked, machine);
+    slots(asked, machine);
+    short_bodies(asked, machine, random);
+    limits(asked, machine);
+    random_states(asked, machine, random, cases);
+    random_passes(asked, machine, random, cases / 50);
 }
 
 fn ask_step(asked: &mut dyn Ask, machine: &'static Machine, table: &Rc<[u8]>, state: &[u64], line: &Line, told: Told) {
