@@ -2,10 +2,11 @@
 ghost use mathlib.Core.Path.{_≡_};
 ghost use Prim.Native.Nat.{_<_, _≤_};
 ghost use lib.ListN.{length};
+ghost use Rattle.laws.specs.Lists.{both};
 ghost use Rattle.answers.specs.Limits.{room};
 ghost use Rattle.line.specs.Line.{lineOf};
 ghost use Rattle.line.specs.Seen.{hasSeen, withTag};
-ghost use Rattle.line.specs.Test.{isOnceEach, areHoused, isLegal, isValid};
+ghost use Rattle.line.specs.Test.{isOnceEach, areInOrder, areHoused, isLegal, isValid};
 use answers::ROOM;
 
 // Words of 64 bits that have a bit for each tag.
@@ -49,18 +50,41 @@ fn once_each(tags: &[u16], used: usize) -> bool
     true
 }
 
+// Both tests hold. The loops below look at every number, so that several are compared at once.
+fn both(one: bool, other: bool) -> bool
+    ensures { λ r. ⌜ r ≡ both one other ⌝ }
+{
+    if one {
+        return other;
+    }
+    false
+}
+
+// Whether the used tags count up from 0.
+fn in_order(tags: &[u16], used: usize) -> bool
+    requires { ⌜ used ≤ length (now tags) ⌝ }
+    ensures { λ r. ⌜ r ≡ areInOrder (now (tags .entry)) used ⌝ }
+{
+    let mut all = true;
+    let mut p = 0;
+    while p < used {
+        all = both(tags[p] as usize == p, all);
+        p += 1;
+    }
+    all
+}
+
 // Whether every home is below the used length.
 fn housed(homes: &[u16], used: usize) -> bool
     ensures { λ r. ⌜ r ≡ areHoused (now (homes .entry)) used ⌝ }
 {
+    let mut all = true;
     let mut c = 0;
     while c < homes.len() {
-        if used <= homes[c] as usize {
-            return false;
-        }
+        all = both((homes[c] as usize) < used, all);
         c += 1;
     }
-    true
+    all
 }
 
 // Whether tags and homes are those of a line of `used` places.
@@ -73,6 +97,9 @@ pub fn legal(tags: &[u16], homes: &[u16], used: usize) -> bool
     }
     if !housed(homes, used) {
         return false;
+    }
+    if in_order(tags, used) {
+        return true;
     }
     once_each(tags, used)
 }

@@ -1,39 +1,36 @@
 use Prim.Native.Nat.{_≤_, _-_}
 use mathlib.Core.Path.{_≡_, sym}
-use mathlib.Core.Bool.{true}
-use native.Mathlib.Numerals.{add-one}
 use native.Mathlib.Omega.{arith}
 use lib.Dec.{ltb}
 use lib.ListN.{length, getD}
 use borrow.Author.Needs.{needs}
-use borrow.Author.Tests.{lt-ltb, le-ltb}
 use Rattle.laws.specs.Lists.{every}
-use Rattle.laws.proofs.Lists.{every-none, every-more, every-fails}
+use Rattle.laws.proofs.Lists.{every-none}
 use Rattle.line.specs.Test.{areHoused}
+use Rattle.line.proofs.Tests.{every-next}
 use Rattle.line.proofs.valid.housed.Statement.{statement}
 use Rattle.line.proofs.valid.housed.Tie as tie
 
 abbrev Inv-loop : tie.InvT-loop
-Inv-loop homes used c₀ c = (c ≤ length homes) × (every (λ i. ltb (getD homes i 0) used) c ≡ true)
+Inv-loop homes used all₀ c₀ all c = (c ≤ length homes) × (all ≡ every (λ i. ltb (getD homes i 0) used) c)
 
 abbrev μ-loop : tie.MeasureT-loop
-μ-loop homes used c₀ c = length homes - c
+μ-loop homes used all₀ c₀ all c = length homes - c
 
 loop-holds : tie.Need-loop-holds Inv-loop μ-loop
-loop-holds c = (omega arith, every-none _)
+loop-holds c = (omega arith, sym (every-none _))
 
-mul-if1 : tie.Need-mul-if1 Inv-loop μ-loop
-mul-if1 c = search needs
+mul-both : tie.Need-mul-both Inv-loop μ-loop
+mul-both c = search needs
 
-shared-slice-read-if1 : tie.Need-shared-slice-read-if1 Inv-loop μ-loop
-shared-slice-read-if1 c = search needs
+shared-slice-read-both : tie.Need-shared-slice-read-both Inv-loop μ-loop
+shared-slice-read-both c = omega arith
 
-cast-if1 : tie.Need-cast-if1 Inv-loop μ-loop
-cast-if1 c = omega (arith, c .shared-slice-known .given (c .before .before .loop .c))
+cast-both : tie.Need-cast-both Inv-loop μ-loop
+cast-both c = omega (arith, c .shared-slice-known2 .given (c .before .before .loop .c))
 
-returns : tie.Need-returns Inv-loop μ-loop
-unfolding areHoused
-returns c = sym (every-fails _ _ (c .before .before .before .loop .c) (le-ltb _ _ (c .if1 .taken)) (c .before .before .loop-test .taken))
+both-requires : tie.Need-both-requires Inv-loop μ-loop
+both-requires c κs = search needs
 
 add-c : tie.Need-add-c Inv-loop μ-loop
 add-c c = omega arith
@@ -42,13 +39,11 @@ loop-less : tie.Need-loop-less Inv-loop μ-loop
 loop-less c = omega arith
 
 loop-again : tie.Need-loop-again Inv-loop μ-loop
-loop-again c = (omega arith, rw (add-one (c .before .before .before .loop .c)) (every-more _ _ (c .before .before .before .loop .inv .1) (lt-ltb _ _ (c .if1 .left))))
+loop-again c = (omega arith, every-next (λ i. ltb (getD (c .before .before .before .before .before .args .homes .now) i 0) (c .before .before .before .before .before .args .used)) (c .before .before .before .loop .c) (c .before .before .before .loop .inv .1) (c .both .ensures))
 
-returns-2 : tie.Need-returns-2 Inv-loop μ-loop
+returns : tie.Need-returns Inv-loop μ-loop
 unfolding areHoused
-returns-2 c =
-    let done : c .before .loop .c ≡ length (c .before .before .args .homes .now) = omega arith in
-    sym (rw done at (c .before .loop .inv .1))
+returns c = let done : c .before .loop .c ≡ length (c .before .before .before .args .homes .now) = omega arith in rw done at (c .before .loop .inv .1)
 
 pub housed-spec : {M : Type 1} → statement M
 housed-spec =
@@ -57,11 +52,11 @@ housed-spec =
     Inv-loop
     μ-loop
     loop-holds
-    mul-if1
-    shared-slice-read-if1
-    cast-if1
-    returns
+    mul-both
+    shared-slice-read-both
+    cast-both
+    both-requires
     add-c
     loop-less
     loop-again
-    returns-2)
+    returns)
