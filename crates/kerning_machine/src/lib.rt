@@ -10,13 +10,15 @@ use state_tables::entries::Entered;
 use state_tables::entries::Entry;
 ghost use mathlib.Core.Path.{_≡_};
 ghost use mathlib.Core.Bool.{false, cond};
-ghost use Prim.Native.Nat.{_+_, _<_, _≤_, _^_};
+ghost use mathlib.Core.List.{List};
+ghost use Prim.Native.Nat.{ℕ, _+_, _<_, _≤_, _^_};
 ghost use lib.ListN.{length};
 ghost use Rattle.answers.specs.Limits.{room};
 ghost use Rattle.answers.specs.Refuse.{refuse};
+ghost use Rattle.answers.specs.declared.Answer.the-variants.{Ended};
 ghost use Rattle.line.specs.Line.{lineOf};
 ghost use Rattle.kerning.specs.Additions.{addAll, Within};
-ghost use Rattle.kerning_machine.specs.Machine.{fresh, payloadOf, ruleOf, sizeOf, strideOf, kernStart, kerxStart, ordersOf, isFull, popped, stacked, stopped, entered, settled, followed, acted, next, passed, isRoomy, isShort, areWithin, stepTests, stepCall, worked, passCall};
+ghost use Rattle.kerning_machine.specs.Machine.{fresh, payloadOf, ruleOf, sizeOf, strideOf, kernStart, kerxStart, ordersOf, standing, stepOf, isFull, stacked, stopped, settled, followed, acted, next, passed, isRoomy, isShort, areWithin, stepTests, stepCall, worked, passCall};
 
 // How a machine reads its entries: kern's flags hold where the list begins, and its subtable may go across the stream; kerx's entries hold
 // an index, which counts from the value table in tuples.
@@ -67,6 +69,15 @@ pub struct KerningStep {
     pub answer: Answer,
     pub state: KerningState,
     pub advance: usize,
+}
+
+// What a step on a lent stack came to: its answer, the new state but for the slots, and the advance.
+struct Moved {
+    answer: Answer,
+    state: u16,
+    depth: usize,
+    cycles: u16,
+    advance: usize,
 }
 
 // How many bytes of payload an entry has.
@@ -167,14 +178,14 @@ fn follow(
     bytes: &[u8],
     reading: Reading,
     start: Start,
-    stack: [usize; 8],
+    stack: &[usize; 8],
     depth: usize,
     used: usize,
     along: &mut [i64],
 ) -> Walked
     requires { ⌜ (depth ≤ 8) × (used ≤ length (now along)) × Within (2 ^ 61) (now along) ⌝ }
-    ensures left { λ r. ⌜ r ≡ followed (now (bytes .entry)) reading start stack depth used .left ⌝ }
-    ensures along { λ _. ⌜ now (along .exit) ≡ addAll (followed (now (bytes .entry)) reading start stack depth used .additions) (now (along .entry)) ⌝ }
+    ensures left { λ r. ⌜ r ≡ followed (now (bytes .entry)) reading start (now (stack .entry)) depth used .left ⌝ }
+    ensures along { λ _. ⌜ now (along .exit) ≡ addAll (followed (now (bytes .entry)) reading start (now (stack .entry)) depth used .additions) (now (along .entry)) ⌝ }
 {
     match start {
         Start::None => {
@@ -192,7 +203,7 @@ fn follow(
                 rule_of(reading),
                 stride_of(reading),
                 place,
-                stack,
+                *stack,
                 depth,
                 used,
                 along,
@@ -201,11 +212,133 @@ fn follow(
     }
 }
 
-// The depth of the stack, or none after a reset.
+// The depth of the stack, or none where it is emptied.
 fn kept(resets: bool, depth: usize) -> usize
     ensures { λ r. ⌜ r ≡ cond resets 0 depth ⌝ }
 {
     if resets { 0 } else { depth }
+}
+
+// Whether a push finds no room on the stack.
+fn is_full(pushes: bool, depth: usize) -> bool
+    ensures { λ r. ⌜ r ≡ isFull pushes depth ⌝ }
+{
+    if !pushes {
+        return false;
+    }
+    depth == KerningState::DEPTH
+}
+
+// Pushes the index, or empties the stack, or does neither. Returns the depth afterwards.
+fn push(stack: &mut [usize; 8], depth: usize, pushes: bool, clears: bool, index: usize) -> usize
+    requires { ⌜ (depth ≤ 8) × (isFull pushes depth ≡ false) ⌝ }
+    ensures { λ r. ⌜ ((state cycles : ℕ) → standing state (now (stack .exit)) r cycles ≡ stacked (standing state (now (stack .entry)) depth cycles) pushes clears index) ⌝ }
+{
+    let left = kept(clears, depth);
+    if !pushes {
+        return left;
+    }
+    stack[depth] = index;
+    depth + 1
+}
+
+// A step that ends here.
+fn ended(state: u16, depth: usize, cycles: u16) -> Moved
+    ensures { λ r. ⌜ ((stack : List ℕ) → stepOf r stack ≡ stopped (standing state stack depth cycles) Ended) ⌝ }
+{
+    Moved {
+        answer: Answer::Ended,
+        state,
+        depth,
+        cycles,
+        advance: 0,
+    }
+}
+
+// Behind the list: the reset, then the stall rule.
+fn settle(state: u16, depth: usize, cycles: u16, resets: bool, stays: bool) -> Moved
+    ensures { λ r. ⌜ ((stack : List ℕ) → stepOf r stack ≡ settled (standing state stack depth cycles) resets stays) ⌝ }
+{
+    let stalled = machine::stall(cycles, stays);
+    Moved {
+        answer: Answer::Done,
+        state,
+        depth: kept(resets, depth),
+        cycles: stalled.cycles,
+        advance: stalled.advance,
+    }
+}
+
+// What an entry does, on a lent stack.
+fn act(
+    bytes: &[u8],
+    reading: Reading,
+    orders: Orders,
+    stack: &mut [usize; 8],
+    depth: usize,
+    cycles: u16,
+    used: usize,
+    index: usize,
+    along: &mut [i64],
+) -> Moved
+    requires { ⌜ (depth ≤ 8) × (used ≤ length (now along)) × Within (2 ^ 61) (now along) ⌝ }
+    ensures step { λ r. ⌜ stepOf r (now (stack .exit)) ≡ acted (now (bytes .entry)) reading (standing (orders .state) (now (stack .entry)) depth cycles) orders used index .step ⌝ }
+    ensures along { λ _. ⌜ now (along .exit) ≡ addAll (acted (now (bytes .entry)) reading (standing (orders .state) (now (stack .entry)) depth cycles) orders used index .additions) (now (along .entry)) ⌝ }
+{
+    let state = orders.state;
+    if is_full(orders.pushes, depth) {
+        return ended(state, depth, cycles);
+    }
+    let deep = push(stack, depth, orders.pushes, orders.clears, index);
+    let start = orders.start;
+    let walked = follow(bytes, reading, start, stack, deep, used, along);
+    if walked.ended {
+        return ended(state, walked.depth, cycles);
+    }
+    settle(state, walked.depth, cycles, orders.resets, orders.stays)
+}
+
+// The crate's `next`, over the bytes from the state table on, with the stack in a lent array.
+fn next(
+    bytes: &[u8],
+    kerning: Kerning,
+    state: u16,
+    stack: &mut [usize; 8],
+    depth: usize,
+    cycles: u16,
+    used: usize,
+    index: usize,
+    glyph: u16,
+    along: &mut [i64],
+) -> Moved
+    requires { ⌜ (depth ≤ 8) × (used ≤ length (now along)) × Within (2 ^ 61) (now along) ⌝ }
+    ensures step { λ r. ⌜ stepOf r (now (stack .exit)) ≡ next (now (bytes .entry)) kerning (standing state (now (stack .entry)) depth cycles) used index glyph .step ⌝ }
+    ensures along { λ _. ⌜ now (along .exit) ≡ addAll (next (now (bytes .entry)) kerning (standing state (now (stack .entry)) depth cycles) used index glyph .additions) (now (along .entry)) ⌝ }
+{
+    let states = kerning.states;
+    let reading = kerning.reading;
+    let class = state_tables::classes::class_of(bytes, states, glyph);
+    let Entered::At(entry) = state_tables::entries::entry_of(
+        bytes,
+        states,
+        state,
+        class,
+        payload_of(reading),
+    ) else {
+        return ended(state, depth, cycles);
+    };
+    let orders = orders_of(bytes, reading, entry);
+    act(
+        bytes,
+        reading,
+        orders,
+        stack,
+        depth,
+        cycles,
+        used,
+        index,
+        along,
+    )
 }
 
 // Whether there is no machine.
@@ -276,41 +409,6 @@ impl KerningState {
         }
     }
 
-    // The state with another depth of its stack.
-    fn popped(self, depth: usize) -> KerningState
-        ensures { λ r. ⌜ r ≡ popped self depth ⌝ }
-    {
-        let stack = self.stack;
-        KerningState {
-            state: self.state,
-            stack,
-            depth,
-            cycles: self.cycles,
-        }
-    }
-
-    // The state with the index pushed, or with an empty stack, or as it is.
-    fn stacked(self, pushes: bool, clears: bool, index: usize) -> KerningState
-        requires { ⌜ (self .depth ≤ 8) × (isFull pushes (self .depth) ≡ false) ⌝ }
-        ensures { λ r. ⌜ r ≡ stacked self pushes clears index ⌝ }
-    {
-        let mut stack = self.stack;
-        let depth = self.depth;
-        if pushes {
-            stack[depth] = index;
-            return KerningState {
-                state: self.state,
-                stack,
-                depth: depth + 1,
-                cycles: self.cycles,
-            };
-        }
-        if clears {
-            return self.popped(0);
-        }
-        self
-    }
-
     // A step that ends here.
     fn stopped(self, answer: Answer) -> KerningStep
         ensures { λ r. ⌜ r ≡ stopped self answer ⌝ }
@@ -320,106 +418,6 @@ impl KerningState {
             state: self,
             advance: 0,
         }
-    }
-
-    // The state that an entry leads to.
-    fn entered(self, orders: Orders) -> KerningState
-        ensures { λ r. ⌜ r ≡ entered self orders ⌝ }
-    {
-        let stack = self.stack;
-        KerningState {
-            state: orders.state,
-            stack,
-            depth: self.depth,
-            cycles: self.cycles,
-        }
-    }
-
-    // Whether a push finds no room on the stack.
-    fn is_full(self, pushes: bool) -> bool
-        ensures { λ r. ⌜ r ≡ isFull pushes (self .depth) ⌝ }
-    {
-        if !pushes {
-            return false;
-        }
-        self.depth == KerningState::DEPTH
-    }
-
-    // Behind the list: the reset, then the stall rule.
-    fn settled(self, resets: bool, stays: bool) -> KerningStep
-        ensures { λ r. ⌜ r ≡ settled self resets stays ⌝ }
-    {
-        let stack = self.stack;
-        let stalled = machine::stall(self.cycles, stays);
-        KerningStep {
-            answer: Answer::Done,
-            state: KerningState {
-                state: self.state,
-                stack,
-                depth: kept(resets, self.depth),
-                cycles: stalled.cycles,
-            },
-            advance: stalled.advance,
-        }
-    }
-
-    // What an entry does.
-    fn act(
-        self,
-        bytes: &[u8],
-        reading: Reading,
-        orders: Orders,
-        used: usize,
-        index: usize,
-        along: &mut [i64],
-    ) -> KerningStep
-        requires { ⌜ (self .depth ≤ 8) × (used ≤ length (now along)) × Within (2 ^ 61) (now along) ⌝ }
-        ensures step { λ r. ⌜ r ≡ acted (now (bytes .entry)) reading self orders used index .step ⌝ }
-        ensures along { λ _. ⌜ now (along .exit) ≡ addAll (acted (now (bytes .entry)) reading self orders used index .additions) (now (along .entry)) ⌝ }
-    {
-        let led = self.entered(orders);
-        if self.is_full(orders.pushes) {
-            return led.stopped(Answer::Ended);
-        }
-        let on = led.stacked(orders.pushes, orders.clears, index);
-        let start = orders.start;
-        let stack = on.stack;
-        let walked = follow(bytes, reading, start, stack, on.depth, used, along);
-        let left = on.popped(walked.depth);
-        if walked.ended {
-            return left.stopped(Answer::Ended);
-        }
-        left.settled(orders.resets, orders.stays)
-    }
-
-    // The crate's `next`, over the bytes from the state table on.
-    pub fn next(
-        self,
-        bytes: &[u8],
-        kerning: Kerning,
-        used: usize,
-        index: usize,
-        glyph: u16,
-        along: &mut [i64],
-    ) -> KerningStep
-        requires { ⌜ (self .depth ≤ 8) × (used ≤ length (now along)) × Within (2 ^ 61) (now along) ⌝ }
-        ensures step { λ r. ⌜ r ≡ next (now (bytes .entry)) kerning self used index glyph .step ⌝ }
-        ensures along { λ _. ⌜ now (along .exit) ≡ addAll (next (now (bytes .entry)) kerning self used index glyph .additions) (now (along .entry)) ⌝ }
-    {
-        let states = kerning.states;
-        let reading = kerning.reading;
-        let class = state_tables::classes::class_of(bytes, states, glyph);
-        let Entered::At(entry) = state_tables::entries::entry_of(
-            bytes,
-            states,
-            self.state,
-            class,
-            payload_of(reading),
-        ) else {
-            return self.stopped(Answer::Ended);
-        };
-        let orders = orders_of(bytes, reading, entry);
-        self.act(bytes, reading, orders, used, index, along)
     }
 
     // The tests before a lone step: TABLE, LINE, PLACE, STATE, HEAD.
@@ -480,7 +478,30 @@ impl KerningState {
         let Opened::Ready(kerning) = opened else {
             return self.stopped(Answer::Refused(Refusal::Head));
         };
-        self.next(bytes, kerning, used, index, glyph, along)
+        let mut stack = self.stack;
+        let moved = next(
+            bytes,
+            kerning,
+            self.state,
+            &mut stack,
+            self.depth,
+            self.cycles,
+            used,
+            index,
+            glyph,
+            along,
+        );
+        let answer = moved.answer;
+        KerningStep {
+            answer,
+            state: KerningState {
+                state: moved.state,
+                stack,
+                depth: moved.depth,
+                cycles: moved.cycles,
+            },
+            advance: moved.advance,
+        }
     }
 }
 
@@ -496,16 +517,34 @@ fn pass_line(
     ensures answer { λ r. ⌜ r ≡ passed (now (bytes .entry)) kerning (now (glyphs .entry)) used .answer ⌝ }
     ensures along { λ _. ⌜ now (along .exit) ≡ addAll (passed (now (bytes .entry)) kerning (now (glyphs .entry)) used .additions) (now (along .entry)) ⌝ }
 {
-    let mut state = KerningState::new();
+    let fresh = KerningState::new();
+    let mut stack = fresh.stack;
+    let mut state = fresh.state;
+    let mut depth = fresh.depth;
+    let mut cycles = fresh.cycles;
     let mut place = 0;
     while place < used {
-        let step = state.next(bytes, kerning, used, place, glyphs[place], along);
-        let answer = step.answer;
+        let glyph = glyphs[place];
+        let moved = next(
+            bytes,
+            kerning,
+            state,
+            &mut stack,
+            depth,
+            cycles,
+            used,
+            place,
+            glyph,
+            along,
+        );
+        let answer = moved.answer;
         if !machine::is_done(answer) {
             return answer;
         }
-        state = step.state;
-        place += step.advance;
+        state = moved.state;
+        depth = moved.depth;
+        cycles = moved.cycles;
+        place += moved.advance;
     }
     Answer::Done
 }

@@ -36,7 +36,7 @@ same-length c = search needs
 
 returns-3 : tie.Need-returns-3
 unfolding followed
-returns-3 c = rw (c .before .before .before .before .before .before .start .given .1, ← (c .before .before .before .before .rule-of .ensures), ← (c .before .before .before .stride-of .ensures .0)) (c .before .walk .ensures .0, c .before .walk .ensures .1)
+returns-3 c = rw (c .before .before .before .before .before .before .before .start .given .1, ← (c .before .before .before .before .before .rule-of .ensures), ← (c .before .before .before .before .stride-of .ensures .0)) (c .before .walk .ensures .0, c .before .walk .ensures .1)
 
 pub follow-spec : {M : Type 1} → statement M
 follow-spec =

@@ -41,13 +41,13 @@ returns-2 : tie.Need-returns-2
 returns-2 c = let e = step-headless _ _ _ _ _ _ _ _ (c .before .before .before .before .before .before .before .is-short .ensures) (c .before .before .before .before .before .refuse .ensures) (c .before .before .before .enum-told .given .1) (c .before .enum-told2 .given .1) (c .stopped2 .ensures) in (e .steps, e .leaves)
 
 next-requires : tie.Need-next-requires
-next-requires c κs = step-ready _ _ _ _ _ _ (sym (c .before .before .before .before .before .before .refuse .ensures) ∙ c .before .before .before .before .enum-told .given .1)
+next-requires c κs = step-ready _ _ _ _ _ _ (sym (c .before .before .before .before .before .before .before .before .refuse .ensures) ∙ c .before .before .before .before .before .before .enum-told .given .1)
 
 same-length-3 : tie.Need-same-length-3
 same-length-3 c = search needs
 
 returns-3 : tie.Need-returns-3
-returns-3 c = let e = step-works _ _ _ _ _ _ _ _ (c .before .before .before .before .before .before .before .before .before .before .is-short .ensures) (c .before .before .before .before .before .before .before .before .refuse .ensures) (c .before .before .before .before .before .before .enum-told .given .1) (c .before .before .before .before .opened .given .1) (c .before .next .ensures .0) (c .before .next .ensures .1) in (e .steps, e .leaves)
+returns-3 c = let e = step-works _ _ _ _ _ _ _ _ (c .before .before .before .before .before .before .before .before .before .before .before .before .is-short .ensures) (c .before .before .before .before .before .before .before .before .before .before .refuse .ensures) (c .before .before .before .before .before .before .before .before .enum-told .given .1) (c .before .before .before .before .before .before .opened .given .1) (c .before .next .ensures .0) (c .before .next .ensures .1) in (e .steps, e .leaves)
 
 pub step-spec : {M : Type 1} → statement M
 step-spec =

@@ -1,9 +1,10 @@
 use Rattle.kerning_machine.proofs.Acting.{next-ended, next-acts}
+use Rattle.kerning_machine.specs.Machine.{standing}
 use native.Mathlib.Omega.{arith}
 use Rattle.state_tables.proofs.Laws.{entry-payload}
 use borrow.Author.Needs.{needs}
-use Rattle.kerning_machine.proofs.KerningState.next.Statement.{statement}
-use Rattle.kerning_machine.proofs.KerningState.next.Tie as tie
+use Rattle.kerning_machine.proofs.next.Statement.{statement}
+use Rattle.kerning_machine.proofs.next.Tie as tie
 
 class-of-requires : tie.Need-class-of-requires
 class-of-requires c κs = search needs
@@ -20,11 +21,11 @@ enum-known-entry c = search needs
 enum-told : tie.Need-enum-told
 enum-told c = search needs
 
-stopped-requires : tie.Need-stopped-requires
-stopped-requires c κs = search needs
+ended-requires : tie.Need-ended-requires
+ended-requires c κs = search needs
 
 returns : tie.Need-returns
-returns c = let e = next-ended _ _ _ _ _ _ _ (c .before .before .before .before .before .class-of .ensures) (c .before .before .before .before .payload-of .ensures) (c .before .before .before .entry-of .ensures) (c .before .enum-told .given .1) (c .stopped .ensures) in (e .steps, e .leaves)
+returns c = let e = next-ended _ _ (standing _ _ _ _) _ _ _ _ (c .before .before .before .before .before .class-of .ensures) (c .before .before .before .before .payload-of .ensures) (c .before .before .before .entry-of .ensures) (c .before .enum-told .given .1) (c .ended .ensures _) in (e .steps, e .leaves)
 
 orders-of-requires : tie.Need-orders-of-requires
 orders-of-requires c κs = omega (arith, entry-payload _ _ _ _ _ (c .before .before .before .entry-of .ensures) (c .before .entry .given .1), c .before .before .before .before .payload-of .ensures)
@@ -36,7 +37,7 @@ same-length : tie.Need-same-length
 same-length c = search needs
 
 returns-2 : tie.Need-returns-2
-returns-2 c = let e = next-acts _ _ _ _ _ _ _ (c .before .before .before .before .before .before .before .before .before .class-of .ensures) (c .before .before .before .before .before .before .before .before .payload-of .ensures) (c .before .before .before .before .before .before .before .entry-of .ensures) (c .before .before .before .before .before .entry .given .1) (c .before .before .before .orders-of .ensures) (c .before .act .ensures .0) (c .before .act .ensures .1) in (e .steps, e .leaves)
+returns-2 c = let e = next-acts _ _ (standing _ _ _ _) _ _ _ _ (c .before .before .before .before .before .before .before .before .before .before .class-of .ensures) (c .before .before .before .before .before .before .before .before .before .payload-of .ensures) (c .before .before .before .before .before .before .before .before .entry-of .ensures) (c .before .before .before .before .before .before .entry .given .1) (c .before .before .before .before .orders-of .ensures) (c .before .act .ensures .0) (c .before .act .ensures .1) in (e .steps, e .leaves)
 
 pub next-spec : {M : Type 1} → statement M
 next-spec =
@@ -47,7 +48,7 @@ next-spec =
     entry-of-requires
     enum-known-entry
     enum-told
-    stopped-requires
+    ended-requires
     returns
     orders-of-requires
     act-requires
