@@ -62,13 +62,13 @@ fn both(one: bool, other: bool) -> bool
 
 // Whether the used tags count up from 0.
 fn in_order(tags: &[u16], used: usize) -> bool
-    requires { ⌜ used ≤ length (now tags) ⌝ }
+    requires { ⌜ (used ≤ length (now tags)) × (used ≤ room) ⌝ }
     ensures { λ r. ⌜ r ≡ areInOrder (now (tags .entry)) used ⌝ }
 {
     let mut all = true;
     let mut p = 0;
     while p < used {
-        all = both(tags[p] as usize == p, all);
+        all = both(tags[p] == p as u16, all);
         p += 1;
     }
     all

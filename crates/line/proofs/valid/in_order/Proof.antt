@@ -5,6 +5,7 @@ use native.Mathlib.Omega.{arith}
 use lib.Dec.{eqb}
 use lib.ListN.{getD}
 use borrow.Author.Needs.{needs}
+use Rattle.line.proofs.Room.{room-small}
 use Rattle.laws.specs.Lists.{every}
 use Rattle.laws.proofs.Lists.{every-none}
 use Rattle.line.specs.Test.{areInOrder}
@@ -28,7 +29,7 @@ shared-slice-read-both : tie.Need-shared-slice-read-both Inv-loop μ-loop
 shared-slice-read-both c = omega arith
 
 cast-both : tie.Need-cast-both Inv-loop μ-loop
-cast-both c = omega (arith, c .shared-slice-known2 .given (c .before .before .loop .p))
+cast-both c = omega (arith, room-small, c .before .before .loop .inv .0, c .before .before .before .before .pre .1)
 
 both-requires : tie.Need-both-requires Inv-loop μ-loop
 both-requires c κs = search needs
