@@ -213,10 +213,10 @@ fn follow(
 }
 
 // The depth of the stack, or none where it is emptied.
-fn kept(resets: bool, depth: usize) -> usize
-    ensures { λ r. ⌜ r ≡ cond resets 0 depth ⌝ }
+fn kept(emptied: bool, depth: usize) -> usize
+    ensures { λ r. ⌜ r ≡ cond emptied 0 depth ⌝ }
 {
-    if resets { 0 } else { depth }
+    if emptied { 0 } else { depth }
 }
 
 // Whether a push finds no room on the stack.
