@@ -11,6 +11,7 @@ use crate::oracle::aat::{kern, kerx, morx::chains};
 use crate::oracle::{self, caught, Answer, Fault};
 use crate::passes_by_crate::{caught_pass, number};
 use crate::pipe::{lend_bytes, lend_table};
+use crate::reply::add;
 use crate::run;
 use crate::step::{Lent, Machine, Sees, Told, MACHINES};
 use crate::steps_by_copy;
@@ -185,18 +186,7 @@ impl Case {
     }
 
     fn add_step(&self, machine: &Machine, call: &mut Vec<u8>) {
-        let lent = self.lent_to(machine);
-        add(&lent.state, call);
-        match machine.sees {
-            Sees::Line => lent.line.lend(call),
-            Sees::Length => add(&[lent.line.used], call),
-            Sees::LengthAndRoom => add(&[lent.line.used, lent.room], call),
-        }
-        add(&[self.start, self.told.index], call);
-        call.extend(self.told.glyph.to_le_bytes());
-        call.extend(self.told.ends.to_le_bytes());
-        add(&[HELD], call);
-        add(&lent.edits, call);
+        self.lent_to(machine).lend(machine, self.start, self.told, HELD, call);
     }
 
     fn lent_to(&self, machine: &Machine) -> Lent {
@@ -488,8 +478,4 @@ fn advance_of(answer: Answer<usize>) -> u64 {
         Answer::Full | Answer::Ended => 0,
         _ => HELD,
     }
-}
-
-fn add(numbers: &[u64], bytes: &mut Vec<u8>) {
-    bytes.extend(numbers.iter().flat_map(|number| number.to_le_bytes()));
 }

@@ -2,7 +2,7 @@
 
 use crate::hex::bytes;
 use crate::kerning::{Kerning, ALONE_AT};
-use crate::kerning_tables::{Edition, Entry, NONE, PUSH, RESET, STAY};
+use crate::kerning_tables::{Edition, Entry, Parts, NONE, PUSH, RESET, STAY};
 use crate::lookup_tables::words;
 use crate::oracle::Answer::{self, Done, Ended};
 
@@ -189,7 +189,14 @@ const PUSH_ONLY: Entry = Entry { state: 0, flags: PUSH, list: NONE };
 /// A machine of one state: these entries for a glyph and the one after it, and nothing for others.
 fn two_entries(edition: Edition, glyph: u16, first: Entry, second: Entry, lists: &[i16]) -> Vec<u8> {
     let entries = [Entry { state: 0, flags: 0, list: NONE }, first, second];
-    edition.machine(glyph, &[4, 5], 6, &[0, 0, 0, 0, 1, 2], &entries, lists)
+    edition.machine(&Parts {
+        first: glyph,
+        classes: &[4, 5],
+        count: 6,
+        rows: &[0, 0, 0, 0, 1, 2],
+        entries: &entries,
+        lists,
+    })
 }
 
 /// The bits of a subtable that goes along the stream, and of one that goes across it.

@@ -119,32 +119,16 @@ impl Edition {
         }
     }
 
-    /// A machine's body: a class from 4 on for each of so many glyphs from the first on, so many states, and for each state
-    /// and class an entry. The numbers of its lists lie behind each other.
-    pub fn machine(
-        self,
-        first: u16,
-        classes: &[u8],
-        count: u16,
-        rows: &[u8],
-        entries: &[Entry],
-        lists: &[i16],
-    ) -> Vec<u8> {
+    /// A machine's body.
+    pub fn machine(self, parts: &Parts) -> Vec<u8> {
         match self.kerning {
-            Kerning::Kern => classic_machine(first, classes, count, rows, entries, lists),
-            Kerning::Kerx => self.extended_machine(first, classes, count, rows, entries, lists),
+            Kerning::Kern => classic_machine(parts),
+            Kerning::Kerx => self.extended_machine(parts),
         }
     }
 
-    fn extended_machine(
-        self,
-        first: u16,
-        classes: &[u8],
-        count: u16,
-        rows: &[u8],
-        entries: &[Entry],
-        lists: &[i16],
-    ) -> Vec<u8> {
+    fn extended_machine(self, parts: &Parts) -> Vec<u8> {
+        let Parts { first, classes, count, rows, entries, lists } = *parts;
         let wide = |numbers: &[u8]| numbers.iter().map(|number| u16::from(*number)).collect::<Vec<u16>>();
         let class_table = words(&[&[8, first, classes.len() as u16], &wide(classes)[..]].concat());
         let entries = entries.iter().flat_map(|entry| words(&[entry.state, entry.flags, entry.list])).collect();
@@ -160,6 +144,20 @@ impl Edition {
         }
         body
     }
+}
+
+/// What a machine is made of.
+pub struct Parts<'a> {
+    /// The first of the glyphs that have a class, and their classes, from 4 on.
+    pub first: u16,
+    pub classes: &'a [u8],
+    /// The number of classes.
+    pub count: u16,
+    /// For each state and class the number of its entry.
+    pub rows: &'a [u8],
+    pub entries: &'a [Entry],
+    /// The numbers of the lists, one behind the other.
+    pub lists: &'a [i16],
 }
 
 /// What an entry says: the new state, its flags, and, as the number of its first number, its list.
@@ -179,7 +177,8 @@ pub const RESET: u16 = 0x2000;
 /// No list.
 pub const NONE: u16 = 0xFFFF;
 
-fn classic_machine(first: u16, classes: &[u8], count: u16, rows: &[u8], entries: &[Entry], lists: &[i16]) -> Vec<u8> {
+fn classic_machine(parts: &Parts) -> Vec<u8> {
+    let Parts { first, classes, count, rows, entries, lists } = *parts;
     let class_table = 10;
     let states = class_table + 4 + classes.len() as u16;
     let entry_table = states + rows.len() as u16;
@@ -269,7 +268,14 @@ fn any_machine(random: &mut Random, edition: Edition, glyphs: &Range<u16>) -> Ve
         .collect();
     let lists: Vec<i16> = (0..numbers).map(|_| any_number(random)).collect();
     let count = if random.once_in(40) { random.among(&[0, 1, 3]) } else { classes as u16 };
-    let mut body = edition.machine(glyphs.start, &class_of, count, &rows, &entries, &lists);
+    let mut body = edition.machine(&Parts {
+        first: glyphs.start,
+        classes: &class_of,
+        count,
+        rows: &rows,
+        entries: &entries,
+        lists: &lists,
+    });
     if random.once_in(12) && edition.kerning == Kerning::Kerx {
         let values = random.among(&[0, 1, 0x7FFF_FFFF, 0x8000_0000, u32::MAX - 1, u32::MAX]);
         body[16..20].copy_from_slice(&values.to_be_bytes());

@@ -3,6 +3,7 @@
 use crate::entries::Entry;
 use crate::line::{Line, LARGEST_ROOM};
 use crate::pass::Kind;
+use crate::reply::add;
 use crate::{contextual_pass, insertion_pass, ligature_pass, rearrangement_pass};
 
 /// A machine with its step.
@@ -95,6 +96,23 @@ pub struct Lent {
     pub line: Line,
     pub room: u64,
     pub edits: Vec<u64>,
+}
+
+impl Lent {
+    /// The arguments of a call of a machine's step with this; the advance holds a number of its own.
+    pub fn lend(&self, machine: &Machine, start: u64, told: Told, advance: u64, call: &mut Vec<u8>) {
+        add(&self.state, call);
+        match machine.sees {
+            Sees::Line => self.line.lend(call),
+            Sees::Length => add(&[self.line.used], call),
+            Sees::LengthAndRoom => add(&[self.line.used, self.room], call),
+        }
+        add(&[start, told.index], call);
+        call.extend(told.glyph.to_le_bytes());
+        call.extend(told.ends.to_le_bytes());
+        add(&[advance], call);
+        add(&self.edits, call);
+    }
 }
 
 /// What a step is told of a glyph.

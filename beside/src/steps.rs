@@ -96,18 +96,7 @@ impl Question for Step {
     }
 
     fn arguments(&self, held: u64, call: &mut Vec<u8>) {
-        let lent = self.lent(held);
-        add(&lent.state, call);
-        match self.machine.sees {
-            Sees::Line => lent.line.lend(call),
-            Sees::Length => add(&[lent.line.used], call),
-            Sees::LengthAndRoom => add(&[lent.line.used, lent.room], call),
-        }
-        add(&[self.start, self.told.index], call);
-        call.extend(self.told.glyph.to_le_bytes());
-        call.extend(self.told.ends.to_le_bytes());
-        add(&[held], call);
-        add(&lent.edits, call);
+        self.lent(held).lend(self.machine, self.start, self.told, held, call);
     }
 
     fn reply(&self, table: &[u8], held: u64, reply: &mut Vec<u8>) -> Result<(), Fault> {

@@ -1,7 +1,7 @@
 //! Passes and runs of kern and kerx whose times are taken.
 
 use crate::kerning::{Kerned, Kerning, ALONE_AT};
-use crate::kerning_tables::{classes, Edition, Entry, Pair, NONE, PUSH};
+use crate::kerning_tables::{classes, Edition, Entry, Pair, Parts, NONE, PUSH};
 use crate::line::Line;
 use crate::lookup_tables::with_values;
 use crate::random::Random;
@@ -79,7 +79,14 @@ fn machine(random: &mut Random, edition: Edition) -> Vec<u8> {
     let rows = [[0, 0, 0, 0, 1, 1, 1, 0], [3, 3, 3, 3, 2, 2, 2, 3]].concat();
     let entry = |state, flags, list| Entry { state, flags, list };
     let entries = [entry(0, 0, NONE), entry(1, PUSH, NONE), entry(0, PUSH, 0), entry(1, 0, NONE)];
-    let body = edition.machine(0, &class_of, 8, &rows, &entries, &[20, 41, 61]);
+    let body = edition.machine(&Parts {
+        first: 0,
+        classes: &class_of,
+        count: 8,
+        rows: &rows,
+        entries: &entries,
+        lists: &[20, 41, 61],
+    });
     edition.subtable(edition.plain(), 1, &body)
 }
 

@@ -30,6 +30,7 @@ use Rattle.kerning_lists.specs.Walk.{onHead}
 use Rattle.kerning_lists.specs.declared.Head.{Head}
 use Rattle.kerning_lists.specs.declared.Head.the-variants as Head′
 use Rattle.kerning_lists.specs.declared.Subtable.{Subtable}
+use Rattle.kern_machine.specs.Machine.{headSize}
 use Rattle.kern.specs.Heads as KernHeads
 use Rattle.kern.specs.Kern as Kern
 use Rattle.kerx.specs.Heads as KerxHeads
@@ -70,7 +71,7 @@ small-kern : (bytes : List ℕ) (version left right : ℕ) → Small (Kern.pairI
 unfolding Kern.pairIn
 small-kern bytes version left right =
     small-head (KernHeads.headIn version 0 bytes)
-    (λ s. small-if (s .format) 0 (small-reply bytes (orderedKern bytes (KernHeads.headSize version)) left right) small-refused)
+    (λ s. small-if (s .format) 0 (small-reply bytes (orderedKern bytes (headSize version)) left right) small-refused)
     small-refused
 
 small-kerx : (bytes : List ℕ) (version left right : ℕ) → Small (Kerx.pairIn bytes version left right)

@@ -30,7 +30,7 @@ use Rattle.kerning_lists.specs.Manual.{AsManual}
 use Rattle.kerning_lists.specs.declared.Subtable.{Subtable}
 use Rattle.kerning_lists.specs.declared.Head.the-variants.{At, Cut}
 use Rattle.kerning_lists.proofs.Manual.{no-head, walk-as-manual}
-use Rattle.kern.specs.Heads.{headSize, oldSubtable, newSubtable, headIn, headAt, listOf, walkOf}
+use Rattle.kern.specs.Heads.{oldSubtable, newSubtable, headIn, headAt, listOf, walkOf}
 use Rattle.kern.specs.Kern.{pairIn}
 use Rattle.kern.specs.Manual.{versionOf, countOf, firstOf, lengthAt, subtableAt, HeadLies, HasPairs, pairCount, firstPair}
 

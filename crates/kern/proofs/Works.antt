@@ -29,7 +29,8 @@ use Rattle.kerning_lists.specs.declared.Head.{Head}
 use Rattle.kerning_lists.specs.declared.Head.the-variants.{At, Cut}
 use Rattle.kerning_lists.proofs.Runs.{contributes-nothing, contributes-plain}
 use Rattle.kerning_lists.proofs.Calls.{Works, works-same, works-nothing}
-use Rattle.kern.specs.Heads.{headSize, headIn}
+use Rattle.kern_machine.specs.Machine.{headSize}
+use Rattle.kern.specs.Heads.{headIn}
 use Rattle.kern.specs.Kern.{worked, passed, pairIn, adds}
 
 module _ (bytes : List ℕ) (version format : ℕ) (glyphs : List ℕ) (used : ℕ) (before : List ℤ) where

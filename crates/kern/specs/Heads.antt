@@ -14,10 +14,6 @@ use Rattle.kerning_lists.specs.declared.Head.{Head}
 use Rattle.kerning_lists.specs.declared.Head.the-variants.{At, Cut}
 use Rattle.kern.specs.declared.List.{List as KernList}
 
--- version 0 is the old edition, any other the new one: 6 and 8 bytes of a head
-abbrev pub headSize : (version : ℕ) → ℕ
-headSize version = ifEq version 0 6 8
-
 -- old edition: a run passes over what is not horizontal (bit 0 clear) and what is cross-stream (bit 2); the high byte is the format
 unfoldable pub oldSubtable : (at size coverage : ℕ) → Subtable
 oldSubtable at size coverage =

@@ -17,10 +17,11 @@ use Rattle.pairs.specs.Pass as Pairs′
 use Rattle.pairs.specs.declared.PairReply.{PairReply}
 use Rattle.pairs.specs.declared.PairReply.the-variants as Reply′
 use Rattle.kern_machine.specs.Machine as Machine′
+use Rattle.kern_machine.specs.Machine.{headSize}
 use Rattle.kerning_lists.specs.Walk.{onHead, listBytes}
 use Rattle.kerning_lists.specs.Run.{Ran, ranOver, runTests, unlessRefused}
 use Rattle.kerning_lists.specs.declared.Subtable.{Subtable}
-use Rattle.kern.specs.Heads.{headSize, headIn, listOf, walkOf}
+use Rattle.kern.specs.Heads.{headIn, listOf, walkOf}
 
 -- the pass by the subtable that begins with these bytes, of this format: ordered pairs or the machine; others are left out
 unfoldable pub worked : List ℕ → (version format : ℕ) → (glyphs : List ℕ) → (used : ℕ) → Kerned

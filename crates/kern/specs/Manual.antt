@@ -8,9 +8,9 @@ use mathlib.Core.List.{List}
 use lib.ListN.{length}
 use Rattle.laws.specs.Choose.{ifEq}
 use Rattle.parse.specs.Reads.{u16At, u32At}
-use Rattle.kern_machine.specs.Machine.{formatOf}
+use Rattle.kern_machine.specs.Machine.{headSize, formatOf}
 use Rattle.kerning_lists.specs.declared.Subtable.{Subtable}
-use Rattle.kern.specs.Heads.{headSize, oldSubtable, newSubtable}
+use Rattle.kern.specs.Heads.{oldSubtable, newSubtable}
 
 abbrev pub versionOf : List ℕ → ℕ
 versionOf bytes = u16At bytes 0

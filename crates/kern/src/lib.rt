@@ -15,34 +15,19 @@ ghost use Rattle.line.specs.Line.{lineOf};
 ghost use Rattle.kerning.specs.Additions.{addAll, Within};
 ghost use Rattle.kerning_lists.specs.Walk.{walkAnswer, visited, heads};
 ghost use Rattle.kerning_lists.specs.Run.{contribution, contributions, usedPart};
-ghost use Rattle.kern.specs.Heads.{headSize, oldSubtable, newSubtable, headIn, headAt, listOf, walkOf};
+ghost use Rattle.kern.specs.Heads.{oldSubtable, newSubtable, headIn, headAt, listOf, walkOf};
 ghost use Rattle.kern.specs.Kern.{worked, passed, passCall, pairIn, pairCall, adds, runCall};
 
-// The bits of an old edition's coverage: horizontal, cross-stream.
+// The old edition's bit for horizontal text, and the new one's for vertical text.
 const HORIZONTAL: u16 = 1;
 
-const OLD_CROSS_STREAM: u16 = 4;
-
-// The bits of a new edition's coverage.
 const VERTICAL: u16 = 0x8000;
-
-const CROSS_STREAM: u16 = 0x4000;
 
 // The list of subtables: its version, how many it counts, and where the first begins.
 pub struct List {
     pub version: u16,
     pub count: u32,
     pub first: usize,
-}
-
-// The bytes of a head.
-fn head_size(version: u16) -> u16
-    ensures { λ r. ⌜ (r ≡ headSize version) × (r < 9) ⌝ }
-{
-    if version == 0 {
-        return 6;
-    }
-    8
 }
 
 fn old_subtable(at: usize, size: u16, coverage: u16) -> Subtable
@@ -52,7 +37,7 @@ fn old_subtable(at: usize, size: u16, coverage: u16) -> Subtable
     Subtable {
         passed_over: kerning_lists::one_of(
             !machine::is_set(coverage, HORIZONTAL),
-            machine::is_set(coverage, OLD_CROSS_STREAM),
+            machine::is_set(coverage, kern_machine::OLD_CROSS_STREAM),
         ),
         turned: false,
         format: (coverage / 256) as u32,
@@ -68,7 +53,7 @@ fn new_subtable(at: usize, size: u32, coverage: u16) -> Subtable
     Subtable {
         passed_over: kerning_lists::one_of(
             machine::is_set(coverage, VERTICAL),
-            machine::is_set(coverage, CROSS_STREAM),
+            machine::is_set(coverage, kern_machine::CROSS_STREAM),
         ),
         turned: false,
         format: (coverage % 256) as u32,
@@ -143,7 +128,7 @@ fn work(
     ensures along { λ _. ⌜ now (along .exit) ≡ addAll (worked (now (bytes .entry)) version format (now (glyphs .entry)) used .additions) (now (along .entry)) ⌝ }
 {
     if format == 0 {
-        let opened = pairs::ordered_kern(bytes, head_size(version));
+        let opened = pairs::ordered_kern(bytes, kern_machine::head_size(version));
         return pairs::work(bytes, opened, glyphs, used, along);
     }
     if format == 1 {
@@ -160,7 +145,7 @@ fn pair_in(bytes: &[u8], version: u16, left: u16, right: u16) -> PairReply
         return PairReply::Refused(Refusal::Head);
     };
     if subtable.format == 0 {
-        let opened = pairs::ordered_kern(bytes, head_size(version));
+        let opened = pairs::ordered_kern(bytes, kern_machine::head_size(version));
         return pairs::reply(bytes, opened, left, right);
     }
     PairReply::Refused(Refusal::Head)

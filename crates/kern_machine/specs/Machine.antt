@@ -22,7 +22,7 @@ use Rattle.kerning_machine.specs.declared.Opened.the-variants.{Ready, Short}
 use Rattle.kerning_machine.specs.declared.KerningState.{KerningState}
 
 -- version 0 of the list is the old edition, with a 6-byte head, anything else the new one, with 8 bytes
-unfoldable pub headSize : (version : ℕ) → ℕ
+abbrev pub headSize : (version : ℕ) → ℕ
 headSize version = ifEq version 0 6 8
 
 -- coverage, 16 bits at 4, has the format in its high byte, or in its low one

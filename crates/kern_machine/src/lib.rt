@@ -7,7 +7,7 @@ use kerning_machine::Opened;
 use kerning_machine::Reading;
 use state_tables::Made;
 ghost use mathlib.Core.Path.{_≡_};
-ghost use Prim.Native.Nat.{_≤_, _^_};
+ghost use Prim.Native.Nat.{_<_, _≤_, _^_};
 ghost use lib.ListN.{length, drop};
 ghost use Rattle.answers.specs.Limits.{room};
 ghost use Rattle.line.specs.Line.{lineOf};
@@ -17,9 +17,14 @@ ghost use Rattle.kern_machine.specs.Machine.{headSize, formatOf, isCross
 // The format of this machine.
 pub const FORMAT: u16 = 1;
 
+// The coverage's bit for a subtable that goes across the stream, in the old edition and in the new one.
+pub const OLD_CROSS_STREAM: u16 = 0x4;
+
+pub const CROSS_STREAM: u16 = 0x4000;
+
 // How many bytes a subtable's head has: the list's version 0 is the old edition, anything else the new one.
-pub fn head_size(version: u16) -> usize
-    ensures { λ r. ⌜ r ≡ headSize version ⌝ }
+pub fn head_size(version: u16) -> u16
+    ensures { λ r. ⌜ (r ≡ headSize version) × (r < 9) ⌝ }
 {
     if version == 0 {
         return 6;
@@ -42,9 +47,9 @@ fn is_crossed(version: u16, coverage: u16) -> bool
     ensures { λ r. ⌜ r ≡ isCrossed version coverage ⌝ }
 {
     if version == 0 {
-        return machine::is_set(coverage, 0x4);
+        return machine::is_set(coverage, OLD_CROSS_STREAM);
     }
-    machine::is_set(coverage, 0x4000)
+    machine::is_set(coverage, CROSS_STREAM)
 }
 
 // The machine of a subtable whose bytes begin at its head.
@@ -57,7 +62,8 @@ pub fn open(bytes: &[u8], version: u16) -> Opened
     if format_of(version, coverage) != FORMAT {
         return Opened::Short;
     }
-    let Made::Ready(states) = state_tables::classic(parse::from(bytes, head_size(version))) else {
+    let Made::Ready(states) = state_tables::classic(parse::from(bytes, head_size(version) as usize))
+    else {
         return Opened::Short;
     };
     Opened::Ready(Kerning {
@@ -76,7 +82,7 @@ pub fn work(bytes: &[u8], version: u16, glyphs: &[u16], used: usize, along: &mut
 {
     let machine = open(bytes, version);
     kerning_machine::work(
-        parse::from(bytes, head_size(version)),
+        parse::from(bytes, head_size(version) as usize),
         machine,
         glyphs,
         used,
@@ -102,7 +108,7 @@ pub fn pass(
     let machine = open(bytes, version);
     kerning_machine::pass(
         table.len(),
-        parse::from(bytes, head_size(version)),
+        parse::from(bytes, head_size(version) as usize),
         machine,
         glyphs,
         tags,
@@ -130,7 +136,7 @@ pub fn step(
     let machine = open(bytes, version);
     state.step(
         table.len(),
-        parse::from(bytes, head_size(version)),
+        parse::from(bytes, head_size(version) as usize),
         machine,
         used,
         index,

@@ -28,6 +28,9 @@ returns-2 c = rw (sym (c .before .before .before .before .before .read-u16 .ensu
 head-size-requires : tie.Need-head-size-requires
 head-size-requires c κs = search needs
 
+cast-from : tie.Need-cast-from
+cast-from c = search needs
+
 from-requires : tie.Need-from-requires
 from-requires c κs = search needs
 
@@ -42,14 +45,14 @@ enum-told-2 c = search needs
 
 returns-3 : tie.Need-returns-3
 unfolding opened
-returns-3 c = rw (sym (c .before .before .before .before .before .before .before .before .before .before .read-u16 .ensures) ∙ c .before .before .before .before .before .before .before .before .coverage .given .1, ← (c .before .before .before .before .before .before .format-of .ensures), eq-eqb _ _ (c .before .before .before .before .before .if1 .left), ← (c .before .before .before .before .head-size .ensures), ← (c .before .before .before .from .ensures), sym (c .before .before .classic .ensures) ∙ c .enum-told2 .given .1, opened)
+returns-3 c = rw (sym (c .before .before .before .before .before .before .before .before .before .before .read-u16 .ensures) ∙ c .before .before .before .before .before .before .before .before .coverage .given .1, ← (c .before .before .before .before .before .before .format-of .ensures), eq-eqb _ _ (c .before .before .before .before .before .if1 .left), ← (c .before .before .before .before .head-size .ensures .0), ← (c .before .before .before .from .ensures), sym (c .before .before .classic .ensures) ∙ c .enum-told2 .given .1, opened)
 
 is-crossed-requires : tie.Need-is-crossed-requires
 is-crossed-requires c κs = search needs
 
 returns-4 : tie.Need-returns-4
 unfolding opened
-returns-4 c = rw (sym (c .before .before .before .before .before .before .before .before .before .before .before .before .read-u16 .ensures) ∙ c .before .before .before .before .before .before .before .before .before .before .coverage .given .1, ← (c .before .before .before .before .before .before .before .before .format-of .ensures), eq-eqb _ _ (c .before .before .before .before .before .before .before .if1 .left), ← (c .before .before .before .before .before .before .head-size .ensures), ← (c .before .before .before .before .before .from .ensures), sym (c .before .before .before .before .classic .ensures) ∙ c .before .before .states .given .1, c .is-crossed .ensures, opened)
+returns-4 c = rw (sym (c .before .before .before .before .before .before .before .before .before .before .before .before .read-u16 .ensures) ∙ c .before .before .before .before .before .before .before .before .before .before .coverage .given .1, ← (c .before .before .before .before .before .before .before .before .format-of .ensures), eq-eqb _ _ (c .before .before .before .before .before .before .before .if1 .left), ← (c .before .before .before .before .before .before .head-size .ensures .0), ← (c .before .before .before .before .before .from .ensures), sym (c .before .before .before .before .classic .ensures) ∙ c .before .before .states .given .1, c .is-crossed .ensures, opened)
 
 pub open-spec : {M : Type 1} → statement M
 open-spec =
@@ -62,6 +65,7 @@ open-spec =
     format-of-requires
     returns-2
     head-size-requires
+    cast-from
     from-requires
     classic-requires
     enum-known-states

@@ -12,6 +12,9 @@ open-requires c κs = search needs
 head-size-requires : tie.Need-head-size-requires
 head-size-requires c κs = search needs
 
+cast-from : tie.Need-cast-from
+cast-from c = search needs
+
 from-requires-2 : tie.Need-from-requires-2
 from-requires-2 c κs = search needs
 
@@ -23,7 +26,7 @@ same-length c = search needs
 
 returns : tie.Need-returns
 unfolding stepCall
-returns c = rw (← (c .before .before .before .before .before .before .from .ensures), ← (c .before .before .before .before .before .«open» .ensures), ← (c .before .before .before .before .head-size .ensures), ← (c .before .before .before .from2 .ensures)) (c .before .step .ensures .0, c .before .step .ensures .1)
+returns c = rw (← (c .before .before .before .before .before .before .from .ensures), ← (c .before .before .before .before .before .«open» .ensures), ← (c .before .before .before .before .head-size .ensures .0), ← (c .before .before .before .from2 .ensures)) (c .before .step .ensures .0, c .before .step .ensures .1)
 
 pub step-spec : {M : Type 1} → statement M
 step-spec =
@@ -32,6 +35,7 @@ step-spec =
     from-requires
     open-requires
     head-size-requires
+    cast-from
     from-requires-2
     step-requires
     same-length
