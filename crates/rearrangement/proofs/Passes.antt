@@ -11,6 +11,7 @@ use Rattle.state_tables.specs.declared.States.{States}
 use Rattle.state_tables.specs.declared.entries.Entry.{Entry}
 use Rattle.state_tables.specs.declared.entries.Entered.{Entered}
 use Rattle.state_tables.specs.declared.entries.Entered.the-variants as Entered′
+use Rattle.state_tables.specs.Classes.{classOf}
 use Rattle.state_tables.specs.Entries.{entryOf, onEntry}
 use Rattle.line.specs.Line.{Line, lineOf}
 use Rattle.line.specs.Changes.{Change, apply, applyAll}
@@ -20,7 +21,7 @@ use Rattle.machine.specs.Stall.{stalled}
 use Rattle.machine.specs.Pass.{Stepped, Passed, deleted, isDone, stepAt, endCall, passFrom}
 use Rattle.machine.proofs.Stalls.{Falls, stall-falls}
 use Rattle.machine.proofs.Passing.{Passing, Over, passing-start, passing-step, passing-stop, passing-end}
-use Rattle.rearrangement.specs.Rearrangement.{fresh, acted, next, changesOf, machine, rest, passed, passLeaves}
+use Rattle.rearrangement.specs.Rearrangement.{fresh, acted, unmoved, next, changesOf, machine, rest, passed, passLeaves}
 use Rattle.rearrangement.specs.declared.RearrangementState.{RearrangementState}
 use Rattle.rearrangement.specs.declared.RearrangementStep.{RearrangementStep}
 use Rattle.rearrangement.specs.declared.Window.{Window}
@@ -52,6 +53,22 @@ stalls bytes states s index glyph ends done = go (entryOf bytes states (s .state
     go Entered′.Ended f =
         let n : isDone (next bytes states s index glyph ends .answer) ≡ false = rw (f, next) in
         let z : _≡_ {A = ℕ} 0 1 = cc in absurd (omega arith)
+
+-- the parts of a step, at a place of the line: an entry acts, and where there is none the pass ends
+module _ (bytes : List ℕ) (states : States) (s : RearrangementState) (index glyph : ℕ) {class : ℕ} (k : class ≡ classOf bytes states glyph) where
+  pub acts : {entry : Entry} {step : RearrangementStep} → entryOf bytes states (s .state) class 0 ≡ Entered′.At entry → step ≡ acted s entry index
+      → step ≡ next bytes states s index glyph false
+  unfolding next classHere
+  acts e a = rw (← k, e, a, next)
+
+  pub ends-here : entryOf bytes states (s .state) class 0 ≡ Entered′.Ended → unmoved s Answer′.Ended ≡ next bytes states s index glyph false
+  unfolding next classHere
+  ends-here e = rw (← k, e, next)
+
+-- an entry's answer is DONE
+pub acted-done : (s : RearrangementState) (entry : Entry) (index : ℕ) {step : RearrangementStep} → step ≡ acted s entry index → isDone (step .answer) ≡ true
+unfolding acted
+acted-done s entry index a = rw (a, acted)
 
 module _ (bytes : List ℕ) (states : States) (l₀ : Line) where
   -- what the loop knows at place i

@@ -5,6 +5,8 @@ use answers::ROOM;
 use answers::Refusal;
 use state_tables::Made;
 use state_tables::States;
+use state_tables::classes;
+use state_tables::entries;
 use state_tables::entries::Entered;
 use state_tables::entries::Entry;
 ghost use mathlib.Core.Path.{_≡_};
@@ -199,13 +201,7 @@ impl RearrangementState {
         ensures { λ r. ⌜ r ≡ next (now (bytes .entry)) states self index glyph ends ⌝ }
     {
         let class = machine::class_at(bytes, states, glyph, ends);
-        let Entered::At(entry) = state_tables::entries::entry_of(
-            bytes,
-            states,
-            self.state,
-            class,
-            0,
-        ) else {
+        let Entered::At(entry) = entries::entry_of(bytes, states, self.state, class, 0) else {
             return self.unmoved(Answer::Ended);
         };
         self.act(entry, index)
@@ -241,22 +237,15 @@ fn pass_line(
     let mut state = RearrangementState::new();
     let mut place = 0;
     while place < used {
-        let step = state.next(bytes, states, place, glyphs[place], false);
+        // What `next` does, written out: as a call of its own its answer would go through memory.
+        let class = classes::class_of(bytes, states, glyphs[place]);
+        let Entered::At(entry) = entries::entry_of(bytes, states, state.state, class, 0) else {
+            return Answer::Ended;
+        };
+        let step = state.act(entry, place);
         let window = step.edit;
         edit(glyphs, tags, homes, used, window);
-        let answer = step.answer;
-        if !machine::is_done(answer) {
-            return answer;
-        }
-        let after = step.state;
-        // Field by field, of which no two that are neighbours have one width: a copy as a whole would wait for the stores that the
-        // step has just made.
-        state = RearrangementState {
-            state: after.state,
-            first: after.first,
-            last: after.last,
-            cycles: after.cycles,
-        };
+        state = step.state;
         place += step.advance;
     }
     let step = state.next(bytes, states, used, RearrangementState::END, true);

@@ -1,10 +1,10 @@
 use Prim.Native.Nat.{_+_, _*_, _-_}
-use mathlib.Core.Path.{sym, _∙_}
+use mathlib.Core.Path.{refl, sym, _∙_}
 use native.Mathlib.Omega.{arith}
 use borrow.Author.Needs.{needs}
-use borrow.Author.Tests.{not-true, not-false}
 use Rattle.line.specs.Line.{lineOf}
-use Rattle.rearrangement.proofs.Passes.{Going, going-start, going-step, going-less, going-stop, going-end}
+use Rattle.line.specs.Changes.{applyAll}
+use Rattle.rearrangement.proofs.Passes.{Going, acts, ends-here, acted-done, going-start, going-step, going-less, going-stop, going-end}
 use Rattle.rearrangement.proofs.pass_line.Statement.{statement}
 use Rattle.rearrangement.proofs.pass_line.Tie as tie
 
@@ -22,41 +22,51 @@ new-requires c κs = search needs
 loop-holds : tie.Need-loop-holds Inv-loop μ-loop
 loop-holds c = going-start _ _ _ _ _ _ _ (c .new .ensures)
 
-mul-next : tie.Need-mul-next Inv-loop μ-loop
-mul-next c = search needs
+mul-class-of : tie.Need-mul-class-of Inv-loop μ-loop
+mul-class-of c = search needs
 
-slice-read-next : tie.Need-slice-read-next Inv-loop μ-loop
-slice-read-next c = omega arith
+slice-read-class-of : tie.Need-slice-read-class-of Inv-loop μ-loop
+slice-read-class-of c = omega arith
 
-next-requires : tie.Need-next-requires Inv-loop μ-loop
-next-requires c κs = search needs
+class-of-requires : tie.Need-class-of-requires Inv-loop μ-loop
+class-of-requires c κs = search needs
+
+entry-of-requires : tie.Need-entry-of-requires Inv-loop μ-loop
+entry-of-requires c κs = search needs
+
+enum-known-entry : tie.Need-enum-known-entry Inv-loop μ-loop
+enum-known-entry c = search needs
+
+enum-told : tie.Need-enum-told Inv-loop μ-loop
+enum-told c = search needs
+
+same-length : tie.Need-same-length Inv-loop μ-loop
+same-length c = omega (arith, c .before .before .before .before .before .before .loop .inv .long-glyphs)
+
+same-length-2 : tie.Need-same-length-2 Inv-loop μ-loop
+same-length-2 c = omega (arith, c .before .before .before .before .before .before .loop .inv .long-tags)
+
+returns : tie.Need-returns Inv-loop μ-loop
+unfolding applyAll
+returns c = let e = going-stop _ _ _ (c .before .before .before .before .before .before .loop .inv) (c .before .before .before .before .before .loop-test .taken) (ends-here _ _ _ _ _ (c .before .before .before .class-of .ensures) (sym (c .before .before .entry-of .ensures) ∙ c .enum-told .given .1)) refl refl refl in (e .answers, (e .glyphs-left, e .tags-left))
+
+act-requires : tie.Need-act-requires Inv-loop μ-loop
+act-requires c κs = search needs
 
 edit-requires : tie.Need-edit-requires Inv-loop μ-loop
 edit-requires c κs = omega arith
 
-is-done-requires : tie.Need-is-done-requires Inv-loop μ-loop
-is-done-requires c κs = search needs
-
-same-length : tie.Need-same-length Inv-loop μ-loop
-same-length c = omega (arith, c .before .before .before .before .before .before .edit .kept .0)
-
-same-length-2 : tie.Need-same-length-2 Inv-loop μ-loop
-same-length-2 c = omega (arith, c .before .before .before .before .before .before .edit .kept .1 .0)
-
-returns : tie.Need-returns Inv-loop μ-loop
-returns c = let e = going-stop _ _ _ (c .before .before .before .before .before .before .before .before .before .before .before .before .loop .inv) (c .before .before .before .before .before .before .before .before .before .before .before .loop-test .taken) (c .before .before .before .before .before .before .before .before .before .next .ensures) (sym (c .before .is-done .ensures) ∙ not-true _ (c .if1 .taken)) (c .before .before .before .before .before .before .edit .ensures .0) (c .before .before .before .before .before .before .edit .ensures .1) in (e .answers, (e .glyphs-left, e .tags-left))
-
 add-place : tie.Need-add-place Inv-loop μ-loop
-add-place c = omega (arith, c .before .before .before .before .before .before .before .before .before .before .before .before .before .before .before .before .before .before .before .before .fits .used, going-step _ _ _ (c .before .before .before .before .before .before .before .before .before .before .before .before .before .before .loop .inv) (c .before .before .before .before .before .before .before .before .before .before .before .before .before .loop-test .taken) (c .before .before .before .before .before .before .before .before .before .before .before .next .ensures) (sym (c .before .before .before .is-done .ensures) ∙ not-false _ (c .before .before .if1 .left)) (c .before .before .before .before .before .before .before .before .edit .ensures .0) (c .before .before .before .before .before .before .before .before .edit .ensures .1) (c .before .before .before .before .before .before .before .before .edit .kept .0) (c .before .before .before .before .before .before .before .before .edit .kept .1 .0) .within)
+add-place c = omega (arith, c .before .before .before .before .before .before .before .before .before .before .before .before .before .before .before .before .before .before .before .before .before .before .before .fits .used, going-step _ _ _ (c .before .before .before .before .before .before .before .before .before .before .before .before .before .before .before .before .before .loop .inv) (c .before .before .before .before .before .before .before .before .before .before .before .before .before .before .before .before .loop-test .taken) (acts _ _ _ _ _ (c .before .before .before .before .before .before .before .before .before .before .before .before .before .before .class-of .ensures) (sym (c .before .before .before .before .before .before .before .before .before .before .before .before .before .entry-of .ensures) ∙ c .before .before .before .before .before .before .before .before .before .before .before .entry .given .1) (c .before .before .before .before .before .before .before .before .before .act .ensures)) (acted-done _ _ _ (c .before .before .before .before .before .before .before .before .before .act .ensures)) (c .before .before .before .before .before .before .edit .ensures .0) (c .before .before .before .before .before .before .edit .ensures .1) (c .before .before .before .before .before .before .edit .kept .0) (c .before .before .before .before .before .before .edit .kept .1 .0) .within)
 
 loop-less : tie.Need-loop-less Inv-loop μ-loop
-loop-less c = going-less _ _ _ (c .before .before .before .before .before .before .before .before .before .before .before .before .before .before .loop .inv) (c .before .before .before .before .before .before .before .before .before .before .before .before .before .loop-test .taken) (c .before .before .before .before .before .before .before .before .before .before .before .next .ensures) (sym (c .before .before .before .is-done .ensures) ∙ not-false _ (c .before .before .if1 .left))
+loop-less c = going-less _ _ _ (c .before .before .before .before .before .before .before .before .before .before .before .before .before .before .before .before .before .loop .inv) (c .before .before .before .before .before .before .before .before .before .before .before .before .before .before .before .before .loop-test .taken) (acts _ _ _ _ _ (c .before .before .before .before .before .before .before .before .before .before .before .before .before .before .class-of .ensures) (sym (c .before .before .before .before .before .before .before .before .before .before .before .before .before .entry-of .ensures) ∙ c .before .before .before .before .before .before .before .before .before .before .before .entry .given .1) (c .before .before .before .before .before .before .before .before .before .act .ensures)) (acted-done _ _ _ (c .before .before .before .before .before .before .before .before .before .act .ensures))
 
 loop-again : tie.Need-loop-again Inv-loop μ-loop
-loop-again c = going-step _ _ _ (c .before .before .before .before .before .before .before .before .before .before .before .before .before .before .loop .inv) (c .before .before .before .before .before .before .before .before .before .before .before .before .before .loop-test .taken) (c .before .before .before .before .before .before .before .before .before .before .before .next .ensures) (sym (c .before .before .before .is-done .ensures) ∙ not-false _ (c .before .before .if1 .left)) (c .before .before .before .before .before .before .before .before .edit .ensures .0) (c .before .before .before .before .before .before .before .before .edit .ensures .1) (c .before .before .before .before .before .before .before .before .edit .kept .0) (c .before .before .before .before .before .before .before .before .edit .kept .1 .0)
+loop-again c = going-step _ _ _ (c .before .before .before .before .before .before .before .before .before .before .before .before .before .before .before .before .before .loop .inv) (c .before .before .before .before .before .before .before .before .before .before .before .before .before .before .before .before .loop-test .taken) (acts _ _ _ _ _ (c .before .before .before .before .before .before .before .before .before .before .before .before .before .before .class-of .ensures) (sym (c .before .before .before .before .before .before .before .before .before .before .before .before .before .entry-of .ensures) ∙ c .before .before .before .before .before .before .before .before .before .before .before .entry .given .1) (c .before .before .before .before .before .before .before .before .before .act .ensures)) (acted-done _ _ _ (c .before .before .before .before .before .before .before .before .before .act .ensures)) (c .before .before .before .before .before .before .edit .ensures .0) (c .before .before .before .before .before .before .edit .ensures .1) (c .before .before .before .before .before .before .edit .kept .0) (c .before .before .before .before .before .before .edit .kept .1 .0)
 
-next-requires-2 : tie.Need-next-requires-2 Inv-loop μ-loop
-next-requires-2 c κs = search needs
+next-requires : tie.Need-next-requires Inv-loop μ-loop
+next-requires c κs = search needs
 
 edit-requires-2 : tie.Need-edit-requires-2 Inv-loop μ-loop
 edit-requires-2 c κs = omega arith
@@ -68,7 +78,7 @@ same-length-4 : tie.Need-same-length-4 Inv-loop μ-loop
 same-length-4 c = omega (arith, c .before .before .before .before .edit2 .kept .1 .0)
 
 returns-2 : tie.Need-returns-2 Inv-loop μ-loop
-returns-2 c = let e = going-end _ _ _ (c .before .before .before .before .before .before .before .before .before .loop .inv) (c .before .before .before .before .before .before .before .before .loop-test .left) (c .before .before .before .before .before .before .before .next2 .ensures) (c .before .before .before .before .edit2 .ensures .0) (c .before .before .before .before .edit2 .ensures .1) in (e .answers, (e .glyphs-left, e .tags-left))
+returns-2 c = let e = going-end _ _ _ (c .before .before .before .before .before .before .before .before .before .loop .inv) (c .before .before .before .before .before .before .before .before .loop-test .left) (c .before .before .before .before .before .before .before .next .ensures) (c .before .before .before .before .edit2 .ensures .0) (c .before .before .before .before .edit2 .ensures .1) in (e .answers, (e .glyphs-left, e .tags-left))
 
 pub pass-line-spec : {M : Type 1} → statement M
 pass-line-spec =
@@ -78,18 +88,21 @@ pass-line-spec =
     μ-loop
     new-requires
     loop-holds
-    mul-next
-    slice-read-next
-    next-requires
-    edit-requires
-    is-done-requires
+    mul-class-of
+    slice-read-class-of
+    class-of-requires
+    entry-of-requires
+    enum-known-entry
+    enum-told
     same-length
     same-length-2
     returns
+    act-requires
+    edit-requires
     add-place
     loop-less
     loop-again
-    next-requires-2
+    next-requires
     edit-requires-2
     same-length-3
     same-length-4
