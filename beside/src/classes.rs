@@ -12,7 +12,7 @@ use std::rc::Rc;
 
 /// The two kinds of state table.
 #[derive(Clone, Copy)]
-enum Kind {
+pub enum Kind {
     Extended,
     Classic,
 }
@@ -20,9 +20,9 @@ enum Kind {
 use Kind::{Classic, Extended};
 
 /// The class of a glyph.
-struct Class {
-    kind: Kind,
-    glyph: u16,
+pub struct Class {
+    pub kind: Kind,
+    pub glyph: u16,
 }
 
 impl Asked for Class {

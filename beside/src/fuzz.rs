@@ -4,23 +4,36 @@
 // The modules have parts for the other programs.
 #![allow(dead_code)]
 
+mod classes;
 mod compare;
 mod contextual_pass;
 mod entries;
 mod fuzz_case;
 mod fuzz_seeds;
+mod fuzz_source;
 mod hex;
 mod insertion_pass;
 mod kerning;
 mod kerning_by_copy;
+mod kerning_examples;
+mod kerning_pairs;
+mod kerning_passes;
 mod kerning_run;
+mod kerning_runs;
+mod kerning_steps;
 mod kerning_tables;
+mod kerning_trace;
+mod language;
 mod language_tables;
 mod lent_along;
 mod lent_line;
 mod ligature_pass;
 mod line;
+mod lists;
+mod lists_by_copy;
+mod lookup;
 mod lookup_tables;
+mod ltag;
 mod morx_tables;
 mod noncontextual_pass;
 mod opened;
@@ -31,16 +44,23 @@ mod passes_by_crate;
 mod pipe;
 mod progress;
 mod random;
+mod rearrange;
 mod rearrangement_pass;
 mod reply;
 mod run;
+mod runs;
 mod state_tables;
 mod step;
+mod steps;
 mod steps_by_copy;
 mod strings;
+mod survey;
 mod trace;
+mod value;
+mod verbs;
 
-use fuzz_case::{Case, ENTRIES};
+use entries::ENTRIES;
+use fuzz_case::Case;
 use random::Random;
 use std::cell::RefCell;
 use std::ffi::CString;
@@ -99,7 +119,10 @@ extern "C" fn ask_both(bytes: *const u8, count: usize) -> c_int {
     let given = reply_of_box(case.call());
     match case.reply() {
         Ok(right) if right == given => return 0,
-        Ok(right) => eprintln!("difference: {}\n  right: {:02x?}\n  box:   {:02x?}", case.describe(), right, given),
+        Ok(right) => {
+            let [right, given] = [right, given].map(|reply| case.describe_reply(&reply));
+            eprintln!("difference: {}\n  right: {}\n  box:   {}", case.describe(), right, given)
+        }
         Err(fault) => eprintln!("difference: {}\n  {}", case.describe(), fault.describe()),
     }
     std::process::abort()
@@ -110,8 +133,8 @@ const SEEDS_PER_ENTRY: usize = 60;
 /// Writes what to begin with into a directory.
 fn write_seeds(directory: &str) -> std::io::Result<()> {
     let random = &mut Random::new(1);
-    let numbers = (0..ENTRIES.len()).flat_map(|number| vec![number; SEEDS_PER_ENTRY]);
-    let seeds = numbers.map(|number| fuzz_seeds::seed(random, number));
+    let entries = ENTRIES.iter().flat_map(|entry| vec![entry.0; SEEDS_PER_ENTRY]);
+    let seeds = entries.map(|entry| fuzz_seeds::seed(random, entry));
     for (number, seed) in seeds.chain(fuzz_seeds::known()).enumerate() {
         std::fs::write(format!("{}/{}", directory, number), seed)?;
     }

@@ -12,10 +12,10 @@ use crate::value::{Asked, Value};
 use std::rc::Rc;
 
 /// A call of `aat_kern_pair` or `aat_kerx_pair`.
-struct OfPair {
-    edition: Edition,
-    left: u16,
-    right: u16,
+pub struct OfPair {
+    pub edition: Edition,
+    pub left: u16,
+    pub right: u16,
 }
 
 impl Asked for OfPair {

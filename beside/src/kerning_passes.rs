@@ -16,12 +16,12 @@ use crate::random::Random;
 use std::rc::Rc;
 
 /// A call of a pass.
-struct Pass {
-    edition: Edition,
-    lent: Kerned,
-    start: u64,
+pub struct Pass {
+    pub edition: Edition,
+    pub lent: Kerned,
+    pub start: u64,
     /// The answer and the used adjustments that a document gives, from fresh ones.
-    written: Option<(Answer<()>, Vec<i64>)>,
+    pub written: Option<(Answer<()>, Vec<i64>)>,
 }
 
 impl Pass {

@@ -21,14 +21,14 @@ use std::ops::Range;
 use std::rc::Rc;
 
 /// A call of `aat_kern_run` or `aat_kerx_run`.
-struct KerningRun {
-    kerning: Kerning,
-    lent: Kerned,
-    start: u64,
+pub struct KerningRun {
+    pub kerning: Kerning,
+    pub lent: Kerned,
+    pub start: u64,
     /// Not 0 where the text runs from right to left; kern is not told.
-    right_to_left: u32,
+    pub right_to_left: u32,
     /// The adjustments that a document gives.
-    written: Option<Vec<i64>>,
+    pub written: Option<Vec<i64>>,
 }
 
 impl KerningRun {

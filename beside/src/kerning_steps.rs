@@ -18,14 +18,14 @@ use std::rc::Rc;
 
 /// A call of `aat_kern_step` or `aat_kerx_step`.
 #[derive(Clone)]
-struct Step {
-    edition: Edition,
-    start: u64,
-    state: [u64; STATE],
-    length: u64,
-    index: u64,
-    glyph: u16,
-    along: Vec<i64>,
+pub struct Step {
+    pub edition: Edition,
+    pub start: u64,
+    pub state: [u64; STATE],
+    pub length: u64,
+    pub index: u64,
+    pub glyph: u16,
+    pub along: Vec<i64>,
 }
 
 /// The most steps in a row that do not advance.

@@ -12,8 +12,8 @@ use crate::value::{Asked, Value};
 use std::rc::Rc;
 
 /// The index of a name.
-struct Language {
-    name: Rc<[u8]>,
+pub struct Language {
+    pub name: Rc<[u8]>,
 }
 
 impl Asked for Language {

@@ -2,7 +2,7 @@
 
 use crate::compare::{Ask, Question};
 use crate::entries::Entry;
-use crate::lists_by_copy::{chains_from, next, Cursor, List};
+use crate::lists_by_copy::{chains_from, lists_of_chain, next, Cursor, List};
 use crate::lookup_tables::{damage, Made};
 use crate::morx_tables::{any_heads, chain, chosen_subtable, in_chain, morx, subtable};
 use crate::oracle::aat::morx::{chains, Chain, Feature, Subtable};
@@ -12,8 +12,8 @@ use crate::reply::{add, number, numbers};
 use std::rc::Rc;
 
 /// A call of `aat_morx_chains`.
-struct Start {
-    start: u64,
+pub struct Start {
+    pub start: u64,
 }
 
 impl Start {
@@ -55,11 +55,11 @@ impl Question for Start {
 }
 
 /// A call of an entry that goes on with a list.
-struct Next {
-    list: List,
-    cursor: Cursor,
+pub struct Next {
+    pub list: List,
+    pub cursor: Cursor,
     /// What the crate's own iterator, from the list's start on, tells of the element.
-    told: Option<Vec<u64>>,
+    pub told: Option<Vec<u64>>,
 }
 
 impl Next {
@@ -80,7 +80,8 @@ impl Next {
 }
 
 impl List {
-    fn entry(self) -> Entry {
+    /// The entry that goes on with it.
+    pub fn entry(self) -> Entry {
         match self {
             List::Chains => Entry::MorxNextChain,
             List::Features => Entry::MorxNextFeature,
@@ -142,10 +143,10 @@ impl Question for Next {
 }
 
 /// A call of `aat_morx_order`, or, with a direction, of `aat_morx_should_reverse`.
-struct Coverage {
-    coverage: u32,
+pub struct Coverage {
+    pub coverage: u32,
     /// Not 0 where the text runs from right to left.
-    right_to_left: Option<u32>,
+    pub right_to_left: Option<u32>,
 }
 
 impl Coverage {
@@ -226,7 +227,7 @@ fn ask_lists(asked: &mut dyn Ask, table: &Rc<[u8]>, start: u64) {
     let chains = chains(table, start as u32);
     let told = |chain: &Chain| vec![chain.default_flags().into()];
     ask_list(asked, table, List::Chains, chains_from(table, start), chains, told, &mut |asked, chain, fields| {
-        let [features, subtables] = [[fields[1], fields[2]], [fields[3], fields[4]]];
+        let [features, subtables] = lists_of_chain(fields);
         ask_list(asked, table, List::Features, features, chain.features(), told_of_feature, &mut |_, _, _| {});
         let ask_more =
             &mut |asked: &mut dyn Ask, subtable: &Subtable, _: &[u64]| ask_coverage(asked, subtable.coverage());
@@ -330,7 +331,8 @@ fn far_starts(asked: &mut dyn Ask) {
     }
 }
 
-const LISTS: [List; 3] = [List::Chains, List::Features, List::Subtables];
+/// The lists.
+pub const LISTS: [List; 3] = [List::Chains, List::Features, List::Subtables];
 
 /// Cursors that no call has made.
 fn far_cursors(asked: &mut dyn Ask) {
@@ -389,7 +391,8 @@ fn random_tables(asked: &mut dyn Ask, random: &mut Random, cases: u64) {
     }
 }
 
-fn any_cursor(random: &mut Random, length: usize) -> Cursor {
+/// A cursor, mostly in a table of this length.
+pub fn any_cursor(random: &mut Random, length: usize) -> Cursor {
     let mut any = |limit: usize| match random.below(8) {
         0 => random.number() >> random.below(64),
         _ => random.below(limit) as u64,

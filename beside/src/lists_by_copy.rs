@@ -23,6 +23,11 @@ pub fn chains_from(table: &[u8], start: u64) -> Cursor {
     [start + offset as u64, len.into()]
 }
 
+/// The cursors of a chain's features and subtables, from what it has.
+pub fn lists_of_chain(fields: &[u64]) -> [Cursor; 2] {
+    [[fields[1], fields[2]], [fields[3], fields[4]]]
+}
+
 /// What an element has, and where its list goes on; None at the list's end. The crate counts in 32 bits and does not look at a
 /// count but for being 0; a place of more bits is past every table.
 pub fn next(list: List, table: &[u8], [place, left]: Cursor) -> Option<(Vec<u64>, Cursor)> {

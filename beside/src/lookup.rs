@@ -12,8 +12,8 @@ use crate::value::{Asked, Value};
 use std::rc::Rc;
 
 /// The element of a glyph.
-struct Lookup {
-    glyph: u16,
+pub struct Lookup {
+    pub glyph: u16,
 }
 
 impl Asked for Lookup {
@@ -40,8 +40,8 @@ impl Asked for Lookup {
 }
 
 /// A call of `aat_survey`.
-struct Survey {
-    start: u64,
+pub struct Survey {
+    pub start: u64,
 }
 
 impl Question for Survey {

@@ -27,18 +27,18 @@ pub static KINDS: [Kind; 5] = [
 
 /// A pass by subtables of a kind: the kind's own, or the one that takes every kind.
 #[derive(Clone, Copy)]
-struct By {
-    entry: Entry,
-    kind: &'static Kind,
+pub struct By {
+    pub entry: Entry,
+    pub kind: &'static Kind,
 }
 
 /// A call of a pass.
-struct Pass {
-    by: By,
-    line: Line,
-    start: u64,
+pub struct Pass {
+    pub by: By,
+    pub line: Line,
+    pub start: u64,
     /// What a document gives, for examples made from its sentences.
-    written: Option<Written>,
+    pub written: Option<Written>,
 }
 
 impl Pass {

@@ -19,13 +19,13 @@ use std::ops::Range;
 use std::rc::Rc;
 
 /// A call of `aat_morx_run`.
-struct MorxRun {
-    line: Line,
-    start: u64,
+pub struct MorxRun {
+    pub line: Line,
+    pub start: u64,
     /// Not 0 where the text runs from right to left.
-    right_to_left: u32,
+    pub right_to_left: u32,
     /// What a document gives, with the heads, for its own examples.
-    written: Option<(Written, u32)>,
+    pub written: Option<(Written, u32)>,
 }
 
 impl MorxRun {

@@ -17,7 +17,7 @@ use std::ops::Range;
 use std::rc::Rc;
 
 /// A call of a step. What it is lent for edits and advance comes from the number held.
-struct Step {
+pub struct Step {
     machine: &'static Machine,
     start: u64,
     state: Vec<u64>,
@@ -27,6 +27,11 @@ struct Step {
 }
 
 impl Step {
+    /// A step from this state on a line, of which it is told or lent what it sees.
+    pub fn new(machine: &'static Machine, start: u64, state: Vec<u64>, line: &Line, told: Told) -> Self {
+        Step { machine, start, state, line: machine.sees.of(line), room: line.glyphs.len() as u64, told }
+    }
+
     fn lent(&self, held: u64) -> Lent {
         let mut random = Random::new(held);
         let edits = (0..self.machine.edits).map(|_| random.number()).collect();
@@ -157,8 +162,7 @@ fn ask_at(
     line: &Line,
     told: Told,
 ) {
-    let (state, room) = (state.to_vec(), line.glyphs.len() as u64);
-    asked.ask(table, Box::new(Step { machine, start, state, line: machine.sees.of(line), room, told }));
+    asked.ask(table, Box::new(Step::new(machine, start, state.to_vec(), line, told)));
 }
 
 /// A table's steps on the way of a pass, every one of so many.

@@ -10,10 +10,10 @@ use crate::rearrange::rearrange;
 use crate::strings::for_each_string;
 
 /// A call of `aat_fresh` with slices of these lengths; what they hold comes from the number held.
-struct Fresh {
-    glyphs: usize,
-    tags: usize,
-    homes: usize,
+pub struct Fresh {
+    pub glyphs: usize,
+    pub tags: usize,
+    pub homes: usize,
 }
 
 impl Fresh {
@@ -51,13 +51,13 @@ impl Question for Fresh {
 }
 
 /// A call of `aat_verb`.
-struct Verb {
-    line: Line,
-    verb: u16,
-    start: u64,
-    end: u64,
+pub struct Verb {
+    pub line: Line,
+    pub verb: u16,
+    pub start: u64,
+    pub end: u64,
     /// The glyphs that document 01 gives, for its own examples.
-    written: Option<Vec<u16>>,
+    pub written: Option<Vec<u16>>,
 }
 
 impl Verb {
