@@ -26,7 +26,7 @@ mod steps;
 // Puts the value of a reply where it was lent, and answers with its number.
 fn put_reply(reply: Reply, value: &mut u32) -> u32
     ensures answer { λ r. ⌜ r ≡ numberOf (answerOf reply) ⌝ }
-    ensures value { λ r. ⌜ now (value .exit) ≡ valueOf reply (now (value .entry)) ⌝ }
+    ensures value { λ _. ⌜ now (value .exit) ≡ valueOf reply (now (value .entry)) ⌝ }
 {
     match reply {
         Reply::Value(number) => {
@@ -42,7 +42,7 @@ fn put_reply(reply: Reply, value: &mut u32) -> u32
 #[no_mangle]
 pub extern "C" fn aat_lookup(table: &[u8], start: usize, glyph: u16, value: &mut u32) -> u32
     ensures answer { λ r. ⌜ r ≡ numberOf (answerOf (lookupReply (now (table .entry)) start glyph)) ⌝ }
-    ensures value { λ r. ⌜ now (value .exit) ≡ valueOf (lookupReply (now (table .entry)) start glyph) (now (value .entry)) ⌝ }
+    ensures value { λ _. ⌜ now (value .exit) ≡ valueOf (lookupReply (now (table .entry)) start glyph) (now (value .entry)) ⌝ }
 {
     put_reply(tables::lookup::lookup(table, start, glyph), value)
 }
@@ -51,7 +51,7 @@ pub extern "C" fn aat_lookup(table: &[u8], start: usize, glyph: u16, value: &mut
 #[no_mangle]
 pub extern "C" fn aat_class_extended(table: &[u8], start: usize, glyph: u16, value: &mut u32) -> u32
     ensures answer { λ r. ⌜ r ≡ numberOf (answerOf (classExtended (now (table .entry)) start glyph)) ⌝ }
-    ensures value { λ r. ⌜ now (value .exit) ≡ valueOf (classExtended (now (table .entry)) start glyph) (now (value .entry)) ⌝ }
+    ensures value { λ _. ⌜ now (value .exit) ≡ valueOf (classExtended (now (table .entry)) start glyph) (now (value .entry)) ⌝ }
 {
     put_reply(
         state_tables::classes::class_extended(table, start, glyph),
@@ -63,7 +63,7 @@ pub extern "C" fn aat_class_extended(table: &[u8], start: usize, glyph: u16, val
 #[no_mangle]
 pub extern "C" fn aat_class_classic(table: &[u8], start: usize, glyph: u16, value: &mut u32) -> u32
     ensures answer { λ r. ⌜ r ≡ numberOf (answerOf (classClassic (now (table .entry)) start glyph)) ⌝ }
-    ensures value { λ r. ⌜ now (value .exit) ≡ valueOf (classClassic (now (table .entry)) start glyph) (now (value .entry)) ⌝ }
+    ensures value { λ _. ⌜ now (value .exit) ≡ valueOf (classClassic (now (table .entry)) start glyph) (now (value .entry)) ⌝ }
 {
     put_reply(
         state_tables::classes::class_classic(table, start, glyph),
@@ -80,7 +80,7 @@ pub extern "C" fn aat_language_index(
     value: &mut u32,
 ) -> u32
     ensures answer { λ r. ⌜ r ≡ numberOf (answerOf (languageIndex (now (table .entry)) start (now (name .entry)))) ⌝ }
-    ensures value { λ r. ⌜ now (value .exit) ≡ valueOf (languageIndex (now (table .entry)) start (now (name .entry))) (now (value .entry)) ⌝ }
+    ensures value { λ _. ⌜ now (value .exit) ≡ valueOf (languageIndex (now (table .entry)) start (now (name .entry))) (now (value .entry)) ⌝ }
 {
     put_reply(ltag::language_index(table, start, name), value)
 }
@@ -89,8 +89,8 @@ pub extern "C" fn aat_language_index(
 #[no_mangle]
 pub extern "C" fn aat_survey(table: &[u8], start: usize, verdict: &mut u32, bad: &mut u32) -> u32
     ensures answer { λ r. ⌜ r ≡ numberOf (surveyAnswer (surveyed (now (table .entry)) start)) ⌝ }
-    ensures verdict { λ r. ⌜ now (verdict .exit) ≡ verdictOf (surveyed (now (table .entry)) start) (now (verdict .entry)) ⌝ }
-    ensures bad { λ r. ⌜ now (bad .exit) ≡ badRecord (surveyed (now (table .entry)) start) (now (bad .entry)) ⌝ }
+    ensures verdict { λ _. ⌜ now (verdict .exit) ≡ verdictOf (surveyed (now (table .entry)) start) (now (verdict .entry)) ⌝ }
+    ensures bad { λ _. ⌜ now (bad .exit) ≡ badRecord (surveyed (now (table .entry)) start) (now (bad .entry)) ⌝ }
 {
     let surveyed = tables::survey::survey(table, start);
     match surveyed {
@@ -121,9 +121,9 @@ pub extern "C" fn aat_fresh(
     used: &mut usize,
 ) -> u32
     ensures answer { λ r. ⌜ r ≡ numberOf (freshAnswer (freshCall (now (glyphs .entry)) (now (tags .entry)) (now (homes .entry)) .reply)) ⌝ }
-    ensures tags { λ r. ⌜ now (tags .exit) ≡ freshCall (now (glyphs .entry)) (now (tags .entry)) (now (homes .entry)) .tags ⌝ }
-    ensures homes { λ r. ⌜ now (homes .exit) ≡ freshCall (now (glyphs .entry)) (now (tags .entry)) (now (homes .entry)) .homes ⌝ }
-    ensures used { λ r. ⌜ now (used .exit) ≡ freshUsed (freshCall (now (glyphs .entry)) (now (tags .entry)) (now (homes .entry)) .reply) (now (used .entry)) ⌝ }
+    ensures tags { λ _. ⌜ now (tags .exit) ≡ freshCall (now (glyphs .entry)) (now (tags .entry)) (now (homes .entry)) .tags ⌝ }
+    ensures homes { λ _. ⌜ now (homes .exit) ≡ freshCall (now (glyphs .entry)) (now (tags .entry)) (now (homes .entry)) .homes ⌝ }
+    ensures used { λ _. ⌜ now (used .exit) ≡ freshUsed (freshCall (now (glyphs .entry)) (now (tags .entry)) (now (homes .entry)) .reply) (now (used .entry)) ⌝ }
 {
     let reply = line::fresh(glyphs, tags, homes);
     match reply {
@@ -147,8 +147,8 @@ pub extern "C" fn aat_verb(
     end: usize,
 ) -> u32
     ensures answer { λ r. ⌜ r ≡ numberOf (verbCall (lineOf (now (glyphs .entry)) (now (tags .entry)) (now (homes .entry)) used) verb start end .answer) ⌝ }
-    ensures glyphs { λ r. ⌜ now (glyphs .exit) ≡ verbCall (lineOf (now (glyphs .entry)) (now (tags .entry)) (now (homes .entry)) used) verb start end .line .glyphs ⌝ }
-    ensures tags { λ r. ⌜ now (tags .exit) ≡ verbCall (lineOf (now (glyphs .entry)) (now (tags .entry)) (now (homes .entry)) used) verb start end .line .tags ⌝ }
+    ensures glyphs { λ _. ⌜ now (glyphs .exit) ≡ verbCall (lineOf (now (glyphs .entry)) (now (tags .entry)) (now (homes .entry)) used) verb start end .line .glyphs ⌝ }
+    ensures tags { λ _. ⌜ now (tags .exit) ≡ verbCall (lineOf (now (glyphs .entry)) (now (tags .entry)) (now (homes .entry)) used) verb start end .line .tags ⌝ }
 {
     answers::number(line::lone_verb(glyphs, tags, homes, used, verb, start, end))
 }
@@ -164,8 +164,8 @@ pub extern "C" fn aat_rearrangement_pass(
     used: usize,
 ) -> u32
     ensures answer { λ r. ⌜ r ≡ numberOf (rearranging (now (table .entry)) start (lineOf (now (glyphs .entry)) (now (tags .entry)) (now (homes .entry)) used) .answer) ⌝ }
-    ensures glyphs { λ r. ⌜ now (glyphs .exit) ≡ rearrangingLeaves (now (table .entry)) start (lineOf (now (glyphs .entry)) (now (tags .entry)) (now (homes .entry)) used) .glyphs ⌝ }
-    ensures tags { λ r. ⌜ now (tags .exit) ≡ rearrangingLeaves (now (table .entry)) start (lineOf (now (glyphs .entry)) (now (tags .entry)) (now (homes .entry)) used) .tags ⌝ }
+    ensures glyphs { λ _. ⌜ now (glyphs .exit) ≡ rearrangingLeaves (now (table .entry)) start (lineOf (now (glyphs .entry)) (now (tags .entry)) (now (homes .entry)) used) .glyphs ⌝ }
+    ensures tags { λ _. ⌜ now (tags .exit) ≡ rearrangingLeaves (now (table .entry)) start (lineOf (now (glyphs .entry)) (now (tags .entry)) (now (homes .entry)) used) .tags ⌝ }
 {
     answers::number(rearrangement::pass(table, start, glyphs, tags, homes, used))
 }
@@ -181,7 +181,7 @@ pub extern "C" fn aat_noncontextual_pass(
     used: usize,
 ) -> u32
     ensures answer { λ r. ⌜ r ≡ numberOf (replacing (now (table .entry)) start (lineOf (now (glyphs .entry)) (now (tags .entry)) (now (homes .entry)) used) .answer) ⌝ }
-    ensures glyphs { λ r. ⌜ now (glyphs .exit) ≡ replacingLeaves (now (table .entry)) start (lineOf (now (glyphs .entry)) (now (tags .entry)) (now (homes .entry)) used) .glyphs ⌝ }
+    ensures glyphs { λ _. ⌜ now (glyphs .exit) ≡ replacingLeaves (now (table .entry)) start (lineOf (now (glyphs .entry)) (now (tags .entry)) (now (homes .entry)) used) .glyphs ⌝ }
 {
     answers::number(noncontextual::pass(table, start, glyphs, tags, homes, used))
 }
@@ -197,7 +197,7 @@ pub extern "C" fn aat_contextual_pass(
     used: usize,
 ) -> u32
     ensures answer { λ r. ⌜ r ≡ numberOf (contextual (now (table .entry)) start (lineOf (now (glyphs .entry)) (now (tags .entry)) (now (homes .entry)) used) .answer) ⌝ }
-    ensures glyphs { λ r. ⌜ now (glyphs .exit) ≡ contextualLeaves (now (table .entry)) start (lineOf (now (glyphs .entry)) (now (tags .entry)) (now (homes .entry)) used) .glyphs ⌝ }
+    ensures glyphs { λ _. ⌜ now (glyphs .exit) ≡ contextualLeaves (now (table .entry)) start (lineOf (now (glyphs .entry)) (now (tags .entry)) (now (homes .entry)) used) .glyphs ⌝ }
 {
     answers::number(contextual::pass(table, start, glyphs, tags, homes, used))
 }
@@ -213,9 +213,9 @@ pub extern "C" fn aat_insertion_pass(
     used: &mut usize,
 ) -> u32
     ensures answer { λ r. ⌜ r ≡ numberOf (inserting (now (table .entry)) start (lineOf (now (glyphs .entry)) (now (tags .entry)) (now (homes .entry)) (now (used .entry))) .answer) ⌝ }
-    ensures glyphs { λ r. ⌜ now (glyphs .exit) ≡ insertingLeaves (now (table .entry)) start (lineOf (now (glyphs .entry)) (now (tags .entry)) (now (homes .entry)) (now (used .entry))) .glyphs ⌝ }
-    ensures tags { λ r. ⌜ now (tags .exit) ≡ insertingLeaves (now (table .entry)) start (lineOf (now (glyphs .entry)) (now (tags .entry)) (now (homes .entry)) (now (used .entry))) .tags ⌝ }
-    ensures used { λ r. ⌜ now (used .exit) ≡ insertingLeaves (now (table .entry)) start (lineOf (now (glyphs .entry)) (now (tags .entry)) (now (homes .entry)) (now (used .entry))) .used ⌝ }
+    ensures glyphs { λ _. ⌜ now (glyphs .exit) ≡ insertingLeaves (now (table .entry)) start (lineOf (now (glyphs .entry)) (now (tags .entry)) (now (homes .entry)) (now (used .entry))) .glyphs ⌝ }
+    ensures tags { λ _. ⌜ now (tags .exit) ≡ insertingLeaves (now (table .entry)) start (lineOf (now (glyphs .entry)) (now (tags .entry)) (now (homes .entry)) (now (used .entry))) .tags ⌝ }
+    ensures used { λ _. ⌜ now (used .exit) ≡ insertingLeaves (now (table .entry)) start (lineOf (now (glyphs .entry)) (now (tags .entry)) (now (homes .entry)) (now (used .entry))) .used ⌝ }
 {
     let passed = insertion::pass(table, start, glyphs, tags, homes, *used);
     *used = passed.used;
@@ -234,8 +234,8 @@ pub extern "C" fn aat_ligature_pass(
     used: usize,
 ) -> u32
     ensures answer { λ r. ⌜ r ≡ numberOf (ligating (now (table .entry)) start (lineOf (now (glyphs .entry)) (now (tags .entry)) (now (homes .entry)) used) .answer) ⌝ }
-    ensures glyphs { λ r. ⌜ now (glyphs .exit) ≡ ligatingLeaves (now (table .entry)) start (lineOf (now (glyphs .entry)) (now (tags .entry)) (now (homes .entry)) used) .glyphs ⌝ }
-    ensures homes { λ r. ⌜ now (homes .exit) ≡ ligatingLeaves (now (table .entry)) start (lineOf (now (glyphs .entry)) (now (tags .entry)) (now (homes .entry)) used) .homes ⌝ }
+    ensures glyphs { λ _. ⌜ now (glyphs .exit) ≡ ligatingLeaves (now (table .entry)) start (lineOf (now (glyphs .entry)) (now (tags .entry)) (now (homes .entry)) used) .glyphs ⌝ }
+    ensures homes { λ _. ⌜ now (homes .exit) ≡ ligatingLeaves (now (table .entry)) start (lineOf (now (glyphs .entry)) (now (tags .entry)) (now (homes .entry)) used) .homes ⌝ }
 {
     answers::number(ligature::pass(table, start, glyphs, tags, homes, used))
 }
