@@ -32,7 +32,7 @@ enum aat_answer {
     AAT_STATE = 5,   /* the state lent to a step is none that its machine can have on this line */
     AAT_HEAD = 6,    /* the start is past the table, or no state table, or subtable of the kind, can be read there */
     AAT_FULL = 7,    /* the next insertion would make the line longer than its room; what was done before it stays */
-    AAT_ENDED = 8,   /* the step or pass broke off where the table has no entry, and the slices hold what it had done by then */
+    AAT_ENDED = 8,   /* the step or pass broke off, for want of an entry, a list or a slot of the stack; what was done before stays */
     AAT_LIMIT = 9,   /* a run has counted 65,535 heads and there is another; what was done before stays */
 };
 
@@ -208,7 +208,7 @@ uint32_t aat_kerx_run(const uint8_t *table, size_t table_len, size_t start, uint
    of a pass.
    Answers of every step: AAT_DONE; AAT_ENDED, with what was done before the step broke off; AAT_TABLE, AAT_LINE; AAT_PLACE
    (index above the length); AAT_STATE (no state that the machine can have on this line); AAT_HEAD.
-   Writes of every step: state; advance, how many places to go on, and 0 on all other answers than AAT_DONE. */
+   Writes of every step: state; advance, how many places to go on, which is 0 with AAT_ENDED and AAT_FULL. */
 
 /* Rearrangement, on a line of length places. state: the state table's, the first and the last mark, and the steps in a row
    that did not advance. Writes, too: window, what aat_verb is to be called with: first and last place, and verb; 0 each
@@ -235,8 +235,8 @@ uint32_t aat_ligature_step(uint64_t state[66], const uint8_t *table, size_t tabl
 uint32_t aat_insertion_step(uint64_t state[3], const uint8_t *table, size_t table_len, size_t start, size_t length,
                             size_t room, size_t index, uint16_t glyph, uint32_t ends, size_t *advance, uint64_t edits[7]);
 
-/* Kerning by format 1 of kern or kerx, on a line of length places; it has no end of text. AAT_LINE is for a length above
-   along_len or AAT_LARGEST_ROOM, and for an adjustment beyond 2^40 in size, and AAT_HEAD for every format but 1. state: the
+/* Kerning by format 1 of kern or kerx, on a line of length places; it has no end of text. AAT_LINE is for an along_len above
+   AAT_LARGEST_ROOM or below length, and for an adjustment beyond 2^40 in size, and AAT_HEAD for every format but 1. state: the
    state table's, how many slots of the stack are used, the steps in a row that did not advance, and 8 places. Writes, too:
    along. */
 uint32_t aat_kern_step(uint64_t state[11], const uint8_t *table, size_t table_len, size_t start, uint16_t version,
