@@ -23,17 +23,17 @@ use Rattle.kern.specs.declared.List.{List as KernList}
 
 -- a lone pass
 module _ (table : List ℕ) (start version : ℕ) (l : Line) (along : List ℤ) {check : Check}
-    (e : check ≡ refuse (kerningTests (length table) l along false)) where
+    (e : check ≡ refuse (kerningTests (length table) l along)) where
   pub pass-refused : {why : Refusal} → check ≡ Refused why → Works (passCall table start version l along) along (Answer′.Refused why) along
   unfolding passCall
-  pass-refused f = call-refused (kerningTests (length table) l along false) _ along e f
+  pass-refused f = call-refused (kerningTests (length table) l along) _ along e f
 
   pub pass-passed : {bytes : List ℕ} {answer : Answer} {after : List ℤ} → check ≡ Passed → bytes ≡ drop start table
       → answer ≡ passed bytes version (l .glyphs) (l .used) .answer → after ≡ addAll (passed bytes version (l .glyphs) (l .used) .additions) along
       → Works (passCall table start version l along) along answer after
   unfolding passCall
   pass-passed f d a p =
-      call-passed (kerningTests (length table) l along false) _ along e f
+      call-passed (kerningTests (length table) l along) _ along e f
       (record {
         answers = a ∙ ap (λ (x : List ℕ). passed x version (l .glyphs) (l .used) .answer) d;
         leaves = p ∙ ap (λ (x : List ℕ). addAll (passed x version (l .glyphs) (l .used) .additions) along) d;

@@ -294,7 +294,6 @@ pub fn pass(
         homes,
         used,
         along,
-        false,
     ) {
         return Answer::Refused(why);
     }

@@ -8,11 +8,10 @@ use kerning_machine::Reading;
 use state_tables::Made;
 ghost use mathlib.Core.Path.{_≡_};
 ghost use Prim.Native.Nat.{_<_, _≤_, _^_};
-ghost use lib.ListN.{length, drop};
+ghost use lib.ListN.{length};
 ghost use Rattle.answers.specs.Limits.{room};
-ghost use Rattle.line.specs.Line.{lineOf};
 ghost use Rattle.kerning.specs.Additions.{addAll, Within};
-ghost use Rattle.kern_machine.specs.Machine.{headSize, formatOf, isCrossed, opened, worked, passCall, stepCall};
+ghost use Rattle.kern_machine.specs.Machine.{headSize, formatOf, isCrossed, opened, worked, stepCall};
 
 // The format of this machine.
 pub const FORMAT: u16 = 1;
@@ -85,34 +84,6 @@ pub fn work(bytes: &[u8], version: u16, glyphs: &[u16], used: usize, along: &mut
         parse::from(bytes, head_size(version) as usize),
         machine,
         glyphs,
-        used,
-        along,
-    )
-}
-
-// The pass over a line, by the subtable at `start` of a list of this version.
-pub fn pass(
-    table: &[u8],
-    start: usize,
-    version: u16,
-    glyphs: &[u16],
-    tags: &[u16],
-    homes: &[u16],
-    used: usize,
-    along: &mut [i64],
-) -> Answer
-    ensures answer { λ r. ⌜ r ≡ passCall (now (table .entry)) start version (lineOf (now (glyphs .entry)) (now (tags .entry)) (now (homes .entry)) used) (now (along .entry)) .answer ⌝ }
-    ensures along { λ _. ⌜ now (along .exit) ≡ addAll (passCall (now (table .entry)) start version (lineOf (now (glyphs .entry)) (now (tags .entry)) (now (homes .entry)) used) (now (along .entry)) .additions) (now (along .entry)) ⌝ }
-{
-    let bytes = parse::from(table, start);
-    let machine = open(bytes, version);
-    kerning_machine::pass(
-        table.len(),
-        parse::from(bytes, head_size(version) as usize),
-        machine,
-        glyphs,
-        tags,
-        homes,
         used,
         along,
     )

@@ -1,24 +1,23 @@
 -- The tests of a lone pass, from what the code has tested; and what a line and adjustments have that they take.
 use Prim.Native.Nat.{ℕ}
-use mathlib.Core.Path.{_≡_, refl, sym, _∙_, ap}
+use mathlib.Core.Path.{_≡_, sym, _∙_, ap}
 use mathlib.Core.Bool.{Bool, true, false, not}
 use mathlib.Core.List.{List, [], _∷_}
 use lib.Dec.{eqb}
 use lib.IntN.{ℤ}
 use lib.ListN.{length}
 use borrow.Author.Tests.{not-false, eqb-true}
-use Rattle.laws.specs.Lists.{both}
 use Rattle.laws.proofs.Lists.{both-left, both-right}
 use Rattle.answers.proofs.Refusals.{refuse-none, refuse-here, refuse-later, passed-here, passed-later, alone-refused, alone-passed}
-use Rattle.answers.specs.Refuse.{Test, refuse, tableTest}
+use Rattle.answers.specs.Refuse.{refuse, tableTest}
 use Rattle.answers.specs.declared.Refusal.{Refusal}
 use Rattle.answers.specs.declared.Refusal.the-variants as Refusal′
 use Rattle.answers.specs.declared.Check.{Check}
 use Rattle.answers.specs.declared.Check.the-variants.{Passed, Refused}
-use Rattle.line.specs.Line.{Line, Valid}
+use Rattle.line.specs.Line.{Line}
 use Rattle.line.specs.Test.{isValid}
 use Rattle.line.proofs.Exact.{valid-of}
-use Rattle.kerning.specs.Line.{isModest, isKernable, isTaken, takenTest, kernableTest, headTest, kerningTests, Kernable, Taken}
+use Rattle.kerning.specs.Line.{isModest, isKernable, isTaken, takenTest, kerningTests, Kernable, Taken}
 use Rattle.kerning.proofs.Scans.{modest-within}
 
 pub kernable-of : (l : Line) (along : List ℤ) → isKernable l along ≡ true → Kernable l along
@@ -34,37 +33,25 @@ taken-of l along e =
       modest = modest-within along (both-right (isKernable l along) (isModest along) e);
     }
 
-module _ (n : ℕ) (l : Line) (along : List ℤ) (headless : Bool) {r : Check} (e : r ≡ refuse (tableTest n ∷ [])) where
-  pub pass-table : {why : Refusal} → r ≡ Refused why → Refused why ≡ refuse (kerningTests n l along headless)
+module _ (n : ℕ) (l : Line) (along : List ℤ) {r : Check} (e : r ≡ refuse (tableTest n ∷ [])) where
+  pub pass-table : {why : Refusal} → r ≡ Refused why → Refused why ≡ refuse (kerningTests n l along)
   unfolding kerningTests
-  pass-table {why} f = sym (alone-refused (tableTest n) (takenTest l along ∷ headTest headless ∷ []) why (sym e ∙ f))
+  pass-table {why} f = sym (alone-refused (tableTest n) (takenTest l along ∷ []) why (sym e ∙ f))
 
-  past-table : r ≡ Passed → refuse (kerningTests n l along headless) ≡ refuse (takenTest l along ∷ headTest headless ∷ [])
+  past-table : r ≡ Passed → refuse (kerningTests n l along) ≡ refuse (takenTest l along ∷ [])
   unfolding kerningTests
-  past-table f = alone-passed (tableTest n) (takenTest l along ∷ headTest headless ∷ []) (sym e ∙ f)
+  past-table f = alone-passed (tableTest n) (takenTest l along ∷ []) (sym e ∙ f)
 
   module _ {taken : Bool} (f : r ≡ Passed) (t : taken ≡ isTaken l along) where
-    pub pass-line : not taken ≡ true → Refused Refusal′.Line ≡ refuse (kerningTests n l along headless)
+    pub pass-line : not taken ≡ true → Refused Refusal′.Line ≡ refuse (kerningTests n l along)
     unfolding takenTest
-    pass-line h = sym (past-table f ∙ refuse-here (takenTest l along) (headTest headless ∷ []) (ap not (sym t) ∙ h))
+    pass-line h = sym (past-table f ∙ refuse-here (takenTest l along) [] (ap not (sym t) ∙ h))
 
-    past-line : not taken ≡ false → refuse (kerningTests n l along headless) ≡ refuse (headTest headless ∷ [])
+    pub pass-all : not taken ≡ false → Passed ≡ refuse (kerningTests n l along)
     unfolding takenTest
-    past-line h = past-table f ∙ refuse-later (takenTest l along) (headTest headless ∷ []) (ap not (sym t) ∙ h)
-
-    pub pass-head : not taken ≡ false → headless ≡ true → Refused Refusal′.Head ≡ refuse (kerningTests n l along headless)
-    pass-head h k = sym (past-line h ∙ refuse-here (headTest headless) [] k)
-
-    pub pass-all : not taken ≡ false → headless ≡ false → Passed ≡ refuse (kerningTests n l along headless)
-    pass-all h k = sym (past-line h ∙ refuse-later (headTest headless) [] k ∙ refuse-none)
+    pass-all h = sym (past-table f ∙ refuse-later (takenTest l along) [] (ap not (sym t) ∙ h) ∙ refuse-none)
 
 -- what a call that passes them has
-pub taken-pass : (n : ℕ) (l : Line) (along : List ℤ) (headless : Bool) → refuse (kerningTests n l along headless) ≡ Passed → Taken l along
+pub taken-pass : (n : ℕ) (l : Line) (along : List ℤ) → refuse (kerningTests n l along) ≡ Passed → Taken l along
 unfolding kerningTests takenTest
-taken-pass n l along headless e =
-    taken-of l along (not-false _ (passed-here (takenTest l along) (headTest headless ∷ []) (passed-later (tableTest n) (takenTest l along ∷ headTest headless ∷ []) e)))
-
-pub headed-pass : (n : ℕ) (l : Line) (along : List ℤ) (headless : Bool) → refuse (kerningTests n l along headless) ≡ Passed → headless ≡ false
-unfolding kerningTests
-headed-pass n l along headless e =
-    passed-here (headTest headless) [] (passed-later (takenTest l along) (headTest headless ∷ []) (passed-later (tableTest n) (takenTest l along ∷ headTest headless ∷ []) e))
+taken-pass n l along e = taken-of l along (not-false _ (passed-here (takenTest l along) [] (passed-later (tableTest n) (takenTest l along ∷ []) e)))

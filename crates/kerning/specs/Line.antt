@@ -1,5 +1,5 @@
 -- The LINE test of kerning calls, and the tests of a lone pass.
-use Prim.Native.Nat.{ℕ, _≤_}
+use Prim.Native.Nat.{ℕ}
 use mathlib.Core.Bool.{Bool, not}
 use mathlib.Core.Path.{_≡_}
 use mathlib.Core.List.{List, [], _∷_}
@@ -37,13 +37,9 @@ kernableTest l along = record { holds = not (isKernable l along); refusal = Refu
 unfoldable pub takenTest : Line → List ℤ → Test
 takenTest l along = record { holds = not (isTaken l along); refusal = Refusal′.Line }
 
--- HEAD
-abbrev pub headTest : Bool → Test
-headTest headless = record { holds = headless; refusal = Refusal′.Head }
-
--- the tests of a lone pass: TABLE, LINE, HEAD
-unfoldable pub kerningTests : (tableLength : ℕ) → Line → List ℤ → (headless : Bool) → List Test
-kerningTests tableLength l along headless = tableTest tableLength ∷ takenTest l along ∷ headTest headless ∷ []
+-- the tests of a lone pass: TABLE, LINE; HEAD is an answer of the pass
+unfoldable pub kerningTests : (tableLength : ℕ) → Line → List ℤ → List Test
+kerningTests tableLength l along = tableTest tableLength ∷ takenTest l along ∷ []
 
 -- what a line and adjustments are that a run takes
 pub record Kernable (l : Line) (along : List ℤ) : Type 0 where

@@ -80,7 +80,7 @@ pub fn takes(glyphs: &[u16], tags: &[u16], homes: &[u16], used: usize, along: &[
     modest(along)
 }
 
-// The tests before a lone pass: TABLE, LINE, HEAD.
+// The tests before a lone pass: TABLE, LINE. HEAD is an answer of the pass.
 pub fn refuse_pass(
     length: usize,
     glyphs: &[u16],
@@ -88,18 +88,14 @@ pub fn refuse_pass(
     homes: &[u16],
     used: usize,
     along: &[i64],
-    headless: bool,
 ) -> Check
-    ensures { λ r. ⌜ r ≡ refuse (kerningTests length (lineOf (now (glyphs .entry)) (now (tags .entry)) (now (homes .entry)) used) (now (along .entry)) headless) ⌝ }
+    ensures { λ r. ⌜ r ≡ refuse (kerningTests length (lineOf (now (glyphs .entry)) (now (tags .entry)) (now (homes .entry)) used) (now (along .entry))) ⌝ }
 {
     if let Check::Refused(why) = answers::refuse_table(length) {
         return Check::Refused(why);
     }
     if !takes(glyphs, tags, homes, used, along) {
         return Check::Refused(Refusal::Line);
-    }
-    if headless {
-        return Check::Refused(Refusal::Head);
     }
     Check::Passed
 }

@@ -47,10 +47,10 @@ run-ready n start glyphs tags homes used along e f =
     let l : Line = lineOf glyphs tags homes used in
     ready-of glyphs tags homes used along (kernable-of l along (passed-kernable n start l along (sym e ∙ f)))
 
-module _ (n : ℕ) (glyphs tags homes : List ℕ) (used : ℕ) (along : List ℤ) (headless : Bool) {check : Check}
-    (e : check ≡ refuse (kerningTests n (lineOf glyphs tags homes used) along headless)) (f : check ≡ Passed) where
+module _ (n : ℕ) (glyphs tags homes : List ℕ) (used : ℕ) (along : List ℤ) {check : Check}
+    (e : check ≡ refuse (kerningTests n (lineOf glyphs tags homes used) along)) (f : check ≡ Passed) where
   taken : Taken (lineOf glyphs tags homes used) along
-  taken = taken-pass n (lineOf glyphs tags homes used) along headless (sym e ∙ f)
+  taken = taken-pass n (lineOf glyphs tags homes used) along (sym e ∙ f)
 
   pub pass-ready : Ready glyphs tags used along
   pass-ready = ready-of glyphs tags homes used along (taken .kernable)

@@ -15,7 +15,6 @@ use Rattle.answers.specs.declared.Answer.the-variants as Answer′
 use Rattle.answers.specs.declared.Refusal.the-variants as Refusal′
 use Rattle.answers.specs.declared.Check.{Check}
 use Rattle.answers.specs.declared.Check.the-variants as Check′
-use Rattle.state_tables.specs.declared.States.{States}
 use Rattle.state_tables.specs.declared.entries.Entry.{Entry}
 use Rattle.state_tables.specs.Classes.{classOf}
 use Rattle.state_tables.specs.Entries.{entryOf, onEntry}
@@ -23,8 +22,8 @@ use Rattle.line.specs.Line.{Line}
 use Rattle.laws.specs.Bits.{isSet}
 use Rattle.machine.specs.Stall.{stalled}
 use Rattle.machine.specs.Pass.{isDone}
-use Rattle.kerning.specs.Additions.{Addition, Kerned, after, nothingAdded, calledBy}
-use Rattle.kerning.specs.Line.{isModest, headTest, kerningTests}
+use Rattle.kerning.specs.Additions.{Addition, Kerned, after, nothingAdded}
+use Rattle.kerning.specs.Line.{isModest}
 use Rattle.kerning.specs.Lists.{Walk, leaves, walk}
 use Rattle.kerning.specs.declared.lists.Rule.{Rule}
 use Rattle.kerning.specs.declared.lists.Rule.the-variants.{Odd, Never}
@@ -211,11 +210,6 @@ unfoldable pub worked : List ℕ → Opened → (glyphs : List ℕ) → (used : 
 worked bytes (Opened′.Ready kerning) glyphs used = passed bytes kerning glyphs used
 worked bytes Opened′.Short glyphs used = nothingAdded (Answer′.Refused Refusal′.Head)
 
--- a lone pass: TABLE, LINE, HEAD, then the pass
-unfoldable pub passCall : (tableLength : ℕ) → List ℕ → Opened → Line → List ℤ → Kerned
-passCall tableLength bytes opened l along =
-    calledBy (refuse (kerningTests tableLength l along (isShort opened))) (worked bytes opened (l .glyphs) (l .used))
-
 -- every used slot's place is within the line or just behind it
 unfoldable pub areWithin : (stack : List ℕ) → (depth used : ℕ) → Bool
 areWithin stack depth used = every (λ k. leb (getD stack k 0) used) depth
@@ -233,7 +227,7 @@ laterTests used index s along headless =
     ∷ record { holds = ltb 8 (s .depth); refusal = Refusal′.State }
     ∷ record { holds = not (areWithin (s .stack) (s .depth) used); refusal = Refusal′.State }
     ∷ record { holds = ltb 17 (s .cycles); refusal = Refusal′.State }
-    ∷ headTest headless
+    ∷ record { holds = headless; refusal = Refusal′.Head }
     ∷ []
 
 unfoldable pub stepTests : (tableLength used index : ℕ) → KerningState → List ℤ → (headless : Bool) → List Test

@@ -16,9 +16,8 @@ ghost use lib.ListN.{length};
 ghost use Rattle.answers.specs.Limits.{room};
 ghost use Rattle.answers.specs.Refuse.{refuse};
 ghost use Rattle.answers.specs.declared.Answer.the-variants.{Ended};
-ghost use Rattle.line.specs.Line.{lineOf};
 ghost use Rattle.kerning.specs.Additions.{addAll, Within};
-ghost use Rattle.kerning_machine.specs.Machine.{fresh, payloadOf, ruleOf, sizeOf, strideOf, kernStart, kerxStart, ordersOf, standing, stepOf, isFull, stacked, stopped, settled, followed, acted, next, passed, isRoomy, isShort, areWithin, stepTests, stepCall, worked, passCall};
+ghost use Rattle.kerning_machine.specs.Machine.{fresh, payloadOf, ruleOf, sizeOf, strideOf, kernStart, kerxStart, ordersOf, standing, stepOf, isFull, stacked, stopped, settled, followed, acted, next, passed, isRoomy, isShort, areWithin, stepTests, stepCall, worked};
 
 // How a machine reads its entries: kern's flags hold where the list begins, and its subtable may go across the stream; kerx's entries hold
 // an index, which counts from the value table in tuples.
@@ -559,33 +558,4 @@ pub fn work(bytes: &[u8], opened: Opened, glyphs: &[u16], used: usize, along: &m
         return Answer::Refused(Refusal::Head);
     };
     pass_line(bytes, kerning, glyphs, used, along)
-}
-
-// A lone pass, by what a head gives and the bytes from the state table on.
-pub fn pass(
-    table_length: usize,
-    bytes: &[u8],
-    opened: Opened,
-    glyphs: &[u16],
-    tags: &[u16],
-    homes: &[u16],
-    used: usize,
-    along: &mut [i64],
-) -> Answer
-    ensures answer { λ r. ⌜ r ≡ passCall «table_length» (now (bytes .entry)) opened (lineOf (now (glyphs .entry)) (now (tags .entry)) (now (homes .entry)) used) (now (along .entry)) .answer ⌝ }
-    ensures along { λ _. ⌜ now (along .exit) ≡ addAll (passCall «table_length» (now (bytes .entry)) opened (lineOf (now (glyphs .entry)) (now (tags .entry)) (now (homes .entry)) used) (now (along .entry)) .additions) (now (along .entry)) ⌝ }
-{
-    let headless = is_short(opened);
-    if let Check::Refused(why) = kerning::refuse_pass(
-        table_length,
-        glyphs,
-        tags,
-        homes,
-        used,
-        along,
-        headless,
-    ) {
-        return Answer::Refused(why);
-    }
-    work(bytes, opened, glyphs, used, along)
 }

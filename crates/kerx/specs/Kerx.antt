@@ -37,7 +37,7 @@ passed bytes version glyphs used =
 -- a call of it: TABLE and LINE are tested before; HEAD is the pass's own answer
 unfoldable pub passCall : List ℕ → (start version : ℕ) → Line → List ℤ → Kerned
 passCall table start version l along =
-    calledBy (refuse (kerningTests (length table) l along false)) (passed (drop start table) version (l .glyphs) (l .used))
+    calledBy (refuse (kerningTests (length table) l along)) (passed (drop start table) version (l .glyphs) (l .used))
 
 -- the answer for a pair of glyphs: HEAD where the head can't be read or the format has no pairs
 unfoldable pub pairIn : List ℕ → (version left right : ℕ) → PairReply

@@ -340,7 +340,6 @@ pub fn pass(
         homes,
         used,
         along,
-        false,
     ) {
         return Answer::Refused(why);
     }

@@ -1,8 +1,6 @@
 -- kerx format 1: the head of its subtable, and its pass and step.
 use Prim.Native.Nat.{ℕ, _%_}
-use mathlib.Core.Bool.{Bool, cond}
 use mathlib.Core.List.{List}
-use lib.Dec.{eqb}
 use lib.IntN.{ℤ}
 use lib.ListN.{length, drop}
 use Rattle.laws.specs.Choose.{ifLt, ifEq}
@@ -14,7 +12,6 @@ use Rattle.state_tables.specs.declared.States.{States}
 use Rattle.state_tables.specs.declared.Made.{Made}
 use Rattle.state_tables.specs.declared.Made.the-variants as Made′
 use Rattle.state_tables.specs.States.{extendedAt}
-use Rattle.line.specs.Line.{Line}
 use Rattle.kerning.specs.Additions.{Kerned}
 use Rattle.kerning_machine.specs.Machine as Kerning′
 use Rattle.kerning_machine.specs.Machine.{Stepped}
@@ -49,11 +46,6 @@ opened bytes version =
 -- the pass by the subtable whose bytes begin at its head
 unfoldable pub worked : List ℕ → (version : ℕ) → (glyphs : List ℕ) → (used : ℕ) → Kerned
 worked bytes version glyphs used = Kerning′.worked (bodyOf bytes) (opened bytes version) glyphs used
-
--- a lone pass by the subtable at `start`: TABLE, LINE, HEAD, then the pass
-unfoldable pub passCall : List ℕ → (start version : ℕ) → Line → List ℤ → Kerned
-passCall table start version l along =
-    Kerning′.passCall (length table) (bodyOf (drop start table)) (opened (drop start table) version) l along
 
 -- a lone step by the subtable at `start`
 unfoldable pub stepCall : List ℕ → (start version : ℕ) → KerningState → (used index glyph : ℕ) → List ℤ → Stepped

@@ -1,4 +1,4 @@
-use Rattle.kerning.proofs.Calls.{pass-table, pass-line, pass-head, pass-all}
+use Rattle.kerning.proofs.Calls.{pass-table, pass-line, pass-all}
 use borrow.Author.Needs.{needs}
 use Rattle.kerning.proofs.refuse_pass.Statement.{statement}
 use Rattle.kerning.proofs.refuse_pass.Tie as tie
@@ -22,10 +22,7 @@ returns-2 : tie.Need-returns-2
 returns-2 c = search pass-line
 
 returns-3 : tie.Need-returns-3
-returns-3 c = search pass-head
-
-returns-4 : tie.Need-returns-4
-returns-4 c = search pass-all
+returns-3 c = search pass-all
 
 pub refuse-pass-spec : {M : Type 1} → statement M
 refuse-pass-spec =
@@ -37,5 +34,4 @@ refuse-pass-spec =
     enum-told
     takes-requires
     returns-2
-    returns-3
-    returns-4)
+    returns-3)

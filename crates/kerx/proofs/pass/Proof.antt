@@ -24,7 +24,7 @@ from-requires : tie.Need-from-requires
 from-requires c κs = search needs
 
 pass-in-requires : tie.Need-pass-in-requires
-pass-in-requires c κs = let r = pass-ready _ _ _ _ _ _ _ (c .before .before .before .before .refuse-pass .ensures) (c .before .before .enum-told .given .1) in (r .inside, r .long, r .limited, pass-modest _ _ _ _ _ _ _ (c .before .before .before .before .refuse-pass .ensures) (c .before .before .enum-told .given .1))
+pass-in-requires c κs = let r = pass-ready _ _ _ _ _ _ (c .before .before .before .before .refuse-pass .ensures) (c .before .before .enum-told .given .1) in (r .inside, r .long, r .limited, pass-modest _ _ _ _ _ _ (c .before .before .before .before .refuse-pass .ensures) (c .before .before .enum-told .given .1))
 
 same-length-2 : tie.Need-same-length-2
 same-length-2 c = search needs
