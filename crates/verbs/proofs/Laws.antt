@@ -14,7 +14,7 @@ use Rattle.verbs.specs.declared.Group.the-variants.{Absent, One, Two, Fl
 use Rattle.verbs.specs.declared.Groups.{Groups}
 use Rattle.verbs.specs.Verbs.{sizeOf, turned, moves, table, groupsOf, across, moved, placeOf, fromOf, rearranged}
 
-turned-below : (g : Group) (r : ℕ) → r < sizeOf g → turned g r < sizeOf g
+pub turned-below : (g : Group) (r : ℕ) → r < sizeOf g → turned g r < sizeOf g
 turned-below Absent r h = h
 turned-below One r h = h
 turned-below Two r h = h

@@ -1,3 +1,4 @@
 -- Laws that the proofs of this crate and of those above cite.
 pub mod Laws
 mod Steps
+pub mod Drawing

@@ -87,7 +87,7 @@ put-down Two xs from at i k n h p q = of-two xs at k _ _ n (λ e. omega arith) (
 put-down Flipped xs from at i k n h p q = of-two xs at k _ _ n (λ e. omega arith) (λ ne. omega (arith, ne))
 
 -- each place holds what stood where `from` says
-took : (from : ℕ → ℕ) (xs ys : List ℕ) → length ys ≡ length xs → ((k : ℕ) → getD ys k 0 ≡ getD xs (from k) 0) → ys ≡ taken from xs
+pub took : (from : ℕ → ℕ) (xs ys : List ℕ) → length ys ≡ length xs → ((k : ℕ) → getD ys k 0 ≡ getD xs (from k) 0) → ys ≡ taken from xs
 took from xs ys long each =
     ext-getD 0 ys (taken from xs) (long ∙ sym (length-tab _ (length xs))) (λ k h. each k ∙ sym (getD-tab _ (length xs) k 0 (rw (← long) h)))
 

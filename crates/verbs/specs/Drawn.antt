@@ -1,11 +1,9 @@
--- Document 01's table of verbs as it is drawn, and that the verbs do so.
+-- Document 01's table of verbs as it is drawn, and the statement that the verbs do so.
 use Prim.Native.Nat.{ℕ, _<_}
-use mathlib.Core.Path.{_≡_, refl, _∙_, ap, sym}
+use mathlib.Core.Path.{_≡_}
 use mathlib.Core.List.{List, [], _∷_, _++_}
 use lib.ListN.{length, getD}
-use Rattle.laws.specs.Lists.{tab}
-use Rattle.laws.proofs.Lists.{getD-tab}
-use Rattle.verbs.specs.Verbs.{groupsOf, across, moved, fromOf, rearranged}
+use Rattle.verbs.specs.Verbs.{rearranged}
 
 -- a window before and after each verb
 abbrev pub drawn : (A B x C D : List ℕ) → List (List ℕ × List ℕ)
@@ -28,18 +26,14 @@ drawn A B x C D =
     ∷ (A ++ B ++ x ++ C ++ D, D ++ C ++ x ++ B ++ A)
     ∷ []
 
--- any four glyphs, and any two between them
-module _ (a b x y c d : ℕ) where
-  abbrev before : ℕ → List ℕ
-  before verb = getD (drawn (a ∷ []) (b ∷ []) (x ∷ y ∷ []) (c ∷ []) (d ∷ [])) verb ([], []) .0
+-- any four glyphs, and any list between them
+module _ (a b : ℕ) (x : List ℕ) (c d : ℕ) where
+  abbrev pub before : ℕ → List ℕ
+  before verb = getD (drawn (a ∷ []) (b ∷ []) x (c ∷ []) (d ∷ [])) verb ([], []) .0
 
-  abbrev after : ℕ → List ℕ
-  after verb = getD (drawn (a ∷ []) (b ∷ []) (x ∷ y ∷ []) (c ∷ []) (d ∷ [])) verb ([], []) .1
+  abbrev pub after : ℕ → List ℕ
+  after verb = getD (drawn (a ∷ []) (b ∷ []) x (c ∷ []) (d ∷ [])) verb ([], []) .1
 
-  all-drawn : tab (λ verb. rearranged verb (length (before verb)) (before verb)) 16 ≡ tab after 16
-  unfolding tab rearranged fromOf moved across groupsOf
-  all-drawn = refl
-
-  -- each verb makes of its window what is drawn
-  pub as-drawn : (verb : ℕ) → verb < 16 → rearranged verb (length (before verb)) (before verb) ≡ after verb
-  as-drawn verb h = sym (getD-tab _ 16 verb [] h) ∙ ap (λ (t : List (List ℕ)). getD t verb []) all-drawn ∙ getD-tab after 16 verb [] h
+  -- every verb makes of its window what is drawn, whatever stands behind it
+  abbrev pub AsDrawn : Type 0
+  AsDrawn = (verb : ℕ) (rest : List ℕ) → verb < 16 → rearranged verb (length (before verb)) (before verb ++ rest) ≡ after verb ++ rest
