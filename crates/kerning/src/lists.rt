@@ -85,14 +85,14 @@ pub fn walk(
     rule: Rule,
     stride: usize,
     place: usize,
-    stack: [usize; 8],
+    stack: &[usize; 8],
     depth: usize,
     used: usize,
     along: &mut [i64],
 ) -> Walked
     requires { ⌜ (stride ≤ 2 ^ 40) × (depth ≤ 8) × (used ≤ length (now along)) × Within (2 ^ 61) (now along) ⌝ }
-    ensures left { λ r. ⌜ r ≡ walk (now (bytes .entry)) rule stride stack used depth place .left ⌝ }
-    ensures along { λ _. ⌜ now (along .exit) ≡ addAll (walk (now (bytes .entry)) rule stride stack used depth place .additions) (now (along .entry)) ⌝ }
+    ensures left { λ r. ⌜ r ≡ walk (now (bytes .entry)) rule stride (now (stack .entry)) used depth place .left ⌝ }
+    ensures along { λ _. ⌜ now (along .exit) ≡ addAll (walk (now (bytes .entry)) rule stride (now (stack .entry)) used depth place .additions) (now (along .entry)) ⌝ }
 {
     let mut next = place;
     let mut left = depth;

@@ -11,6 +11,7 @@ use Rattle.state_tables.specs.declared.entries.Entered.{Entered}
 use Rattle.state_tables.specs.declared.entries.Entered.the-variants as Entered′
 use Rattle.state_tables.specs.Classes.{classOf}
 use Rattle.state_tables.specs.Entries.{entryOf, onEntry}
+use Rattle.machine.specs.Pass.{isDone}
 use Rattle.kerning.specs.Additions.{Addition, addAll}
 use Rattle.kerning.specs.Lists.{Walk}
 use Rattle.kerning.specs.declared.lists.Walked.{Walked}
@@ -20,7 +21,7 @@ use Rattle.kerning_machine.specs.declared.Orders.{Orders}
 use Rattle.kerning_machine.specs.declared.Kerning.{Kerning}
 use Rattle.kerning_machine.specs.declared.KerningState.{KerningState}
 use Rattle.kerning_machine.specs.declared.KerningStep.{KerningStep}
-use Rattle.kerning_machine.specs.Machine.{standing, isFull, popped, stacked, stopped, settled, followed, Stepped, listed, entered, acted, payloadOf, ordersOf, next}
+use Rattle.kerning_machine.specs.Machine.{standing, isFull, popped, stacked, stopped, settled, followed, Stepped, behind, listed, entered, acted, payloadOf, ordersOf, next}
 use Rattle.kerning_machine.proofs.Readings.{room-left}
 
 -- the code's step and adjustments are those of a definition
@@ -47,55 +48,58 @@ pub act-deep : (orders : Orders) (stack : List ℕ) (depth index : ℕ) {stack�
 act-deep orders stack depth index k f g =
     subst⁻¹ (λ (x : KerningState). x .depth ≤ 8) (g 0 0) (stacked-deep (standing 0 stack depth 0) (orders .pushes) (orders .clears) index k f)
 
-module _ (bytes : List ℕ) (reading : Reading) (orders : Orders) (stack : List ℕ) (depth cycles used index : ℕ) (along : List ℤ) {full : Bool}
+module _ (bytes : List ℕ) (reading : Reading) (orders : Orders) (stack : List ℕ) (depth used index : ℕ) (along : List ℤ) {full : Bool}
     (f : full ≡ isFull (orders .pushes) depth) where
-  abbrev led : KerningState
-  led = standing (orders .state) stack depth cycles
+  abbrev led : ℕ → KerningState
+  led cycles = standing (orders .state) stack depth cycles
 
-  pub act-full : {step : KerningStep} → full ≡ true → step ≡ stopped led Answer′.Ended → Does (acted bytes reading led orders used index) along step along
-  unfolding acted
-  act-full h g =
+  -- what the push and the list leave is what the entry does, however many steps in a row did not advance
+  pub record Acts (walked : Walked) (stack′ : List ℕ) (along′ : List ℤ) : Type 0 where
+    pub steps : (cycles : ℕ) → behind orders (standing (orders .state) stack′ (walked .depth) cycles) walked ≡ acted bytes reading (led cycles) orders used index .step
+    pub leaves : (cycles : ℕ) → along′ ≡ addAll (acted bytes reading (led cycles) orders used index .additions) along
+
+  pub act-full : full ≡ true → Acts (record { ended = true; depth = depth }) stack along
+  unfolding acted behind
+  act-full h =
       record {
-        steps = g ∙ rw (sym f ∙ h, acted);
-        leaves = sym (ap (λ (xs : List Addition). addAll xs along) (rw (sym f ∙ h, acted)) ∙ addAll-none along);
+        steps = λ cycles. rw (sym f ∙ h, acted);
+        leaves = λ cycles. sym (ap (λ (xs : List Addition). addAll xs along) (rw (sym f ∙ h, acted)) ∙ addAll-none along);
       }
 
   module _ {stack′ : List ℕ} {deep : ℕ} (h : full ≡ false)
       (g : (state cycles : ℕ) → standing state stack′ deep cycles ≡ stacked (standing state stack depth cycles) (orders .pushes) (orders .clears) index) where
-    abbrev on : KerningState
-    on = standing (orders .state) stack′ deep cycles
-
     abbrev list : Walk
     list = followed bytes reading (orders .start) stack′ deep used
 
-    acts : acted bytes reading led orders used index ≡ listed orders on list
+    acts : (cycles : ℕ) → acted bytes reading (led cycles) orders used index ≡ listed orders (standing (orders .state) stack′ deep cycles) list
     unfolding acted
-    acts =
+    acts cycles =
         rw (sym f ∙ h, acted)
         (ap (λ (x : KerningState). listed orders x (followed bytes reading (orders .start) (x .stack) (x .depth) used)) (sym (g (orders .state) cycles)))
 
-    module _ {walked : Walked} {along′ : List ℤ} (w : walked ≡ list .left) (a : along′ ≡ addAll (list .additions) along) where
-      does : {step : KerningStep} → step ≡ listed orders on list .step → Does (acted bytes reading led orders used index) along step along′
-      unfolding listed
-      does q =
-          record {
-            steps = q ∙ sym (ap (λ (x : Stepped). x .step) acts);
-            leaves = a ∙ sym (ap (λ (x : Stepped). addAll (x .additions) along) acts);
-          }
+    pub act-follows : {walked : Walked} {along′ : List ℤ} → walked ≡ list .left → along′ ≡ addAll (list .additions) along → Acts walked stack′ along′
+    unfolding listed behind
+    act-follows w a =
+        record {
+          steps = λ cycles. ap (λ (x : Walked). behind orders (standing (orders .state) stack′ deep cycles) x) w ∙ sym (ap (λ (x : Stepped). x .step) (acts cycles));
+          leaves = λ cycles. a ∙ sym (ap (λ (x : Stepped). addAll (x .additions) along) (acts cycles));
+        }
 
-      pub act-ended : {step : KerningStep} → walked .ended ≡ true → step ≡ stopped (popped on (walked .depth)) Answer′.Ended
-          → Does (acted bytes reading led orders used index) along step along′
-      unfolding listed
-      act-ended t q =
-          let t′ : list .left .ended ≡ true = sym (ap (λ (x : Walked). x .ended) w) ∙ t in
-          does (q ∙ ap (λ (x : Walked). stopped (popped on (x .depth)) Answer′.Ended) w ∙ rw (t′, listed))
+-- a list that ended the step, and one that did not
+module _ (orders : Orders) (stack : List ℕ) (cycles : ℕ) (walked : Walked) {step : KerningStep} where
+  pub behind-ended : walked .ended ≡ true → step ≡ stopped (standing (orders .state) stack (walked .depth) cycles) Answer′.Ended
+      → step ≡ behind orders (standing (orders .state) stack (walked .depth) cycles) walked
+  unfolding behind
+  behind-ended t e = e ∙ rw (t, behind)
 
-      pub act-settled : {step : KerningStep} → walked .ended ≡ false → step ≡ settled (popped on (walked .depth)) (orders .resets) (orders .stays)
-          → Does (acted bytes reading led orders used index) along step along′
-      unfolding listed
-      act-settled t q =
-          let t′ : list .left .ended ≡ false = sym (ap (λ (x : Walked). x .ended) w) ∙ t in
-          does (q ∙ ap (λ (x : Walked). settled (popped on (x .depth)) (orders .resets) (orders .stays)) w ∙ rw (t′, listed))
+  pub behind-settled : walked .ended ≡ false → step ≡ settled (standing (orders .state) stack (walked .depth) cycles) (orders .resets) (orders .stays)
+      → step ≡ behind orders (standing (orders .state) stack (walked .depth) cycles) walked
+  unfolding behind
+  behind-settled t e = e ∙ rw (t, behind)
+
+pub settled-done : (s : KerningState) (resets stays : Bool) {step : KerningStep} → step ≡ settled s resets stays → isDone (step .answer) ≡ true
+unfolding settled
+settled-done s resets stays e = rw (e, settled)
 
 -- the entry's state is in the place of the one before
 led-anew : (bytes : List ℕ) (reading : Reading) (s : KerningState) (orders : Orders) (used index : ℕ)

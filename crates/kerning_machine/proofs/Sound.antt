@@ -30,7 +30,7 @@ use Rattle.kerning_machine.specs.declared.Kerning.{Kerning}
 use Rattle.kerning_machine.specs.declared.Opened.{Opened}
 use Rattle.kerning_machine.specs.declared.Opened.the-variants as Opened′
 use Rattle.kerning_machine.specs.declared.KerningState.{KerningState}
-use Rattle.kerning_machine.specs.Machine.{fresh, ruleOf, strideOf, isFull, popped, stacked, settled, followed, Stepped, listed, entered, acted, payloadOf, ordersOf, next, stepAt, passFrom, rest, passed, worked}
+use Rattle.kerning_machine.specs.Machine.{fresh, ruleOf, strideOf, isFull, popped, stacked, settled, followed, Stepped, behind, listed, entered, acted, payloadOf, ordersOf, next, stepAt, passFrom, rest, passed, worked}
 use Rattle.kerning_machine.proofs.Acting.{stacked-deep}
 
 -- a step from a state that took so many cycles
@@ -57,15 +57,15 @@ kept-deep true depth h = omega arith
 kept-deep false depth h = h
 
 listed-sound : (orders : Orders) (s : KerningState) (w : Walk) → s .depth ≤ 8 → Bounded (s .depth) w → Sound (s .cycles) (listed orders s w)
-unfolding listed settled
+unfolding listed behind settled
 listed-sound orders s w h b = go (w .left .ended) refl
   where
     go : (t : Bool) → w .left .ended ≡ t → Sound (s .cycles) (listed orders s w)
     go true e =
-        rw (e, listed)
+        rw (e, listed, behind)
         (record { deep = omega (arith, b .shallow); small = b .small; few = omega (arith, b .few); stays = false; stalls = λ d. never d })
     go false e =
-        rw (e, listed)
+        rw (e, listed, behind)
         (record {
           deep = kept-deep (orders .resets) (w .left .depth) (omega (arith, b .shallow));
           small = b .small;

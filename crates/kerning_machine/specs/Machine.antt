@@ -25,6 +25,7 @@ use Rattle.machine.specs.Pass.{isDone}
 use Rattle.kerning.specs.Additions.{Addition, Kerned, after, nothingAdded}
 use Rattle.kerning.specs.Line.{isModest}
 use Rattle.kerning.specs.Lists.{Walk, leaves, walk}
+use Rattle.kerning.specs.declared.lists.Walked.{Walked}
 use Rattle.kerning.specs.declared.lists.Rule.{Rule}
 use Rattle.kerning.specs.declared.lists.Rule.the-variants.{Odd, Never}
 use Rattle.kerning_machine.specs.declared.Reading.{Reading}
@@ -144,15 +145,13 @@ settled s resets stays =
       advance = stalled (s .cycles) stays .advance;
     }
 
--- a list that ended the step leaves the state as it is then
+-- behind the list: one that ended the step leaves the state as it is then
+unfoldable pub behind : Orders → KerningState → Walked → KerningStep
+behind orders s left =
+    cond (left .ended) (stopped (popped s (left .depth)) Answer′.Ended) (settled (popped s (left .depth)) (orders .resets) (orders .stays))
+
 unfoldable pub listed : Orders → KerningState → Walk → Stepped
-listed orders s w =
-    record {
-      step =
-          cond (w .left .ended) (stopped (popped s (w .left .depth)) Answer′.Ended)
-          (settled (popped s (w .left .depth)) (orders .resets) (orders .stays));
-      additions = w .additions;
-    }
+listed orders s w = record { step = behind orders s (w .left); additions = w .additions }
 
 -- the state that the entry leads to
 abbrev pub entered : KerningState → Orders → KerningState

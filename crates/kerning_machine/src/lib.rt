@@ -6,6 +6,8 @@ use kerning::lists;
 use kerning::lists::Rule;
 use kerning::lists::Walked;
 use state_tables::States;
+use state_tables::classes;
+use state_tables::entries;
 use state_tables::entries::Entered;
 use state_tables::entries::Entry;
 ghost use mathlib.Core.Path.{_≡_};
@@ -17,7 +19,7 @@ ghost use Rattle.answers.specs.Limits.{room};
 ghost use Rattle.answers.specs.Refuse.{refuse};
 ghost use Rattle.answers.specs.declared.Answer.the-variants.{Ended};
 ghost use Rattle.kerning.specs.Additions.{addAll, Within};
-ghost use Rattle.kerning_machine.specs.Machine.{fresh, payloadOf, ruleOf, sizeOf, strideOf, kernStart, kerxStart, ordersOf, standing, stepOf, isFull, stacked, stopped, settled, followed, acted, next, passed, isRoomy, isShort, areWithin, stepTests, stepCall, worked};
+ghost use Rattle.kerning_machine.specs.Machine.{fresh, payloadOf, sizeOf, kernStart, kerxStart, ordersOf, standing, stepOf, isFull, stacked, stopped, settled, followed, behind, acted, next, passed, isRoomy, isShort, areWithin, stepTests, stepCall, worked};
 
 // How a machine reads its entries: kern's flags hold where the list begins, and its subtable may go across the stream; kerx's entries hold
 // an index, which counts from the value table in tuples.
@@ -89,16 +91,6 @@ fn payload_of(reading: Reading) -> u16
     }
 }
 
-// When a list ends.
-fn rule_of(reading: Reading) -> Rule
-    ensures { λ r. ⌜ r ≡ ruleOf reading ⌝ }
-{
-    match reading {
-        Reading::Kern { crossed } => Rule::Odd { crossed },
-        Reading::Kerx { .. } => Rule::Never,
-    }
-}
-
 // The bytes of a tuple; no tuples count as one.
 fn size_of(tuples: u32) -> usize
     ensures { λ r. ⌜ (r ≡ sizeOf tuples) × (2 ≤ r) × (r ≤ 2 ^ 33) ⌝ }
@@ -107,16 +99,6 @@ fn size_of(tuples: u32) -> usize
         return 2;
     }
     tuples as usize * 2
-}
-
-// How far the numbers of a list are apart.
-fn stride_of(reading: Reading) -> usize
-    ensures { λ r. ⌜ (r ≡ strideOf reading) × (r ≤ 2 ^ 40) ⌝ }
-{
-    match reading {
-        Reading::Kern { .. } => 2,
-        Reading::Kerx { tuples, .. } => size_of(tuples),
-    }
 }
 
 // Where a list of kern's begins.
@@ -161,7 +143,7 @@ fn orders_of(bytes: &[u8], reading: Reading, entry: Entry) -> Orders
             stays: machine::is_set(flags, KerningState::DONT_ADVANCE),
         };
     };
-    let index = state_tables::entries::one_number(bytes, entry.payload);
+    let index = entries::one_number(bytes, entry.payload);
     Orders {
         state: entry.state,
         pushes: machine::is_set(flags, KerningState::PUSH),
@@ -197,16 +179,32 @@ fn follow(
             return Walked { ended: true, depth };
         }
         Start::At(place) => {
-            return lists::walk(
-                bytes,
-                rule_of(reading),
-                stride_of(reading),
-                place,
-                *stack,
-                depth,
-                used,
-                along,
-            );
+            match reading {
+                Reading::Kern { crossed } => {
+                    return lists::walk(
+                        bytes,
+                        Rule::Odd { crossed },
+                        2,
+                        place,
+                        stack,
+                        depth,
+                        used,
+                        along,
+                    );
+                }
+                Reading::Kerx { tuples, .. } => {
+                    return lists::walk(
+                        bytes,
+                        Rule::Never,
+                        size_of(tuples),
+                        place,
+                        stack,
+                        depth,
+                        used,
+                        along,
+                    );
+                }
+            }
         }
     }
 }
@@ -268,33 +266,27 @@ fn settle(state: u16, depth: usize, cycles: u16, resets: bool, stays: bool) -> M
     }
 }
 
-// What an entry does, on a lent stack.
+// What an entry does to a lent stack and to the adjustments: the push, of which the 9th ends the step, then the list.
 fn act(
     bytes: &[u8],
     reading: Reading,
     orders: Orders,
     stack: &mut [usize; 8],
     depth: usize,
-    cycles: u16,
     used: usize,
     index: usize,
     along: &mut [i64],
-) -> Moved
+) -> Walked
     requires { ⌜ (depth ≤ 8) × (used ≤ length (now along)) × Within (2 ^ 61) (now along) ⌝ }
-    ensures step { λ r. ⌜ stepOf r (now (stack .exit)) ≡ acted (now (bytes .entry)) reading (standing (orders .state) (now (stack .entry)) depth cycles) orders used index .step ⌝ }
-    ensures along { λ _. ⌜ now (along .exit) ≡ addAll (acted (now (bytes .entry)) reading (standing (orders .state) (now (stack .entry)) depth cycles) orders used index .additions) (now (along .entry)) ⌝ }
+    ensures step { λ r. ⌜ ((cycles : ℕ) → behind orders (standing (orders .state) (now (stack .exit)) (r .depth) cycles) r ≡ acted (now (bytes .entry)) reading (standing (orders .state) (now (stack .entry)) depth cycles) orders used index .step) ⌝ }
+    ensures along { λ _. ⌜ ((cycles : ℕ) → now (along .exit) ≡ addAll (acted (now (bytes .entry)) reading (standing (orders .state) (now (stack .entry)) depth cycles) orders used index .additions) (now (along .entry))) ⌝ }
 {
-    let state = orders.state;
     if is_full(orders.pushes, depth) {
-        return ended(state, depth, cycles);
+        return Walked { ended: true, depth };
     }
     let deep = push(stack, depth, orders.pushes, orders.clears, index);
     let start = orders.start;
-    let walked = follow(bytes, reading, start, stack, deep, used, along);
-    if walked.ended {
-        return ended(state, walked.depth, cycles);
-    }
-    settle(state, walked.depth, cycles, orders.resets, orders.stays)
+    follow(bytes, reading, start, stack, deep, used, along)
 }
 
 // The crate's `next`, over the bytes from the state table on, with the stack in a lent array.
@@ -316,27 +308,22 @@ fn next(
 {
     let states = kerning.states;
     let reading = kerning.reading;
-    let class = state_tables::classes::class_of(bytes, states, glyph);
-    let Entered::At(entry) = state_tables::entries::entry_of(
-        bytes,
-        states,
-        state,
-        class,
-        payload_of(reading),
-    ) else {
+    let class = classes::class_of(bytes, states, glyph);
+    let Entered::At(entry) = entries::entry_of(bytes, states, state, class, payload_of(reading))
+    else {
         return ended(state, depth, cycles);
     };
     let orders = orders_of(bytes, reading, entry);
-    act(
-        bytes,
-        reading,
-        orders,
-        stack,
-        depth,
+    let walked = act(bytes, reading, orders, stack, depth, used, index, along);
+    if walked.ended {
+        return ended(orders.state, walked.depth, cycles);
+    }
+    settle(
+        orders.state,
+        walked.depth,
         cycles,
-        used,
-        index,
-        along,
+        orders.resets,
+        orders.stays,
     )
 }
 
@@ -523,23 +510,35 @@ fn pass_line(
     let mut cycles = fresh.cycles;
     let mut place = 0;
     while place < used {
-        let glyph = glyphs[place];
-        let moved = next(
+        // What `next` does, written out: all but the lists is inlined here, and a step's numbers stay in registers.
+        let states = kerning.states;
+        let reading = kerning.reading;
+        let class = classes::class_of(bytes, states, glyphs[place]);
+        let Entered::At(entry) = entries::entry_of(bytes, states, state, class, payload_of(reading))
+        else {
+            return Answer::Ended;
+        };
+        let orders = orders_of(bytes, reading, entry);
+        let walked = act(
             bytes,
-            kerning,
-            state,
+            reading,
+            orders,
             &mut stack,
             depth,
-            cycles,
             used,
             place,
-            glyph,
             along,
         );
-        let answer = moved.answer;
-        if !machine::is_done(answer) {
-            return answer;
+        if walked.ended {
+            return Answer::Ended;
         }
+        let moved = settle(
+            orders.state,
+            walked.depth,
+            cycles,
+            orders.resets,
+            orders.stays,
+        );
         state = moved.state;
         depth = moved.depth;
         cycles = moved.cycles;

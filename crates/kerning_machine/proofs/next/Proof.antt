@@ -1,5 +1,6 @@
-use Rattle.kerning_machine.proofs.Acting.{next-ended, next-acts}
+use Rattle.kerning_machine.proofs.Acting.{behind-ended, behind-settled, next-ended, next-acts}
 use Rattle.kerning_machine.specs.Machine.{standing}
+use mathlib.Core.Path.{_∙_}
 use native.Mathlib.Omega.{arith}
 use Rattle.state_tables.proofs.Laws.{entry-payload}
 use borrow.Author.Needs.{needs}
@@ -33,11 +34,23 @@ orders-of-requires c κs = omega (arith, entry-payload _ _ _ _ _ (c .before .bef
 act-requires : tie.Need-act-requires
 act-requires c κs = search needs
 
+ended-requires-2 : tie.Need-ended-requires-2
+ended-requires-2 c κs = search needs
+
 same-length : tie.Need-same-length
 same-length c = search needs
 
 returns-2 : tie.Need-returns-2
-returns-2 c = let e = next-acts _ _ (standing _ _ _ _) _ _ _ _ (c .before .before .before .before .before .before .before .before .before .before .class-of .ensures) (c .before .before .before .before .before .before .before .before .before .payload-of .ensures) (c .before .before .before .before .before .before .before .before .entry-of .ensures) (c .before .before .before .before .before .before .entry .given .1) (c .before .before .before .before .orders-of .ensures) (c .before .act .ensures .0) (c .before .act .ensures .1) in (e .steps, e .leaves)
+returns-2 c = let e = next-acts _ _ (standing _ _ _ _) _ _ _ _ (c .before .before .before .before .before .before .before .before .before .before .before .before .class-of .ensures) (c .before .before .before .before .before .before .before .before .before .before .before .payload-of .ensures) (c .before .before .before .before .before .before .before .before .before .before .entry-of .ensures) (c .before .before .before .before .before .before .before .before .entry .given .1) (c .before .before .before .before .before .before .orders-of .ensures) (behind-ended _ _ _ _ (c .before .if1 .taken) (c .ended2 .ensures _) ∙ c .before .before .before .act .ensures .0 _) (c .before .before .before .act .ensures .1 _) in (e .steps, e .leaves)
+
+settle-requires : tie.Need-settle-requires
+settle-requires c κs = search needs
+
+same-length-2 : tie.Need-same-length-2
+same-length-2 c = search needs
+
+returns-3 : tie.Need-returns-3
+returns-3 c = let e = next-acts _ _ (standing _ _ _ _) _ _ _ _ (c .before .before .before .before .before .before .before .before .before .before .before .before .class-of .ensures) (c .before .before .before .before .before .before .before .before .before .before .before .payload-of .ensures) (c .before .before .before .before .before .before .before .before .before .before .entry-of .ensures) (c .before .before .before .before .before .before .before .before .entry .given .1) (c .before .before .before .before .before .before .orders-of .ensures) (behind-settled _ _ _ _ (c .before .if1 .left) (c .settle .ensures _) ∙ c .before .before .before .act .ensures .0 _) (c .before .before .before .act .ensures .1 _) in (e .steps, e .leaves)
 
 pub next-spec : {M : Type 1} → statement M
 next-spec =
@@ -52,5 +65,9 @@ next-spec =
     returns
     orders-of-requires
     act-requires
+    ended-requires-2
     same-length
-    returns-2)
+    returns-2
+    settle-requires
+    same-length-2
+    returns-3)

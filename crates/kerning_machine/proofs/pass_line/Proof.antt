@@ -1,9 +1,11 @@
+use Rattle.kerning_machine.proofs.Acting.{behind-ended, behind-settled, settled-done, next-ended, next-acts}
 use Rattle.kerning_machine.proofs.Passes.{Going, going-start, going-long, going-within, going-stop, going-less, going-step, going-end}
 use Rattle.kerning_machine.specs.Machine.{standing, rest}
+use Rattle.state_tables.proofs.Laws.{entry-payload}
 use native.Mathlib.Omega.{arith}
 use borrow.Author.Needs.{needs}
-use mathlib.Core.Path.{sym, _∙_}
-use borrow.Author.Tests.{not-true, not-false}
+use mathlib.Core.Path.{refl, _∙_}
+use mathlib.Core.List.{[]}
 use Rattle.kerning_machine.proofs.pass_line.Statement.{statement}
 use Rattle.kerning_machine.proofs.pass_line.Tie as tie
 
@@ -19,38 +21,62 @@ new-requires c κs = search needs
 loop-holds : tie.Need-loop-holds Inv-loop μ-loop
 loop-holds c = going-start _ _ _ _ _ _ (c .before .new .ensures)
 
-mul-glyph : tie.Need-mul-glyph Inv-loop μ-loop
-mul-glyph c = omega arith
+mul-class-of : tie.Need-mul-class-of Inv-loop μ-loop
+mul-class-of c = omega arith
 
-shared-slice-read-glyph : tie.Need-shared-slice-read-glyph Inv-loop μ-loop
-shared-slice-read-glyph c = omega arith
+shared-slice-read-class-of : tie.Need-shared-slice-read-class-of Inv-loop μ-loop
+shared-slice-read-class-of c = omega arith
 
-next-requires : tie.Need-next-requires Inv-loop μ-loop
-next-requires c κs = (c .before .before .before .before .loop .inv .deep, omega (arith, going-long _ _ _ _ (c .before .before .before .before .loop .inv), c .before .before .before .before .before .before .before .before .before .pre .1), going-within _ _ _ _ (c .before .before .before .before .loop .inv) (c .before .before .before .before .before .before .before .before .before .pre .2) (c .before .before .before .before .before .before .before .before .before .pre .3))
+class-of-requires : tie.Need-class-of-requires Inv-loop μ-loop
+class-of-requires c κs = search needs
 
-is-done-requires : tie.Need-is-done-requires Inv-loop μ-loop
-is-done-requires c κs = search needs
+payload-of-requires : tie.Need-payload-of-requires Inv-loop μ-loop
+payload-of-requires c κs = search needs
+
+entry-of-requires : tie.Need-entry-of-requires Inv-loop μ-loop
+entry-of-requires c κs = search needs
+
+enum-known-entry : tie.Need-enum-known-entry Inv-loop μ-loop
+enum-known-entry c = search needs
+
+enum-told : tie.Need-enum-told Inv-loop μ-loop
+enum-told c = search needs
 
 same-length : tie.Need-same-length Inv-loop μ-loop
-same-length c = omega (arith, going-long _ _ _ _ (c .before .before .before .before .before .before .before .before .loop .inv), c .before .before .before .next .kept .1 .1 .1 .1 .1 .1 .1 .1 .1 .0)
+same-length c = omega (arith, going-long _ _ _ _ (c .before .before .before .before .before .before .before .before .loop .inv))
 
 returns : tie.Need-returns Inv-loop μ-loop
-returns c = let e = going-stop _ _ _ _ (c .before .before .before .before .before .before .before .before .loop .inv) (c .before .before .before .before .before .before .before .loop-test .taken) (c .before .before .before .next .ensures .0) (c .before .before .before .next .ensures .1) (sym (c .before .is-done .ensures) ∙ not-true _ (c .if1 .taken)) in (e .answers, e .leaves)
+returns c = let n = next-ended _ _ (standing _ _ _ _) _ _ _ _ (c .before .before .before .before .class-of .ensures) (c .before .before .before .payload-of .ensures) (c .before .before .entry-of .ensures) (c .enum-told .given .1) refl in let e = going-stop _ _ _ _ (c .before .before .before .before .before .before .before .before .loop .inv) (c .before .before .before .before .before .before .before .loop-test .taken) (n .steps) (n .leaves) refl in (e .answers, e .leaves)
 
-add-place : tie.Need-add-place Inv-loop μ-loop
-add-place c = omega (arith, going-step _ _ _ _ (c .before .before .before .before .before .before .before .before .before .loop .inv) (c .before .before .before .before .before .before .before .before .loop-test .taken) (c .before .before .before .before .next .ensures .0) (c .before .before .before .before .next .ensures .1) (sym (c .before .before .is-done .ensures) ∙ not-false _ (c .before .if1 .left)) .within, c .before .before .before .before .before .before .before .before .before .before .before .before .before .before .fits .used)
+orders-of-requires : tie.Need-orders-of-requires Inv-loop μ-loop
+orders-of-requires c κs = omega (arith, entry-payload _ _ _ _ _ (c .before .before .before .entry-of .ensures) (c .before .entry .given .1), c .before .before .before .before .payload-of .ensures)
 
-loop-less : tie.Need-loop-less Inv-loop μ-loop
-loop-less c = going-less _ _ _ _ (c .before .before .before .before .before .before .before .before .before .loop .inv) (c .before .before .before .before .before .before .before .before .loop-test .taken) (c .before .before .before .before .next .ensures .0) (c .before .before .before .before .next .ensures .1) (sym (c .before .before .is-done .ensures) ∙ not-false _ (c .before .if1 .left))
-
-loop-again : tie.Need-loop-again Inv-loop μ-loop
-loop-again c = going-step _ _ _ _ (c .before .before .before .before .before .before .before .before .before .loop .inv) (c .before .before .before .before .before .before .before .before .loop-test .taken) (c .before .before .before .before .next .ensures .0) (c .before .before .before .before .next .ensures .1) (sym (c .before .before .is-done .ensures) ∙ not-false _ (c .before .if1 .left))
+act-requires : tie.Need-act-requires Inv-loop μ-loop
+act-requires c κs = (c .before .before .before .before .before .before .before .before .before .before .before .before .loop .inv .deep, omega (arith, going-long _ _ _ _ (c .before .before .before .before .before .before .before .before .before .before .before .before .loop .inv), c .before .before .before .before .before .before .before .before .before .before .before .before .before .before .before .before .before .pre .1), going-within _ _ _ _ (c .before .before .before .before .before .before .before .before .before .before .before .before .loop .inv) (c .before .before .before .before .before .before .before .before .before .before .before .before .before .before .before .before .before .pre .2) (c .before .before .before .before .before .before .before .before .before .before .before .before .before .before .before .before .before .pre .3))
 
 same-length-2 : tie.Need-same-length-2 Inv-loop μ-loop
-same-length-2 c = omega (arith, going-long _ _ _ _ (c .before .loop .inv))
+same-length-2 c = omega (arith, going-long _ _ _ _ (c .before .before .before .before .before .before .before .before .before .before .before .before .before .before .before .loop .inv), c .before .before .act .kept .1 .1 .1 .1 .1 .1 .1 .0)
 
 returns-2 : tie.Need-returns-2 Inv-loop μ-loop
-returns-2 c = let e = going-end _ _ _ _ (c .before .loop .inv) (c .loop-test .left) in (e .answers, e .leaves)
+returns-2 c = let n = next-acts _ _ (standing _ _ _ _) _ _ _ _ (c .before .before .before .before .before .before .before .before .before .before .before .class-of .ensures) (c .before .before .before .before .before .before .before .before .before .before .payload-of .ensures) (c .before .before .before .before .before .before .before .before .before .entry-of .ensures) (c .before .before .before .before .before .before .before .entry .given .1) (c .before .before .before .before .before .orders-of .ensures) (behind-ended _ _ _ _ (c .if1 .taken) refl ∙ c .before .before .act .ensures .0 _) (c .before .before .act .ensures .1 _) in let e = going-stop _ _ _ _ (c .before .before .before .before .before .before .before .before .before .before .before .before .before .before .before .loop .inv) (c .before .before .before .before .before .before .before .before .before .before .before .before .before .before .loop-test .taken) (n .steps) (n .leaves) refl in (e .answers, e .leaves)
+
+settle-requires : tie.Need-settle-requires Inv-loop μ-loop
+settle-requires c κs = search needs
+
+add-place : tie.Need-add-place Inv-loop μ-loop
+add-place c = let e = next-acts _ _ (standing _ _ _ _) _ _ _ _ (c .before .before .before .before .before .before .before .before .before .before .before .before .before .class-of .ensures) (c .before .before .before .before .before .before .before .before .before .before .before .before .payload-of .ensures) (c .before .before .before .before .before .before .before .before .before .before .before .entry-of .ensures) (c .before .before .before .before .before .before .before .before .before .entry .given .1) (c .before .before .before .before .before .before .before .orders-of .ensures) (behind-settled _ _ _ _ (c .before .before .if1 .left) (c .before .settle .ensures _) ∙ c .before .before .before .before .act .ensures .0 _) (c .before .before .before .before .act .ensures .1 _) in omega (arith, going-step _ _ _ _ (c .before .before .before .before .before .before .before .before .before .before .before .before .before .before .before .before .before .loop .inv) (c .before .before .before .before .before .before .before .before .before .before .before .before .before .before .before .before .loop-test .taken) (e .steps) (e .leaves) (settled-done _ _ _ (c .before .settle .ensures [])) .within, c .before .before .before .before .before .before .before .before .before .before .before .before .before .before .before .before .before .before .before .before .before .before .fits .used)
+
+loop-less : tie.Need-loop-less Inv-loop μ-loop
+loop-less c = let e = next-acts _ _ (standing _ _ _ _) _ _ _ _ (c .before .before .before .before .before .before .before .before .before .before .before .before .before .class-of .ensures) (c .before .before .before .before .before .before .before .before .before .before .before .before .payload-of .ensures) (c .before .before .before .before .before .before .before .before .before .before .before .entry-of .ensures) (c .before .before .before .before .before .before .before .before .before .entry .given .1) (c .before .before .before .before .before .before .before .orders-of .ensures) (behind-settled _ _ _ _ (c .before .before .if1 .left) (c .before .settle .ensures _) ∙ c .before .before .before .before .act .ensures .0 _) (c .before .before .before .before .act .ensures .1 _) in going-less _ _ _ _ (c .before .before .before .before .before .before .before .before .before .before .before .before .before .before .before .before .before .loop .inv) (c .before .before .before .before .before .before .before .before .before .before .before .before .before .before .before .before .loop-test .taken) (e .steps) (e .leaves) (settled-done _ _ _ (c .before .settle .ensures []))
+
+loop-again : tie.Need-loop-again Inv-loop μ-loop
+loop-again c = let e = next-acts _ _ (standing _ _ _ _) _ _ _ _ (c .before .before .before .before .before .before .before .before .before .before .before .before .before .class-of .ensures) (c .before .before .before .before .before .before .before .before .before .before .before .before .payload-of .ensures) (c .before .before .before .before .before .before .before .before .before .before .before .entry-of .ensures) (c .before .before .before .before .before .before .before .before .before .entry .given .1) (c .before .before .before .before .before .before .before .orders-of .ensures) (behind-settled _ _ _ _ (c .before .before .if1 .left) (c .before .settle .ensures _) ∙ c .before .before .before .before .act .ensures .0 _) (c .before .before .before .before .act .ensures .1 _) in going-step _ _ _ _ (c .before .before .before .before .before .before .before .before .before .before .before .before .before .before .before .before .before .loop .inv) (c .before .before .before .before .before .before .before .before .before .before .before .before .before .before .before .before .loop-test .taken) (e .steps) (e .leaves) (settled-done _ _ _ (c .before .settle .ensures []))
+
+same-length-3 : tie.Need-same-length-3 Inv-loop μ-loop
+same-length-3 c = omega (arith, going-long _ _ _ _ (c .before .loop .inv))
+
+returns-3 : tie.Need-returns-3 Inv-loop μ-loop
+returns-3 c = let e = going-end _ _ _ _ (c .before .loop .inv) (c .loop-test .left) in (e .answers, e .leaves)
 
 pub pass-line-spec : {M : Type 1} → statement M
 pass-line-spec =
@@ -60,14 +86,22 @@ pass-line-spec =
     μ-loop
     new-requires
     loop-holds
-    mul-glyph
-    shared-slice-read-glyph
-    next-requires
-    is-done-requires
+    mul-class-of
+    shared-slice-read-class-of
+    class-of-requires
+    payload-of-requires
+    entry-of-requires
+    enum-known-entry
+    enum-told
     same-length
     returns
+    orders-of-requires
+    act-requires
+    same-length-2
+    returns-2
+    settle-requires
     add-place
     loop-less
     loop-again
-    same-length-2
-    returns-2)
+    same-length-3
+    returns-3)

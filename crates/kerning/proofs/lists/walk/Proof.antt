@@ -6,10 +6,10 @@ use Rattle.kerning.proofs.lists.walk.Statement.{statement}
 use Rattle.kerning.proofs.lists.walk.Tie as tie
 
 abbrev Inv-loop : tie.InvT-loop
-Inv-loop bytes rule stride place depth used along₀ stack next₀ left₀ along next left = Walking bytes rule stride stack used (walk bytes rule stride stack used depth place) along₀ along left next
+Inv-loop bytes rule stride place stack depth used along₀ next₀ left₀ along next left = Walking bytes rule stride stack used (walk bytes rule stride stack used depth place) along₀ along left next
 
 abbrev μ-loop : tie.MeasureT-loop
-μ-loop bytes rule stride place depth used along₀ stack next₀ left₀ along next left = left
+μ-loop bytes rule stride place stack depth used along₀ next₀ left₀ along next left = left
 
 loop-holds : tie.Need-loop-holds Inv-loop μ-loop
 loop-holds c = walking-start _ _ _ _ _ _ _ _ (c .before .pre .1)
@@ -44,17 +44,17 @@ sub-add-in-line c = omega arith
 mul-add-in-line : tie.Need-mul-add-in-line Inv-loop μ-loop
 mul-add-in-line c = omega (arith, c .before .before .before .before .before .before .loop .inv .few)
 
-array-read-add-in-line : tie.Need-array-read-add-in-line Inv-loop μ-loop
-array-read-add-in-line c = omega (arith, c .before .before .before .before .before .before .loop .inv .few)
+element-copy-out-add-in-line : tie.Need-element-copy-out-add-in-line Inv-loop μ-loop
+element-copy-out-add-in-line c = omega (arith, c .before .before .before .before .before .before .loop .inv .few)
 
 add-in-line-requires : tie.Need-add-in-line-requires Inv-loop μ-loop
-add-in-line-requires c κs = (omega (arith, walking-long _ _ _ _ _ (c .before .before .before .before .before .before .loop .inv), c .before .before .before .before .before .before .before .before .pre .2), walking-within _ _ _ _ _ (c .before .before .before .before .before .before .loop .inv) (c .before .before .before .before .before .before .before .before .pre .3))
+add-in-line-requires c κs = (omega (arith, walking-long _ _ _ _ _ (c .before .before .before .before .before .before .before .loop .inv), c .before .before .before .before .before .before .before .before .before .pre .2), walking-within _ _ _ _ _ (c .before .before .before .before .before .before .before .loop .inv) (c .before .before .before .before .before .before .before .before .before .pre .3))
 
 same-length-3 : tie.Need-same-length-3 Inv-loop μ-loop
-same-length-3 c = omega (arith, walking-long _ _ _ _ _ (c .before .before .before .before .before .before .before .before .loop .inv), c .before .add-in-line .kept .0)
+same-length-3 c = omega (arith, walking-long _ _ _ _ _ (c .before .before .before .before .before .before .before .before .before .loop .inv), c .before .add-in-line .kept .0)
 
 returns-3 : tie.Need-returns-3 Inv-loop μ-loop
-returns-3 c = let e = walking-last _ _ _ _ _ (c .before .before .before .before .before .before .before .before .loop .inv) (c .before .before .before .before .before .before .before .loop-test .taken) (c .before .before .before .before .before .before .number-at .ensures) (c .before .add-in-line .ensures) (c .before .before .before .before .number .given .1) in (e .answers, e .leaves-them)
+returns-3 c = let e = walking-last _ _ _ _ _ (c .before .before .before .before .before .before .before .before .before .loop .inv) (c .before .before .before .before .before .before .before .before .loop-test .taken) (c .before .before .before .before .before .before .before .number-at .ensures) (c .before .add-in-line .ensures) (c .before .before .before .before .before .number .given .1) in (e .answers, e .leaves-them)
 
 enum-known-number-2 : tie.Need-enum-known-number-2 Inv-loop μ-loop
 enum-known-number-2 c = search needs
@@ -65,23 +65,23 @@ sub-add-in-line-2 c = omega arith
 mul-add-in-line-2 : tie.Need-mul-add-in-line-2 Inv-loop μ-loop
 mul-add-in-line-2 c = omega (arith, c .before .before .before .before .before .before .loop .inv .few)
 
-array-read-add-in-line-2 : tie.Need-array-read-add-in-line-2 Inv-loop μ-loop
-array-read-add-in-line-2 c = omega (arith, c .before .before .before .before .before .before .loop .inv .few)
+element-copy-out-add-in-line-2 : tie.Need-element-copy-out-add-in-line-2 Inv-loop μ-loop
+element-copy-out-add-in-line-2 c = omega (arith, c .before .before .before .before .before .before .loop .inv .few)
 
 add-in-line-requires-2 : tie.Need-add-in-line-requires-2 Inv-loop μ-loop
-add-in-line-requires-2 c κs = (omega (arith, walking-long _ _ _ _ _ (c .before .before .before .before .before .before .loop .inv), c .before .before .before .before .before .before .before .before .pre .2), walking-within _ _ _ _ _ (c .before .before .before .before .before .before .loop .inv) (c .before .before .before .before .before .before .before .before .pre .3))
+add-in-line-requires-2 c κs = (omega (arith, walking-long _ _ _ _ _ (c .before .before .before .before .before .before .before .loop .inv), c .before .before .before .before .before .before .before .before .before .pre .2), walking-within _ _ _ _ _ (c .before .before .before .before .before .before .before .loop .inv) (c .before .before .before .before .before .before .before .before .before .pre .3))
 
 sub-left : tie.Need-sub-left Inv-loop μ-loop
 sub-left c = omega arith
 
 add-next : tie.Need-add-next Inv-loop μ-loop
-add-next c = omega (arith, walking-inside _ _ _ _ _ (c .before .before .before .before .before .before .before .before .loop .inv) (c .before .before .before .before .before .before .before .loop-test .taken) (c .before .before .before .before .before .before .number-at .ensures) (c .before .before .before .before .number2 .given .1), c .before .before .before .before .before .before .before .before .before .before .pre .0)
+add-next c = omega (arith, walking-inside _ _ _ _ _ (c .before .before .before .before .before .before .before .before .before .loop .inv) (c .before .before .before .before .before .before .before .before .loop-test .taken) (c .before .before .before .before .before .before .before .number-at .ensures) (c .before .before .before .before .before .number2 .given .1), c .before .before .before .before .before .before .before .before .before .before .before .pre .0)
 
 loop-less : tie.Need-loop-less Inv-loop μ-loop
 loop-less c = omega arith
 
 loop-again : tie.Need-loop-again Inv-loop μ-loop
-loop-again c = walking-more _ _ _ _ _ (c .before .before .before .before .before .before .before .before .loop .inv) (c .before .before .before .before .before .before .before .loop-test .taken) (c .before .before .before .before .before .before .number-at .ensures) (c .before .add-in-line2 .ensures) (c .before .before .before .before .number2 .given .1)
+loop-again c = walking-more _ _ _ _ _ (c .before .before .before .before .before .before .before .before .before .loop .inv) (c .before .before .before .before .before .before .before .before .loop-test .taken) (c .before .before .before .before .before .before .before .number-at .ensures) (c .before .add-in-line2 .ensures) (c .before .before .before .before .before .number2 .given .1)
 
 same-length-4 : tie.Need-same-length-4 Inv-loop μ-loop
 same-length-4 c = omega (arith, walking-long _ _ _ _ _ (c .before .loop .inv))
@@ -106,14 +106,14 @@ walk-spec =
     enum-known-number
     sub-add-in-line
     mul-add-in-line
-    array-read-add-in-line
+    element-copy-out-add-in-line
     add-in-line-requires
     same-length-3
     returns-3
     enum-known-number-2
     sub-add-in-line-2
     mul-add-in-line-2
-    array-read-add-in-line-2
+    element-copy-out-add-in-line-2
     add-in-line-requires-2
     sub-left
     add-next
