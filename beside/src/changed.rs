@@ -12,6 +12,8 @@ mod insertion_pass;
 mod kerning;
 mod kerning_by_copy;
 mod kerning_examples;
+mod kerning_lists;
+mod kerning_lists_by_copy;
 mod kerning_pairs;
 mod kerning_passes;
 mod kerning_run;
@@ -104,6 +106,7 @@ fn ask_kerning(kerning: Kerning, asked: &mut Limited, random: &mut Random, cases
     kerning_runs::ask_all(asked.part(), kerning, random, cases);
     kerning_pairs::ask_all(asked.part(), kerning, random, cases);
     kerning_steps::ask_all(asked.part(), kerning, random, cases);
+    kerning_lists::ask_all(asked.part(), kerning, random, cases);
 }
 
 /// The passes of a kind, and the steps of its machine.

@@ -35,10 +35,14 @@ pub enum Entry {
     MorxNextSubtable,
     MorxOrder,
     MorxShouldReverse,
+    KernSubtables,
+    KerxSubtables,
+    KernNextSubtable,
+    KerxNextSubtable,
 }
 
 /// The entries and their names, in the order of the numbers.
-pub const ENTRIES: [(Entry, &str); 32] = [
+pub const ENTRIES: [(Entry, &str); 36] = [
     (Entry::Lookup, "aat_lookup"),
     (Entry::Survey, "aat_survey"),
     (Entry::ClassExtended, "aat_class_extended"),
@@ -71,6 +75,10 @@ pub const ENTRIES: [(Entry, &str); 32] = [
     (Entry::MorxNextSubtable, "aat_morx_next_subtable"),
     (Entry::MorxOrder, "aat_morx_order"),
     (Entry::MorxShouldReverse, "aat_morx_should_reverse"),
+    (Entry::KernSubtables, "aat_kern_subtables"),
+    (Entry::KerxSubtables, "aat_kerx_subtables"),
+    (Entry::KernNextSubtable, "aat_kern_next_subtable"),
+    (Entry::KerxNextSubtable, "aat_kerx_next_subtable"),
 ];
 
 /// The entries that aat.h declares and nobody asks for.

@@ -16,6 +16,8 @@ mod insertion_pass;
 mod kerning;
 mod kerning_by_copy;
 mod kerning_examples;
+mod kerning_lists;
+mod kerning_lists_by_copy;
 mod kerning_pairs;
 mod kerning_passes;
 mod kerning_run;

@@ -23,7 +23,7 @@ use crate::step::{Machine, Told, MACHINES};
 use crate::steps::Step;
 use crate::value::{Asked, Value};
 use crate::verbs::{Fresh, Verb};
-use crate::{kerning_passes, kerning_steps};
+use crate::{kerning_lists, kerning_passes, kerning_steps};
 
 /// A question about a table.
 pub struct Case {
@@ -156,6 +156,11 @@ impl Chosen {
                 let (length, along) = (lent.line.used, lent.along);
                 Box::new(kerning_steps::Step { edition, start, state, length, index, glyph, along })
             }
+            Entry::KernSubtables | Entry::KerxSubtables => Box::new(kerning_lists::Start { kerning, start }),
+            Entry::KernNextSubtable | Entry::KerxNextSubtable => {
+                let cursor = [source.long(), source.long(), source.long()];
+                Box::new(kerning_lists::Next { kerning, cursor, told: None })
+            }
             Entry::MorxChains => Box::new(Start { start }),
             Entry::MorxNextChain | Entry::MorxNextFeature | Entry::MorxNextSubtable => {
                 let list = list_of(entry).expect("a list with this entry");
@@ -182,9 +187,10 @@ fn by(entry: Entry) -> By {
 }
 
 /// The table of an entry for kerning.
-fn kerning_of(entry: Entry) -> Kerning {
+pub fn kerning_of(entry: Entry) -> Kerning {
     match entry {
         Entry::KernPair | Entry::KernPass | Entry::KernRun | Entry::KernStep => Kerning::Kern,
+        Entry::KernSubtables | Entry::KernNextSubtable => Kerning::Kern,
         _ => Kerning::Kerx,
     }
 }

@@ -1,10 +1,11 @@
 //! Bytes to begin with: calls of every entry on tables that mostly make sense.
 
 use crate::entries::Entry;
-use crate::fuzz_case::{list_of, machine_of};
+use crate::fuzz_case::{kerning_of, list_of, machine_of};
 use crate::fuzz_source::{LONGEST, LONGEST_NAME};
 use crate::kerning::Kerning;
 use crate::kerning_by_copy::STATE;
+use crate::kerning_lists_by_copy as by_copy;
 use crate::kerning_tables::{any_body, formats, Edition};
 use crate::language_tables::any_ltag;
 use crate::line::{Line, DELETED};
@@ -99,8 +100,14 @@ impl About {
             }
             Entry::KernPair | Entry::KernPass | Entry::KernStep => one_kerning(random, Kerning::Kern, &glyphs),
             Entry::KerxPair | Entry::KerxPass | Entry::KerxStep => one_kerning(random, Kerning::Kerx, &glyphs),
-            Entry::KernRun => (any_list(random, Kerning::Kern, &glyphs), 0),
-            Entry::KerxRun => (any_list(random, Kerning::Kerx, &glyphs), 0),
+            Entry::KernRun | Entry::KerxRun | Entry::KernSubtables | Entry::KerxSubtables => {
+                (any_list(random, kerning_of(entry), &glyphs), 0)
+            }
+            Entry::KernNextSubtable | Entry::KerxNextSubtable => {
+                let made = any_list(random, kerning_of(entry), &glyphs);
+                more = kerning_cursor(random, kerning_of(entry), &made).map(u64::to_be_bytes).concat();
+                (made, 0)
+            }
             _ => {
                 let kind = kind_of(random, entry);
                 (whole(any_subtable(random, kind, &glyphs)), 0)
@@ -203,6 +210,18 @@ fn own_cursor(random: &mut Random, list: List, made: &Made) -> Option<Cursor> {
 fn further(random: &mut Random, list: List, table: &[u8], first: Cursor) -> Cursor {
     let elements = std::iter::successors(Some(first), |cursor| Some(next(list, table, *cursor)?.1));
     elements.take(1 + random.below(4)).last().unwrap_or(first)
+}
+
+/// A cursor that the crate comes to, now and then with any numbers in it.
+fn kerning_cursor(random: &mut Random, kerning: Kerning, made: &Made) -> by_copy::Cursor {
+    let first = by_copy::list_from(kerning, &made.table, made.start as u64);
+    let cursors = std::iter::successors(Some(first), |cursor| Some(by_copy::next(kerning, &made.table, *cursor)?.1));
+    let [place, left, version] = cursors.take(1 + random.below(4)).last().unwrap_or(first);
+    if random.once_in(4) {
+        let [place, left] = any_cursor(random, made.table.len());
+        return [place, left, version];
+    }
+    [place, left, version]
 }
 
 fn any_edition(random: &mut Random, kerning: Kerning) -> Edition {

@@ -40,7 +40,7 @@ impl<'a> Run<'a> {
     ) -> Result<(Answer<()>, u32), Fault> {
         lent.used().1.fill(0);
         let mut heads = 0;
-        let mut left = self.visits();
+        let mut left = Visit::all(self.kerning, self.table, self.start as u32, self.right_to_left);
         while let Some(visit) = caught(|| left.next())? {
             if heads == MOST_HEADS {
                 return Ok((Answer::Limit, heads));
@@ -51,25 +51,28 @@ impl<'a> Run<'a> {
         }
         Ok((Answer::Done(()), heads))
     }
+}
 
-    fn visits(&self) -> Box<dyn Iterator<Item = Visit<'a>> + 'a> {
-        let (start, right_to_left) = (self.start as u32, self.right_to_left);
-        match self.kerning {
-            Kerning::Kern => Box::new(kern::subtables(self.table, start).map(|subtable| Visit {
+/// The subtables of a list, one after the other.
+pub type Visits<'a> = Box<dyn Iterator<Item = Visit<'a>> + 'a>;
+
+impl<'a> Visit<'a> {
+    /// Those of the list that begins at a start.
+    pub fn all(kerning: Kerning, table: &'a [u8], start: u32, right_to_left: bool) -> Visits<'a> {
+        match kerning {
+            Kerning::Kern => Box::new(kern::subtables(table, start).map(|subtable| Visit {
                 is_passed_over: !subtable.is_horizontal() || subtable.cross_stream(),
                 is_turned: false,
                 subtable: Subtable::of_kern(&subtable),
             })),
-            Kerning::Kerx => Box::new(kerx::subtables(self.table, start, 0).map(move |subtable| Visit {
+            Kerning::Kerx => Box::new(kerx::subtables(table, start, 0).map(move |subtable| Visit {
                 is_passed_over: subtable.is_vertical() || subtable.is_cross_stream() || subtable.has_variations(),
                 is_turned: subtable.should_reverse(right_to_left),
                 subtable: Subtable::of_kerx(&subtable),
             })),
         }
     }
-}
 
-impl Visit<'_> {
     /// The pass, the line turned round before and after where that is asked for.
     fn make(&self, lent: &mut Kerned) -> Result<(), Fault> {
         let subtable = match &self.subtable {

@@ -114,9 +114,10 @@ fn ask_run(asked: &mut dyn Ask, kerning: Kerning, table: &Rc<[u8]>, start: usize
 }
 
 /// How many bytes lie before the tables that are asked about.
-const BEFORE: usize = 3;
+pub const BEFORE: usize = 3;
 
-fn behind_others(table: Vec<u8>) -> Rc<[u8]> {
+/// A table behind them.
+pub fn behind_others(table: Vec<u8>) -> Rc<[u8]> {
     Rc::from([vec![0; BEFORE], table].concat())
 }
 
@@ -157,7 +158,8 @@ fn cut_tables(asked: &mut dyn Ask, kerning: Kerning, random: &mut Random) {
     }
 }
 
-fn some_table(random: &mut Random, edition: Edition) -> Vec<u8> {
+/// A table of three subtables.
+pub fn some_table(random: &mut Random, edition: Edition) -> Vec<u8> {
     let of_format = |format| edition.subtable(edition.plain(), format, &any_body(random, edition, format, &(10..13)));
     edition.table(&[0, 1, 0].map(of_format))
 }
@@ -238,7 +240,7 @@ fn random_tables(asked: &mut dyn Ask, kerning: Kerning, random: &mut Random, cas
 }
 
 /// Any table: some subtables; now and then the count or a size is wrong.
-fn any_table(random: &mut Random, kerning: Kerning, glyphs: &Range<u16>) -> Vec<u8> {
+pub fn any_table(random: &mut Random, kerning: Kerning, glyphs: &Range<u16>) -> Vec<u8> {
     let edition = Edition::any(random, kerning);
     let subtables: Vec<Vec<u8>> = (0..random.below(5)).map(|_| any_listed(random, edition, glyphs)).collect();
     let mut table = edition.table(&subtables);

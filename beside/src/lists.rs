@@ -195,7 +195,7 @@ impl Question for Coverage {
 }
 
 /// So many numbers to lend.
-fn lent(held: u64, count: usize) -> Vec<u64> {
+pub fn lent(held: u64, count: usize) -> Vec<u64> {
     (0..count as u32).map(|number| held.rotate_left(number)).collect()
 }
 
@@ -216,7 +216,7 @@ fn ask_next(asked: &mut dyn Ask, table: &Rc<[u8]>, list: List, cursor: Cursor) {
 }
 
 /// The most elements of a list that are asked for, as sizes of 0 make lists very long.
-const ELEMENTS: usize = 24;
+pub const ELEMENTS: usize = 24;
 
 /// Goes through all lists of the table that begins at a start, beside the crate's iterators.
 fn ask_lists(asked: &mut dyn Ask, table: &Rc<[u8]>, start: u64) {
@@ -318,7 +318,7 @@ fn counts_and_sizes(asked: &mut dyn Ask) {
 }
 
 /// Starts and places that a number of fewer bits, or a sum without care, would take for one in the table.
-fn far_places(length: u64) -> Vec<u64> {
+pub fn far_places(length: u64) -> Vec<u64> {
     let near = [1, 8, length - 16, length - 12, length - 1, length, length + 1];
     let far = [1 << 16, 1 << 31, (1 << 32) - 1, 1 << 32, (1 << 32) + 8, 1 << 63, u64::MAX - 15, u64::MAX - 7, u64::MAX];
     [&near[..], &far].concat()
@@ -376,8 +376,8 @@ fn coverages(asked: &mut dyn Ask, random: &mut Random) {
 }
 
 fn random_tables(asked: &mut dyn Ask, random: &mut Random, cases: u64) {
-    let asked = &mut Counted { asked, left: cases };
-    while asked.left > 0 {
+    let asked = &mut Counted::new(asked, cases);
+    while asked.are_left() {
         let mut table = any_heads(random);
         if random.once_in(3) {
             damage(random, &mut table);
@@ -401,9 +401,21 @@ pub fn any_cursor(random: &mut Random, length: usize) -> Cursor {
 }
 
 /// Passes questions on and counts them down.
-struct Counted<'a> {
+pub struct Counted<'a> {
     asked: &'a mut dyn Ask,
     left: u64,
+}
+
+impl<'a> Counted<'a> {
+    /// Counts down from so many.
+    pub fn new(asked: &'a mut dyn Ask, left: u64) -> Self {
+        Counted { asked, left }
+    }
+
+    /// Whether there are questions left.
+    pub fn are_left(&self) -> bool {
+        self.left > 0
+    }
 }
 
 impl Ask for Counted<'_> {

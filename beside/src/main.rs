@@ -9,6 +9,8 @@ mod insertion_pass;
 mod kerning;
 mod kerning_by_copy;
 mod kerning_examples;
+mod kerning_lists;
+mod kerning_lists_by_copy;
 mod kerning_pairs;
 mod kerning_passes;
 mod kerning_run;
@@ -108,6 +110,7 @@ fn ask_all(asked: &mut dyn Ask, cases: u64, seed: u64, seconds: u64) -> u64 {
         kerning_pairs::ask_all(asked.part(), kerning, random, cases / 5);
         kerning_passes::ask_all(asked.part(), kerning, random, cases / 5);
         kerning_steps::ask_all(asked.part(), kerning, random, cases / 5);
+        kerning_lists::ask_all(asked.part(), kerning, random, cases / 5);
         kerning_runs::ask_all(asked.part(), kerning, random, cases / 5);
     }
     asked.left_out

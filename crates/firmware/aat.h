@@ -165,7 +165,8 @@ uint32_t aat_morx_should_reverse(uint32_t coverage, uint32_t right_to_left, uint
 /* Kerning
 
    It leaves the line as it is and adds to the adjustments, along, one for each place of the room; along_len is the room, or
-   it is AAT_LINE. version is that of the list that the subtable stands in. A version 0 of kern is its old edition. */
+   it is AAT_LINE. version is that of the list that the subtable stands in, the last number of the list's cursor. A version 0
+   of kern is its old edition. */
 
 /* What the kern or kerx subtable at start adds between two glyphs.
    Answers: AAT_DONE, AAT_NOTHING (no number for them), AAT_TABLE, AAT_HEAD (no subtable can be read, or its format has no
@@ -200,6 +201,25 @@ uint32_t aat_kern_run(const uint8_t *table, size_t table_len, size_t start, cons
 uint32_t aat_kerx_run(const uint8_t *table, size_t table_len, size_t start, uint32_t right_to_left, uint16_t *glyphs,
                       size_t glyphs_len, uint16_t *tags, size_t tags_len, const uint16_t *homes, size_t homes_len, size_t used,
                       int64_t *along, size_t along_len, uint32_t *heads);
+
+/* The list of a kern or kerx table's subtables
+
+   A cursor is the byte of the table where the list's next subtable begins, how many subtables its count still gives, and its
+   version; any three numbers may be lent as one, and a version above 65,535 counts as 65,535. Otherwise it goes as with the
+   lists of a morx table: a subtable's fields begin with 1, and at the end of the list, where the count is used up or the
+   head can't be read, the answer is AAT_DONE, the fields are 0 each, and the cursor stays as it was. The other answer is
+   AAT_TABLE. */
+
+/* The cursor at the subtables of the kern or kerx table at start; start 0 is no table, and has none. AAT_HEAD, too: the start
+   is past the table. Writes: cursor. */
+uint32_t aat_kern_subtables(const uint8_t *table, size_t table_len, size_t start, uint64_t cursor[3]);
+uint32_t aat_kerx_subtables(const uint8_t *table, size_t table_len, size_t start, uint64_t cursor[3]);
+
+/* The next subtable. Writes: cursor; fields: 1, the byte where its head begins, which is the start for pairs, passes and
+   steps, the format, whether a run passes over it, and whether a run from left to right turns the line for it, 1 or 0 each.
+   In kerx a run from right to left turns the line where that is 0; in kern no run does, and it is 0. */
+uint32_t aat_kern_next_subtable(const uint8_t *table, size_t table_len, uint64_t cursor[3], uint64_t fields[5]);
+uint32_t aat_kerx_next_subtable(const uint8_t *table, size_t table_len, uint64_t cursor[3], uint64_t fields[5]);
 
 /* Single steps of the machines
 

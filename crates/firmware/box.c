@@ -49,6 +49,10 @@
       31 morx_order            coverage 4, order 4               answer 4, order 4
       32 morx_should_reverse   coverage 4, direction 4,          answer 4, turned 4
                                turned 4
+      33 kern_subtables        start 8, cursor 3 x 8             answer 4, cursor
+      34 kerx_subtables        as 33                             as 33
+      35 kern_next_subtable    cursor 3 x 8, fields 5 x 8        answer 4, cursor, fields
+      36 kerx_next_subtable    as 35                             as 35
 
    A name is its length 4 and the bytes. Glyphs, tags and homes are each a count 4 and so many numbers 2, the adjustments along
    the line a count 4 and so many numbers 8; a reply has the numbers alone.
@@ -88,7 +92,7 @@ static uint16_t glyph, version;
 static uint32_t ends;
 
 /* Where a list goes on, and what its next element has. */
-static uint64_t cursor[2], fields[6];
+static uint64_t cursor[3], fields[6];
 
 static uint8_t input[65536], output[65536];
 static size_t input_len, input_at, output_len;
@@ -371,20 +375,23 @@ static void kern_one(kerning_step *entry) {
     put(advance, 8);
 }
 
-typedef uint32_t next_of_list(const uint8_t *, size_t, uint64_t *, uint64_t *);
+typedef uint32_t start_of_list(const uint8_t *, size_t, size_t, uint64_t *);
 
-static void morx_chains(void) {
+/* The cursor at a list, of so many numbers. */
+static void list(start_of_list *entry, int numbers) {
     start = take(8);
-    take_numbers(cursor, 2);
-    put(aat_morx_chains(table, table_len, start, cursor), 4);
-    put_numbers(cursor, 2);
+    take_numbers(cursor, numbers);
+    put(entry(table, table_len, start, cursor), 4);
+    put_numbers(cursor, numbers);
 }
 
-static void next(next_of_list *entry, int count) {
-    take_numbers(cursor, 2);
+typedef uint32_t next_of_list(const uint8_t *, size_t, uint64_t *, uint64_t *);
+
+static void next(next_of_list *entry, int numbers, int count) {
+    take_numbers(cursor, numbers);
     take_numbers(fields, count);
     put(entry(table, table_len, cursor, fields), 4);
-    put_numbers(cursor, 2);
+    put_numbers(cursor, numbers);
     put_numbers(fields, count);
 }
 
@@ -433,12 +440,16 @@ static void answer(uint8_t call) {
     case 24: kerx_run(); break;
     case 25: kern_one(aat_kern_step); break;
     case 26: kern_one(aat_kerx_step); break;
-    case 27: morx_chains(); break;
-    case 28: next(aat_morx_next_chain, 6); break;
-    case 29: next(aat_morx_next_feature, 5); break;
-    case 30: next(aat_morx_next_subtable, 6); break;
+    case 27: list(aat_morx_chains, 2); break;
+    case 28: next(aat_morx_next_chain, 2, 6); break;
+    case 29: next(aat_morx_next_feature, 2, 5); break;
+    case 30: next(aat_morx_next_subtable, 2, 6); break;
     case 31: morx_order(); break;
     case 32: morx_should_reverse(); break;
+    case 33: list(aat_kern_subtables, 3); break;
+    case 34: list(aat_kerx_subtables, 3); break;
+    case 35: next(aat_kern_next_subtable, 3, 5); break;
+    case 36: next(aat_kerx_next_subtable, 3, 5); break;
     default: exit(1);
     }
 }

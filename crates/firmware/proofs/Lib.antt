@@ -2,5 +2,6 @@
 mod Stepping
 mod Slots
 mod Lists
+mod KernLists
 mod KernPairs
 mod KernSteps

@@ -3,4 +3,5 @@ pub mod Survey
 pub mod Steps
 pub mod Runs
 pub mod Cursors
+pub mod KernCursors
 pub mod KernSteps

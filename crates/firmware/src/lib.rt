@@ -18,6 +18,7 @@ ghost use Rattle.ligature.specs.Calls.{passCall as ligating, callLeaves as liga
 ghost use Rattle.firmware.specs.Survey.{surveyAnswer, verdictOf, badRecord};
 
 mod cursors;
+mod kern_cursors;
 mod kern_steps;
 mod kerns;
 mod runs;

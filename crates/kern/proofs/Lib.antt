@@ -2,4 +2,5 @@
 mod Heads
 mod Works
 mod Calls
+pub mod Cursors
 pub mod Manual

@@ -1,4 +1,5 @@
 -- The kern table.
 pub mod Heads
+pub mod Cursors
 pub mod Kern
 pub mod Manual

@@ -2,9 +2,12 @@
 use answers::Answer;
 use answers::Check;
 use answers::Refusal;
+use kerning_lists::Cursor;
 use kerning_lists::Head;
+use kerning_lists::ListStart;
 use kerning_lists::Run;
 use kerning_lists::Subtable;
+use kerning_lists::SubtableReply;
 use pairs::PairReply;
 ghost use mathlib.Core.Path.{_≡_};
 ghost use mathlib.Core.Bool.{false};
@@ -16,6 +19,7 @@ ghost use Rattle.kerning.specs.Additions.{addAll, Within};
 ghost use Rattle.kerning_lists.specs.Walk.{walkAnswer, visited, heads};
 ghost use Rattle.kerning_lists.specs.Run.{contribution, contributions, usedPart};
 ghost use Rattle.kern.specs.Heads.{oldSubtable, newSubtable, headIn, headAt, listOf, walkOf};
+ghost use Rattle.kern.specs.Cursors.{listFrom, listCall, subtableCall};
 ghost use Rattle.kern.specs.Kern.{worked, passed, passCall, pairIn, pairCall, adds, runCall};
 
 // The old edition's bit for horizontal text, and the new one's for vertical text.
@@ -112,6 +116,40 @@ fn list_of(bytes: &[u8]) -> List
         count: kerning_lists::u32_or_zero(bytes, 4),
         first: 8,
     }
+}
+
+// The list at `start`, from its first subtable on.
+fn list_from(table: &[u8], start: usize) -> Cursor
+    requires { ⌜ start ≤ length (now table) ⌝ }
+    ensures { λ r. ⌜ r ≡ listFrom (now (table .entry)) start ⌝ }
+{
+    let list = list_of(kerning_lists::list_bytes(table, start));
+    Cursor {
+        place: start + list.first,
+        left: list.count as usize,
+        version: list.version,
+    }
+}
+
+// The subtables of the list at `start`.
+pub fn subtables(table: &[u8], start: usize) -> ListStart
+    ensures { λ r. ⌜ r ≡ listCall (now (table .entry)) start ⌝ }
+{
+    if let Check::Refused(why) = kerning_lists::refuse_list(table.len(), start) {
+        return ListStart::Refused(why);
+    }
+    ListStart::From(list_from(table, start))
+}
+
+// The next subtable of a list, whatever the cursor's numbers are.
+pub fn next_subtable(table: &[u8], cursor: Cursor) -> SubtableReply
+    ensures { λ r. ⌜ r ≡ subtableCall (now (table .entry)) cursor ⌝ }
+{
+    if let Check::Refused(why) = answers::refuse_table(table.len()) {
+        return SubtableReply::Refused(why);
+    }
+    let head = head_at(table, cursor.version, cursor.place);
+    SubtableReply::Next(kerning_lists::next_by(head, cursor))
 }
 
 // The pass by the subtable that begins with `bytes`, of a format.

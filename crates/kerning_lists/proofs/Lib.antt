@@ -3,5 +3,6 @@ pub mod Turns
 pub mod Tests
 pub mod Runs
 pub mod Starts
+pub mod Cursors
 pub mod Calls
 pub mod Manual

@@ -1,4 +1,5 @@
 -- A kerning table's list of subtables, in one shape for kern and kerx.
 pub mod Walk
 pub mod Run
+pub mod Cursors
 pub mod Manual

@@ -11,6 +11,7 @@ ghost use Rattle.line.specs.Line.{lineOf};
 ghost use Rattle.laws.specs.Lists.{either};
 ghost use Rattle.kerning_lists.specs.Walk.{u16OrZero, u32OrZero, listBytes};
 ghost use Rattle.kerning_lists.specs.Run.{zeros, runTests};
+ghost use Rattle.kerning_lists.specs.Cursors.{nextBy, listTests};
 
 // A subtable by its head: whether a run passes over it, whether it goes the other way round, its format, where it begins and where the next does.
 pub struct Subtable {
@@ -25,6 +26,31 @@ pub struct Subtable {
 pub enum Head {
     At(Subtable),
     Cut,
+}
+
+// Where a list goes on: the place of its next subtable in the table, how many its count still gives, and its version.
+pub struct Cursor {
+    pub place: usize,
+    pub left: usize,
+    pub version: u16,
+}
+
+// What a list goes on with: a subtable, and where the list goes on behind it.
+pub enum NextSubtable {
+    At { subtable: Subtable, next: Cursor },
+    End,
+}
+
+// What a list's start answers: DONE with its cursor, or a refusal.
+pub enum ListStart {
+    From(Cursor),
+    Refused(Refusal),
+}
+
+// What a cursor answers: DONE with what the list goes on with, or a refusal.
+pub enum SubtableReply {
+    Next(NextSubtable),
+    Refused(Refusal),
 }
 
 // What a whole run answers, with the heads that it read.
@@ -70,6 +96,40 @@ pub fn list_bytes(table: &[u8], start: usize) -> &[u8]
         return parse::from(table, table.len());
     }
     parse::from(table, start)
+}
+
+// The next subtable, by the head at the cursor's place. One that can't be read ends the list.
+pub fn next_by(head: Head, cursor: Cursor) -> NextSubtable
+    ensures { λ r. ⌜ r ≡ nextBy head cursor ⌝ }
+{
+    if cursor.left == 0 {
+        return NextSubtable::End;
+    }
+    let Head::At(subtable) = head else {
+        return NextSubtable::End;
+    };
+    let place = subtable.next;
+    NextSubtable::At {
+        subtable,
+        next: Cursor {
+            place,
+            left: cursor.left - 1,
+            version: cursor.version,
+        },
+    }
+}
+
+// The tests before a list's cursor: TABLE, HEAD.
+pub fn refuse_list(length: usize, start: usize) -> Check
+    ensures { λ r. ⌜ r ≡ refuse (listTests length start) ⌝ }
+{
+    if let Check::Refused(why) = answers::refuse_table(length) {
+        return Check::Refused(why);
+    }
+    if length < start {
+        return Check::Refused(Refusal::Head);
+    }
+    Check::Passed
 }
 
 // The lent adjustments become zero.
