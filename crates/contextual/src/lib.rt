@@ -35,7 +35,7 @@ pub struct ContextualStep {
 }
 
 // What takes a glyph's place, if anything does.
-enum Substitute {
+pub enum Substitute {
     To(u16),
     None,
 }

@@ -52,7 +52,7 @@ pub struct InsertionPass {
 }
 
 // A list of glyphs that an entry names: none, where it begins, or one that can't be read.
-enum Listed {
+pub enum Listed {
     None,
     At(usize),
     Short,

@@ -12,8 +12,8 @@ use Rattle.answers.specs.declared.Answer.{Answer}
 use Rattle.answers.specs.declared.Answer.the-variants as Answer′
 use Rattle.line.proofs.Room.{room-small}
 use Rattle.machine.specs.Pass.{isDone}
-use Rattle.machine.specs.Stall.{stalled}
-use Rattle.machine.proofs.Stalls.{Falls, stall-falls}
+use Rattle.machine.specs.Stall.{stalled, Falls}
+use Rattle.machine.proofs.Stalls.{stall-falls}
 use Rattle.kerning.specs.Additions.{Addition, addAll, Within, Kerned, after, nothingAdded}
 use Rattle.kerning.proofs.Adding.{Small, small-none, small-append, length-addAll, addAll-none, addAll-append, within-more, within-addAll}
 use Rattle.kerning_machine.specs.declared.Kerning.{Kerning}

@@ -1,4 +1,4 @@
-// Runs document 01's known answers through the proved entries and prints each; those it marks are proved in specs/Known.antt.
+// Runs document 01's known answers through the proved entries and prints each; those it marks are proved in the crate `promises`.
 use answers::Reply;
 use shaper::SHAPER_ROOM;
 use shaper::Shaped;

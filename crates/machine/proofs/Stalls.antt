@@ -1,19 +1,11 @@
 -- The stall rule ends: each step advances, or comes one nearer to the one that must.
-use Prim.Native.Nat.{ℕ, _+_, _*_, _-_, _<_, _≤_}
-use mathlib.Core.Path.{_≡_}
+use Prim.Native.Nat.{ℕ, _<_, _≤_}
 use mathlib.Core.Bool.{Bool, true, false}
-use mathlib.Core.Logic.{_⊎_, ⊎-elim}
+use mathlib.Core.Logic.{⊎-elim}
 use native.Mathlib.Omega.{arith}
 use borrow.Author.Tests.{lt-ltb, le-ltb}
 use Rattle.laws.proofs.Numbers.{lt-or-ge}
-use Rattle.machine.specs.Stall.{stalled}
-use Rattle.machine.specs.declared.Stalled.{Stalled}
-
--- what the rule keeps and what falls
-pub record Falls (cycles used i : ℕ) (to : Stalled) : Type 0 where
-  pub sound : to .cycles ≤ 17
-  pub within : i + to .advance ≤ used
-  pub less : (used - (i + to .advance)) * 18 + (18 - to .cycles) < (used - i) * 18 + (18 - cycles)
+use Rattle.machine.specs.Stall.{stalled, Falls}
 
 pub stall-falls : (cycles used i : ℕ) (stays : Bool) → cycles ≤ 17 → i < used → Falls cycles used i (stalled cycles stays)
 unfolding stalled

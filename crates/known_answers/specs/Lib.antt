@@ -1,2 +1,0 @@
--- Document 01's known answers.
-pub mod Known

@@ -1,0 +1,141 @@
+-- Each demand's theorems, from the crates below.
+use mathlib.Core.Path.{_≡_}
+use Rattle.answers.proofs.Refusals.{refuse-none, refuse-here, refuse-later}
+use Rattle.line.proofs.Exact.{valid-exact, legal-exact}
+use Rattle.line.proofs.FreshLaws.{fresh-valid, fresh-starts}
+use Rattle.line.proofs.Demand3.{over-changes}
+use Rattle.line.proofs.Known as Edits
+use Rattle.machine.proofs.Stalls.{stall-falls}
+use Rattle.morx.proofs.Heads.{heads-counted}
+use Rattle.morx.proofs.Demand3.{fresh-demand3, calls-honest}
+use Rattle.morx.proofs.Demand3 as Calls
+use Rattle.shaper.proofs.Honesty.{shaped-runs}
+use Rattle.parse.proofs.Laws.{u8-from, u16-from, u32-from}
+use Rattle.tables.proofs.Finding.{search-finds, search-finds-pair}
+use Rattle.tables.proofs.ManualLookup.{lookup-as-manual}
+use Rattle.tables.proofs.Surveys.{survey-sound, survey-complete, survey-bad}
+use Rattle.state_tables.proofs.Manual.{class-by-lookup, class-by-array, entry-as-manual}
+use Rattle.ltag.proofs.Manual.{index-as-manual}
+use Rattle.verbs.proofs.Drawing.{as-drawn}
+use Rattle.verbs.proofs.Laws.{from-place, place-from, placeOf-below, length-rearranged, getD-rearranged}
+use Rattle.contextual.proofs.Manual.{by-manual, past-manual}
+use Rattle.ligature.proofs.Manual.{action-by-manual, action-past-manual, component-by-manual, component-past-manual, ligature-by-manual, ligature-past-manual}
+use Rattle.insertion.proofs.Manual.{glyphs-by-manual, list-by-manual, list-past-manual, list-at-end}
+use Rattle.chains.proofs.Manual.{chain-as-manual, chains-end, feature-as-manual, features-end, subtable-as-manual, subtables-end}
+use Rattle.kern.proofs.Cursors as KernCursor
+use Rattle.kern.proofs.Manual.{kern-as-manual, kern-pair-as-manual}
+use Rattle.kern_machine.proofs.Manual.{list-as-manual}
+use Rattle.kerx.proofs.Cursors as KerxCursor
+use Rattle.kerx.proofs.Manual.{kerx-as-manual, kerx-pair-as-manual, kerx-class-as-manual}
+use Rattle.promises.specs.Demand1.{Demand1}
+use Rattle.promises.specs.Demand2.{Lookups, StateTables, Verbs, SubtableLists, Chains, Kerning, Demand2}
+use Rattle.promises.specs.Demand3.{Demand3}
+use Rattle.promises.proofs.Known.{known-answers}
+
+pub demand1 : Demand1
+demand1 =
+    record {
+      refuse-none = refuse-none;
+      refuse-here = refuse-here;
+      refuse-later = refuse-later;
+      valid-exact = valid-exact;
+      legal-exact = legal-exact;
+      stall-falls = stall-falls;
+      heads-counted = heads-counted;
+      kern-cursor-walks = KernCursor.cursor-walks;
+      kerx-cursor-walks = KerxCursor.cursor-walks;
+      walk-turned = KerxCursor.walk-turned;
+      shaped-runs = shaped-runs;
+    }
+
+lookups : Lookups
+lookups =
+    record {
+      search-finds = search-finds;
+      search-finds-pair = search-finds-pair;
+      lookup-as-manual = lookup-as-manual;
+      survey-sound = survey-sound;
+      survey-complete = survey-complete;
+      survey-bad = survey-bad;
+    }
+
+state-tables : StateTables
+state-tables = record { class-by-lookup = class-by-lookup; class-by-array = class-by-array; entry-as-manual = entry-as-manual }
+
+verbs : Verbs
+verbs =
+    record {
+      as-drawn = as-drawn;
+      from-place = from-place;
+      place-from = place-from;
+      placeOf-below = placeOf-below;
+      length-rearranged = length-rearranged;
+      getD-rearranged = getD-rearranged;
+    }
+
+subtable-lists : SubtableLists
+subtable-lists =
+    record {
+      by-manual = by-manual;
+      past-manual = past-manual;
+      action-by-manual = action-by-manual;
+      action-past-manual = action-past-manual;
+      component-by-manual = component-by-manual;
+      component-past-manual = component-past-manual;
+      ligature-by-manual = ligature-by-manual;
+      ligature-past-manual = ligature-past-manual;
+      glyphs-by-manual = glyphs-by-manual;
+      list-by-manual = list-by-manual;
+      list-past-manual = list-past-manual;
+      list-at-end = list-at-end;
+    }
+
+chains : Chains
+chains =
+    record {
+      chain-as-manual = chain-as-manual;
+      chains-end = chains-end;
+      feature-as-manual = feature-as-manual;
+      features-end = features-end;
+      subtable-as-manual = subtable-as-manual;
+      subtables-end = subtables-end;
+    }
+
+kerning : Kerning
+kerning =
+    record {
+      kern-as-manual = kern-as-manual;
+      kerx-as-manual = kerx-as-manual;
+      kern-pair-as-manual = kern-pair-as-manual;
+      kerx-pair-as-manual = kerx-pair-as-manual;
+      kerx-class-as-manual = kerx-class-as-manual;
+      list-as-manual = list-as-manual;
+    }
+
+pub demand2 : Demand2
+demand2 =
+    record {
+      lookups = lookups;
+      state-tables = state-tables;
+      verbs = verbs;
+      subtable-lists = subtable-lists;
+      chains = chains;
+      kerning = kerning;
+      index-as-manual = index-as-manual;
+      u8-from = u8-from;
+      u16-from = u16-from;
+      u32-from = u32-from;
+      known-answers = known-answers;
+    }
+
+pub demand3 : Demand3
+demand3 =
+    record {
+      fresh-demand3 = fresh-demand3;
+      demand3 = Calls.demand3;
+      fresh-valid = fresh-valid;
+      fresh-starts = fresh-starts;
+      calls-honest = calls-honest;
+      over-changes = over-changes;
+      known-edits = Edits.known;
+    }

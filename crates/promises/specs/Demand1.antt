@@ -1,0 +1,54 @@
+-- Demand 1: any table bytes and any lent line get an answer, and the work ends; bad calls are refused by number and change nothing; a pass that ends
+-- early or runs out of room leaves exactly the edits made before that point. The contracts of the exported entries say so: none has a `requires`,
+-- each is proved to end, and each states its answer and all that was lent. Here is what shows that their definitions mean it.
+use Prim.Native.Nat.{ℕ, _<_, _≤_}
+use mathlib.Core.Path.{_≡_}
+use mathlib.Core.Bool.{Bool, true, false}
+use mathlib.Core.List.{List, [], _∷_, map}
+use mathlib.Core.Logic.{_⊎_}
+use lib.ListN.{length}
+use Rattle.answers.specs.Refuse.{Test, refuse}
+use Rattle.answers.specs.declared.Answer.the-variants.{Done, Full, Limit}
+use Rattle.answers.specs.declared.Check.the-variants.{Passed, Refused}
+use Rattle.line.specs.Line.{Line, Valid, Legal}
+use Rattle.line.specs.Test.{Decides, isValid, isLegal}
+use Rattle.machine.specs.Stall.{Falls, stalled}
+use Rattle.morx.specs.Heads.{Counted}
+use Rattle.morx.specs.Run.{ran}
+use Rattle.morx.specs.declared.Choices.{Choices}
+use Rattle.kerning_lists.specs.Walk.{listBytes}
+use Rattle.kerning_lists.specs.Cursors.{followed, moved}
+use Rattle.kern.specs.Heads as Kern
+use Rattle.kern.specs.Cursors as KernCursor
+use Rattle.kerx.specs.Heads as Kerx
+use Rattle.kerx.specs.Cursors as KerxCursor
+use Rattle.shaper.specs.Shaper.{inputOf, shaperRoom, shaped}
+use Rattle.shaper.specs.declared.Input.the-variants.{TableUntil}
+
+pub record Demand1 : Type 0 where
+  -- a call without tests passes; the first test that holds refuses with its number, whatever comes behind; one that does not hold leaves it to the rest
+  pub refuse-none : refuse [] ≡ Passed
+  pub refuse-here : (t : Test) (ts : List Test) → t .holds ≡ true → refuse (t ∷ ts) ≡ Refused (t .refusal)
+  pub refuse-later : (t : Test) (ts : List Test) → t .holds ≡ false → refuse (t ∷ ts) ≡ refuse ts
+  -- LINE is given exactly when it should be: the test decides whether a line is valid
+  pub valid-exact : (l : Line) → Decides (Valid l) (isValid l)
+  -- and whether its used tags and homes are legal
+  pub legal-exact : (tags homes : List ℕ) (used : ℕ) → Decides (Legal tags homes used) (isLegal tags homes used)
+  -- the stall rule ends: a step advances within the line, or comes one nearer to the one that must
+  pub stall-falls : (cycles used i : ℕ) (stays : Bool) → cycles ≤ 17 → i < used → Falls cycles used i (stalled cycles stays)
+  -- a run of morx counts the heads of the walk: all of them (DONE), 65,535 of more (LIMIT), or those up to the subtable that ran full (FULL)
+  pub heads-counted : (table : List ℕ) (start : ℕ) (choices : Choices) (l : Line) → Counted table start choices l (ran table start choices l)
+  -- followed from a list's start, kern's cursor gives exactly the subtables of the run's walk, in the places of the whole table; so does kerx's
+  pub kern-cursor-walks : (table : List ℕ) (start : ℕ)
+      → followed (KernCursor.nextSubtable table) (KernCursor.listFrom table start .left) (KernCursor.listFrom table start)
+      ≡ map (moved start) (Kern.walkOf (listBytes table start))
+  pub kerx-cursor-walks : (table : List ℕ) (start : ℕ)
+      → followed (KerxCursor.nextSubtable table) (KerxCursor.listFrom table start .left) (KerxCursor.listFrom table start)
+      ≡ map (moved start) (Kerx.walkOf false (listBytes table start))
+  -- a run of kerx from right to left reads the same subtables, each turned the other way round
+  pub walk-turned : (bytes : List ℕ) → Kerx.walkOf true bytes ≡ map KerxCursor.turnedRound (Kerx.walkOf false bytes)
+  -- an input that the shaper takes is answered DONE, FULL or LIMIT
+  pub shaped-runs : (input glyphs tags homes : List ℕ) (end : ℕ) → inputOf input ≡ TableUntil end → length glyphs ≡ shaperRoom
+      → length tags ≡ shaperRoom → length homes ≡ shaperRoom
+      → (shaped input glyphs tags homes .reply .answer ≡ Done)
+      ⊎ ((shaped input glyphs tags homes .reply .answer ≡ Full) ⊎ (shaped input glyphs tags homes .reply .answer ≡ Limit))

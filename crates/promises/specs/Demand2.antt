@@ -1,0 +1,204 @@
+-- Demand 2: on document 01's domain the results equal the crate's. The contracts say of every entry which definition it equals, and runs beside the
+-- crate compare them. Here are the theorems that join these definitions to Apple's manual, and to the verbs as document 01 draws them. The manual was
+-- not at hand: docs/DIFFERENCES.md says what stands in for it, and lists where the crate does otherwise, which the hypotheses here leave out.
+use Prim.Native.Nat.{ℕ, suc, _+_, _*_, _<_, _≤_}
+use mathlib.Core.Path.{_≡_}
+use mathlib.Core.Bool.{Bool}
+use mathlib.Core.List.{List}
+use lib.ListN.{length, getD, drop}
+use Rattle.answers.specs.Limits.{tableLimit}
+use Rattle.parse.specs.Reads.{u8At, u16At, u32At, readU16}
+use Rattle.parse.specs.declared.ReadU16.the-variants as U16
+use Rattle.parse.specs.declared.ReadU32.the-variants as U32
+use Rattle.tables.specs.Records.{pairPlace}
+use Rattle.tables.specs.Search.{searched}
+use Rattle.tables.specs.Survey.{scanned}
+use Rattle.tables.specs.Lookup.{lookupAt}
+use Rattle.tables.specs.Order.{InOrder, FirstBad, TheOne, firstOf, lastOf}
+use Rattle.tables.specs.ManualLookup as Lookup
+use Rattle.tables.specs.declared.records.Kind.{Kind}
+use Rattle.tables.specs.declared.records.Keys.the-variants.{Glyphs, Pairs}
+use Rattle.tables.specs.declared.survey.Surveyed.the-variants.{Sorted, Bad}
+use Rattle.state_tables.specs.States.{extendedAt, classicAt}
+use Rattle.state_tables.specs.Classes.{classOf}
+use Rattle.state_tables.specs.Manual as StateTable
+use Rattle.state_tables.specs.Manual.{ClassIs, LookupGives, ArrayGives, classTable, extended, classic}
+use Rattle.state_tables.specs.declared.States.{States}
+use Rattle.state_tables.specs.declared.Made.the-variants.{Ready}
+use Rattle.ltag.specs.Ltag.{languageIndex}
+use Rattle.ltag.specs.Manual as Ltag
+use Rattle.verbs.specs.Verbs.{placeOf, fromOf, rearranged}
+use Rattle.verbs.specs.Drawn.{AsDrawn}
+use Rattle.contextual.specs.Substitutes.{substituteOf, substituteBy}
+use Rattle.contextual.specs.Manual.{lookupNumber}
+use Rattle.contextual.specs.declared.Substitute.the-variants as Substitute
+use Rattle.ligature.specs.Actions.{readAction, readNumber}
+use Rattle.ligature.specs.Manual.{actionNumber, componentNumber, ligatureNumber}
+use Rattle.insertion.specs.Lists.{listOf, glyphsAt}
+use Rattle.insertion.specs.Manual.{glyphsFrom}
+use Rattle.insertion.specs.declared.Listed.the-variants as Listed
+use Rattle.chains.specs.Lists.{cursor, chainsFrom, nextChain, nextFeature, nextSubtable}
+use Rattle.chains.specs.Manual.{Lie, chainTotal, chainPlace, featureTotal, featurePlace, subtableTotal, subtablePlace, manualChain, manualFeature, manualSubtable, afterChains, afterFeatures, afterSubtables}
+use Rattle.chains.specs.declared.NextChain.the-variants as Chain
+use Rattle.chains.specs.declared.NextFeature.the-variants as Feature
+use Rattle.chains.specs.declared.NextSubtable.the-variants as Subtable
+use Rattle.pairs.specs.Manual.{Rising, OrderedValue, ClassValue, Legible}
+use Rattle.pairs.specs.Manual as Pair
+use Rattle.kerning_lists.specs.Manual as List′
+use Rattle.kern.specs.Heads as KernWalk
+use Rattle.kern.specs.Kern as KernPair
+use Rattle.kern.specs.Manual as Kern
+use Rattle.kern_machine.specs.Manual.{WholeList}
+use Rattle.kerx.specs.Heads as KerxWalk
+use Rattle.kerx.specs.Kerx as KerxPair
+use Rattle.kerx.specs.Manual as Kerx
+use Rattle.promises.specs.Known.{AllKnown}
+
+-- Lookup tables and their survey.
+pub record Lookups : Type 0 where
+  -- on records in order the search finds the one record that holds the glyph, or there is none
+  pub search-finds : (bytes : List ℕ) (kind : Kind) (count glyph : ℕ) → InOrder bytes kind count
+      → TheOne (firstOf bytes kind) (lastOf bytes kind) count glyph (searched bytes 12 (Glyphs kind) count glyph)
+  -- and so it does for pairs that lie in the table with rising keys
+  pub search-finds-pair : (bytes : List ℕ) (first count key : ℕ)
+      → ((i : ℕ) → i < count → pairPlace first i + 4 ≤ length bytes)
+      → ((i : ℕ) → suc i < count → u32At bytes (pairPlace first i) < u32At bytes (pairPlace first (suc i)))
+      → TheOne (λ i. u32At bytes (pairPlace first i)) (λ i. u32At bytes (pairPlace first i)) count key (searched bytes first Pairs count key)
+  -- in all six formats the element found is the one that lies where the manual says, and it is found wherever it lies in the table, where crate and
+  -- manual read alike
+  pub lookup-as-manual : (layout : Lookup.Layout) (bytes : List ℕ) (glyphs glyph : ℕ) → readU16 bytes 0 ≡ U16.Got (Lookup.formatNumber layout)
+      → Lookup.Alike bytes glyphs glyph layout → Lookup.AsManual bytes glyphs glyph layout
+  -- a table that the survey calls sorted has all its records in order
+  pub survey-sound : (bytes : List ℕ) (kind : Kind) (count : ℕ) → scanned bytes kind count ≡ Sorted → InOrder bytes kind count
+  -- and it calls every such table so
+  pub survey-complete : (bytes : List ℕ) (kind : Kind) (count : ℕ) → InOrder bytes kind count → scanned bytes kind count ≡ Sorted
+  -- the record that it names is bad, while all before it are good
+  pub survey-bad : (bytes : List ℕ) (kind : Kind) (count i : ℕ) → scanned bytes kind count ≡ Bad i → FirstBad bytes kind count i
+
+-- State tables: classes and entries.
+pub record StateTables : Type 0 where
+  -- an extended class is the manual's, where the class table is a lookup that crate and manual read alike
+  pub class-by-lookup : (bytes : List ℕ) (layout : Lookup.Layout) (glyphs glyph : ℕ) {states : States} → extendedAt bytes ≡ Ready states
+      → readU16 (drop (classTable extended bytes) bytes) 0 ≡ U16.Got (Lookup.formatNumber layout)
+      → ((glyph ≡ 65535 → ⊥) → Lookup.Alike (drop (classTable extended bytes) bytes) glyphs glyph layout)
+      → ClassIs (LookupGives (drop (classTable extended bytes) bytes) layout glyphs glyph) glyph (classOf bytes states glyph)
+  -- a classic class is the manual's, of any glyph
+  pub class-by-array : (bytes : List ℕ) (glyph : ℕ) {states : States} → classicAt bytes ≡ Ready states
+      → ClassIs (ArrayGives (drop (classTable classic bytes) bytes) glyph) glyph (classOf bytes states glyph)
+  -- in both layouts the entry of a state and a class below the class count is the manual's, wherever that names a state
+  pub entry-as-manual : (layout : StateTable.Layout) (bytes : List ℕ) (state class payload : ℕ) {states : States}
+      → StateTable.headAt layout bytes ≡ Ready states → StateTable.AsManual layout bytes states state class payload
+
+-- The sixteen verbs.
+pub record Verbs : Type 0 where
+  -- every verb makes of its window what document 01 draws, for any glyphs, any x, and any rest of the line
+  pub as-drawn : (a b : ℕ) (x : List ℕ) (c d : ℕ) → AsDrawn a b x c d
+  -- where a place goes and where it comes from are inverse of each other
+  pub from-place : (verb width place : ℕ) → fromOf verb width (placeOf verb width place) ≡ place
+  pub place-from : (verb width place : ℕ) → placeOf verb width (fromOf verb width place) ≡ place
+  -- no place leaves the window
+  pub placeOf-below : (verb width place : ℕ) → place < width → placeOf verb width place < width
+  -- no glyph is lost or added, and place k holds what stood where it comes from
+  pub length-rearranged : (verb width : ℕ) (part : List ℕ) → length (rearranged verb width part) ≡ length part
+  pub getD-rearranged : (verb width : ℕ) (part : List ℕ) (k : ℕ) → k < length part
+      → getD (rearranged verb width part) k 0 ≡ getD part (fromOf verb width k) 0
+
+-- The lists of morx's subtables: lookups, actions, components, ligatures, glyphs to insert.
+pub record SubtableLists : Type 0 where
+  -- a contextual entry's lookup is the one that lies where the manual says; one past the table substitutes nothing
+  pub by-manual : (bytes : List ℕ) (number glyph : ℕ) → (number ≡ 0xFFFF → ⊥) → 20 ≤ length bytes
+      → u32At bytes 16 + number * 4 + 4 ≤ length bytes → substituteOf bytes number glyph ≡ substituteBy (lookupAt (lookupNumber bytes number) glyph)
+  pub past-manual : (bytes : List ℕ) (number glyph : ℕ) → (number ≡ 0xFFFF → ⊥) → 20 ≤ length bytes
+      → length bytes < u32At bytes 16 + number * 4 + 4 → substituteOf bytes number glyph ≡ Substitute.None
+  -- ligature action i, component i and ligature i lie where the manual says; one past the table can't be read
+  pub action-by-manual : (bytes : List ℕ) (i : ℕ) → 20 ≤ length bytes → u32At bytes 16 + i * 4 + 4 ≤ length bytes
+      → readAction bytes i ≡ U32.Got (actionNumber bytes i)
+  pub action-past-manual : (bytes : List ℕ) (i : ℕ) → 20 ≤ length bytes → length bytes < u32At bytes 16 + i * 4 + 4 → readAction bytes i ≡ U32.Short
+  pub component-by-manual : (bytes : List ℕ) (i : ℕ) → 24 ≤ length bytes → u32At bytes 20 + i * 2 + 2 ≤ length bytes
+      → readNumber bytes 20 i ≡ U16.Got (componentNumber bytes i)
+  pub component-past-manual : (bytes : List ℕ) (i : ℕ) → 24 ≤ length bytes → length bytes < u32At bytes 20 + i * 2 + 2
+      → readNumber bytes 20 i ≡ U16.Short
+  pub ligature-by-manual : (bytes : List ℕ) (i : ℕ) → 28 ≤ length bytes → u32At bytes 24 + i * 2 + 2 ≤ length bytes
+      → readNumber bytes 24 i ≡ U16.Got (ligatureNumber bytes i)
+  pub ligature-past-manual : (bytes : List ℕ) (i : ℕ) → 28 ≤ length bytes → length bytes < u32At bytes 24 + i * 2 + 2
+      → readNumber bytes 24 i ≡ U16.Short
+  -- a list to insert has the manual's glyphs
+  pub glyphs-by-manual : (bytes : List ℕ) (number count : ℕ) → glyphsAt bytes (u32At bytes 16 + number * 2) count ≡ glyphsFrom bytes number count
+  -- one of some glyphs is read exactly where they lie in the table
+  pub list-by-manual : (bytes : List ℕ) (number count : ℕ) → (number ≡ 0xFFFF → ⊥) → 20 ≤ length bytes → 0 < count
+      → u32At bytes 16 + number * 2 + count * 2 ≤ length bytes → listOf bytes number count ≡ Listed.At (u32At bytes 16 + number * 2)
+  pub list-past-manual : (bytes : List ℕ) (number count : ℕ) → (number ≡ 0xFFFF → ⊥) → 20 ≤ length bytes → 0 < count
+      → length bytes < u32At bytes 16 + number * 2 + count * 2 → listOf bytes number count ≡ Listed.Short
+  -- and none, not even one of no glyphs, that begins at or past the end: there the crate ends the step
+  pub list-at-end : (bytes : List ℕ) (number count : ℕ) → (number ≡ 0xFFFF → ⊥) → 20 ≤ length bytes
+      → length bytes ≤ u32At bytes 16 + number * 2 → listOf bytes number count ≡ Listed.Short
+
+-- morx's chains, features and subtables, on lists whose heads lie in the table.
+pub record Chains : Type 0 where
+  -- chain i is the manual's, and the list ends behind the last
+  pub chain-as-manual : (table : List ℕ) (start : ℕ) → start + 8 ≤ length table → (i : ℕ) → i < chainTotal table start
+      → Lie table 16 (chainPlace table start) (suc i)
+      → nextChain table (afterChains table i (chainsFrom table start)) ≡ Chain.At (manualChain table start i)
+  pub chains-end : (table : List ℕ) (start : ℕ) → start + 8 ≤ length table → Lie table 16 (chainPlace table start) (chainTotal table start)
+      → nextChain table (afterChains table (chainTotal table start) (chainsFrom table start)) ≡ Chain.End
+  -- feature j of a chain is the manual's, and the list ends behind the last
+  pub feature-as-manual : (table : List ℕ) (chain j : ℕ) → j < featureTotal table chain → Lie table 12 (featurePlace table chain) (suc j)
+      → nextFeature table (afterFeatures table j (cursor (featurePlace table chain 0) (featureTotal table chain)))
+      ≡ Feature.At (manualFeature table chain j)
+  pub features-end : (table : List ℕ) (chain : ℕ) → Lie table 12 (featurePlace table chain) (featureTotal table chain)
+      → nextFeature table (afterFeatures table (featureTotal table chain) (cursor (featurePlace table chain 0) (featureTotal table chain)))
+      ≡ Feature.End
+  -- subtable k of a chain is the manual's, and the list ends behind the last
+  pub subtable-as-manual : (table : List ℕ) (chain k : ℕ) → k < subtableTotal table chain → Lie table 12 (subtablePlace table chain) (suc k)
+      → nextSubtable table (afterSubtables table k (cursor (subtablePlace table chain 0) (subtableTotal table chain)))
+      ≡ Subtable.At (manualSubtable table chain k)
+  pub subtables-end : (table : List ℕ) (chain : ℕ) → Lie table 12 (subtablePlace table chain) (subtableTotal table chain)
+      → nextSubtable table (afterSubtables table (subtableTotal table chain) (cursor (subtablePlace table chain 0) (subtableTotal table chain)))
+      ≡ Subtable.End
+
+-- kern and kerx.
+pub record Kerning : Type 0 where
+  -- kern's subtable k begins behind the lengths that the heads before it tell, in both editions, and is in the walk exactly when it is counted and those
+  -- heads lie in the table; so does kerx's
+  pub kern-as-manual : (bytes : List ℕ) → Kern.firstOf bytes ≤ length bytes
+      → List′.AsManual (Kern.HeadLies bytes) (Kern.subtableAt bytes (Kern.versionOf bytes)) (Kern.lengthAt bytes (Kern.versionOf bytes))
+      (Kern.firstOf bytes) (Kern.countOf bytes) (KernWalk.walkOf bytes)
+  pub kerx-as-manual : (rtl : Bool) (bytes : List ℕ) → 8 ≤ length bytes
+      → List′.AsManual (Kerx.HeadLies bytes (Kerx.versionOf bytes)) (Kerx.subtableAt rtl bytes) (Kerx.lengthAt bytes) 8 (Kerx.countOf bytes)
+      (KerxWalk.walkOf rtl bytes)
+  -- a pair's answer is DONE with just the value that the manual has for it, and NOTHING exactly when it has none: on ordered pairs in rising order
+  -- (in kerx without tuples)
+  pub kern-pair-as-manual : (bytes : List ℕ) (version left right : ℕ) → Kern.HasPairs bytes version
+      → Rising bytes (Kern.firstPair version) (Kern.pairCount bytes version)
+      → Pair.AsManual (KernPair.pairIn bytes version left right)
+      (OrderedValue bytes 0 (Kern.firstPair version) (Kern.pairCount bytes version) left right)
+  pub kerx-pair-as-manual : (bytes : List ℕ) (version left right : ℕ) → Kerx.HasPairs bytes → Kerx.tupleCount bytes version ≡ 0
+      → Rising bytes 28 (Kerx.pairCount bytes)
+      → Pair.AsManual (KerxPair.pairIn bytes version left right)
+      (OrderedValue bytes (Kerx.tupleCount bytes version) 28 (Kerx.pairCount bytes) left right)
+  -- and on class pairs, where both lookups are read alike
+  pub kerx-class-as-manual : (bytes : List ℕ) (version left right : ℕ) → Kerx.HasClasses bytes → (glyphs : ℕ) (leftLayout rightLayout : Lookup.Layout)
+      → Legible (drop (Kerx.rowsOf bytes) bytes) glyphs left leftLayout
+      → Legible (drop (Kerx.columnsOf bytes) bytes) glyphs right rightLayout
+      → Pair.AsManual (KerxPair.pairIn bytes version left right)
+      (ClassValue bytes glyphs (Kerx.rowsOf bytes) (Kerx.columnsOf bytes) (Kerx.arrayOf bytes) left right leftLayout rightLayout)
+  -- what kern's machine adds for an entry, along the stream, is the manual's whole list: a number for each place popped, up to an odd one or the empty
+  -- stack; the step ends exactly when such a number does not lie in the table
+  pub list-as-manual : (bytes : List ℕ) (flags : ℕ) (stack : List ℕ) (depth used : ℕ) → WholeList bytes flags stack depth used
+
+pub record Demand2 : Type 0 where
+  pub lookups : Lookups
+  pub state-tables : StateTables
+  pub verbs : Verbs
+  pub subtable-lists : SubtableLists
+  pub chains : Chains
+  pub kerning : Kerning
+  -- the index of a language is that of the first tag whose bytes are the name, where no range up to it is bad, and it is found wherever that is so
+  pub index-as-manual : (table : List ℕ) (start : ℕ) (name : List ℕ) → length table ≤ tableLimit
+      → Ltag.AsManual (drop start table) name (languageIndex table start name)
+  -- reading from a start on is reading that much further behind
+  pub u8-from : (table : List ℕ) (start at : ℕ) → u8At (drop start table) at ≡ u8At table (start + at)
+  pub u16-from : (table : List ℕ) (start at : ℕ) → u16At (drop start table) at ≡ u16At table (start + at)
+  pub u32-from : (table : List ℕ) (start at : ℕ) → u32At (drop start table) at ≡ u32At table (start + at)
+  -- document 01's known answers that it marks, by computation
+  pub known-answers : AllKnown

@@ -1,0 +1,34 @@
+-- Demand 3: from a fresh line, through any sequence of substitution passes, every typed character belongs to exactly one place, the one that the
+-- history of edits gives; the length is the characters typed plus the glyphs inserted, and never exceeds the room.
+use Prim.Native.Nat.{ℕ, _<_}
+use mathlib.Core.Path.{_≡_}
+use mathlib.Core.List.{List, map}
+use lib.ListN.{length}
+use Rattle.answers.specs.Refuse.{refuse}
+use Rattle.answers.specs.declared.Check.the-variants.{Passed}
+use Rattle.line.specs.Line.{Line, Valid, Belongs}
+use Rattle.line.specs.Changes.{Change, applyAll, historyOf}
+use Rattle.line.specs.Entries.{freshOf, freshTests}
+use Rattle.line.specs.History.{FromLine, FromFresh, Fits, Honest, leftBy, historyBy}
+use Rattle.line.specs.Known as Known
+use Rattle.morx.specs.Sequence.{Call, leaves, makes}
+
+pub record Demand3 : Type 0 where
+  -- Demand 3 itself: from a fresh line, over any sequence of lone verbs, passes of every kind, steps that write the line and whole runs, refused
+  -- and cut-short ones included, on any tables
+  pub fresh-demand3 : (glyphs tags homes : List ℕ) → refuse (freshTests glyphs tags homes) ≡ Passed → (calls : List Call)
+      → FromFresh (length glyphs) (length homes)
+      (historyBy leaves makes calls (freshOf glyphs tags homes)) (leftBy leaves makes calls (freshOf glyphs tags homes))
+  -- the same from any valid line, each character starting where it is found
+  pub demand3 : (calls : List Call) (l : Line) → Valid l → FromLine l (historyBy leaves makes calls l) (leftBy leaves makes calls l)
+  -- a line that is taken as fresh is valid
+  pub fresh-valid : (glyphs tags homes : List ℕ) → refuse (freshTests glyphs tags homes) ≡ Passed → Valid (freshOf glyphs tags homes)
+  -- and each of its characters starts at its own place
+  pub fresh-starts : (glyphs tags homes : List ℕ) → refuse (freshTests glyphs tags homes) ≡ Passed → (c : ℕ)
+      → c < length (freshOf glyphs tags homes .homes) → Belongs (freshOf glyphs tags homes) c c
+  -- on a valid line every call leaves what the changes that it states make of it, and these never exceed the room
+  pub calls-honest : Honest leaves makes
+  -- any legal list of changes keeps demand 3, whoever makes it
+  pub over-changes : (changes : List Change) (l : Line) → Valid l → Fits changes l → FromLine l (historyOf changes) (applyAll changes l)
+  -- known cases by computation: a place pushed twice, a component twice, the ligature's own place among its components, and places off the line
+  pub known-edits : map Known.computed Known.cases ≡ map Known.said Known.cases

@@ -1,0 +1,5 @@
+-- What is promised: a record of theorems for each demand.
+pub mod Known
+pub mod Demand1
+pub mod Demand2
+pub mod Demand3
