@@ -31,7 +31,11 @@ chain-at-requires c κs = inside-fits _ _ _ (part-inside _ _ _ (c .before .befor
 
 returns-3 : tie.Need-returns-3
 unfolding nextChain
-returns-3 c = rw (ne-eqb _ _ (c .before .before .before .before .before .if1 .left), part-inside _ _ _ (c .before .before .before .before .read-part .ensures) (c .before .before .enum-told .given .1), c .chain-at .ensures, nextChain)
+returns-3 c =
+    let at-enum-told = c .before .before in
+    let at-read-part = at-enum-told .before .before in
+    let at-if1 = at-read-part .before in
+    rw (ne-eqb _ _ (at-if1 .if1 .left), part-inside _ _ _ (at-read-part .read-part .ensures) (at-enum-told .enum-told .given .1), c .chain-at .ensures, nextChain)
 
 pub chain-from-spec : {M : Type 1} → statement M
 chain-from-spec =

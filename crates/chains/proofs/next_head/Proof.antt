@@ -28,11 +28,20 @@ enum-told-2 c = search needs
 
 returns-2 : tie.Need-returns-2
 unfolding nextHead
-returns-2 c = rw (sym (c .before .before .before .before .before .subtable-from .ensures) ∙ c .before .before .before .enum-told .given .1, sym (c .before .before .chain-from .ensures) ∙ c .enum-told2 .given .1, nextHead)
+returns-2 c =
+    let at-chain-from = c .before .before in
+    let at-enum-told = at-chain-from .before in
+    let at-subtable-from = at-enum-told .before .before in
+    rw (sym (at-subtable-from .subtable-from .ensures) ∙ at-enum-told .enum-told .given .1, sym (at-chain-from .chain-from .ensures) ∙ c .enum-told2 .given .1, nextHead)
 
 returns-3 : tie.Need-returns-3
 unfolding nextHead
-returns-3 c = rw (sym (c .before .before .before .before .before .before .before .before .subtable-from .ensures) ∙ c .before .before .before .before .before .before .enum-told .given .1, sym (c .before .before .before .before .before .chain-from .ensures) ∙ c .before .before .before .chain .given .1, nextHead)
+returns-3 c =
+    let at-chain = c .before .before .before in
+    let at-chain-from = at-chain .before .before in
+    let at-enum-told = at-chain-from .before in
+    let at-subtable-from = at-enum-told .before .before in
+    rw (sym (at-subtable-from .subtable-from .ensures) ∙ at-enum-told .enum-told .given .1, sym (at-chain-from .chain-from .ensures) ∙ at-chain .chain .given .1, nextHead)
 
 pub next-head-spec : {M : Type 1} → statement M
 next-head-spec =

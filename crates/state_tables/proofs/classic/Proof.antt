@@ -30,7 +30,11 @@ enum-told-2 c = search needs
 
 returns-2 : tie.Need-returns-2
 unfolding classicAt
-returns-2 c = rw (sym (c .before .before .before .before .before .before .read-u16 .ensures) ∙ c .before .before .before .before .classes .given .1, sym (c .before .before .read-u162 .ensures) ∙ c .enum-told2 .given .1, classicAt)
+returns-2 c =
+    let at-read-u162 = c .before .before in
+    let at-classes = at-read-u162 .before .before in
+    let at-read-u16 = at-classes .before .before in
+    rw (sym (at-read-u16 .read-u16 .ensures) ∙ at-classes .classes .given .1, sym (at-read-u162 .read-u162 .ensures) ∙ c .enum-told2 .given .1, classicAt)
 
 read-u16-requires-3 : tie.Need-read-u16-requires-3
 read-u16-requires-3 c κs = search needs
@@ -43,7 +47,13 @@ enum-told-3 c = search needs
 
 returns-3 : tie.Need-returns-3
 unfolding classicAt
-returns-3 c = rw (sym (c .before .before .before .before .before .before .before .before .before .before .read-u16 .ensures) ∙ c .before .before .before .before .before .before .before .before .classes .given .1, sym (c .before .before .before .before .before .before .read-u162 .ensures) ∙ c .before .before .before .before .table .given .1, sym (c .before .before .read-u163 .ensures) ∙ c .enum-told3 .given .1, classicAt)
+returns-3 c =
+    let at-read-u163 = c .before .before in
+    let at-table = at-read-u163 .before .before in
+    let at-read-u162 = at-table .before .before in
+    let at-classes = at-read-u162 .before .before in
+    let at-read-u16 = at-classes .before .before in
+    rw (sym (at-read-u16 .read-u16 .ensures) ∙ at-classes .classes .given .1, sym (at-read-u162 .read-u162 .ensures) ∙ at-table .table .given .1, sym (at-read-u163 .read-u163 .ensures) ∙ c .enum-told3 .given .1, classicAt)
 
 read-u16-requires-4 : tie.Need-read-u16-requires-4
 read-u16-requires-4 c κs = search needs
@@ -56,7 +66,15 @@ enum-told-4 c = search needs
 
 returns-4 : tie.Need-returns-4
 unfolding classicAt
-returns-4 c = rw (sym (c .before .before .before .before .before .before .before .before .before .before .before .before .before .before .read-u16 .ensures) ∙ c .before .before .before .before .before .before .before .before .before .before .before .before .classes .given .1, sym (c .before .before .before .before .before .before .before .before .before .before .read-u162 .ensures) ∙ c .before .before .before .before .before .before .before .before .table .given .1, sym (c .before .before .before .before .before .before .read-u163 .ensures) ∙ c .before .before .before .before .array .given .1, sym (c .before .before .read-u164 .ensures) ∙ c .enum-told4 .given .1, classicAt)
+returns-4 c =
+    let at-read-u164 = c .before .before in
+    let at-array = at-read-u164 .before .before in
+    let at-read-u163 = at-array .before .before in
+    let at-table = at-read-u163 .before .before in
+    let at-read-u162 = at-table .before .before in
+    let at-classes = at-read-u162 .before .before in
+    let at-read-u16 = at-classes .before .before in
+    rw (sym (at-read-u16 .read-u16 .ensures) ∙ at-classes .classes .given .1, sym (at-read-u162 .read-u162 .ensures) ∙ at-table .table .given .1, sym (at-read-u163 .read-u163 .ensures) ∙ at-array .array .given .1, sym (at-read-u164 .read-u164 .ensures) ∙ c .enum-told4 .given .1, classicAt)
 
 cast-read-u16 : tie.Need-cast-read-u16
 cast-read-u16 c = search needs
@@ -72,7 +90,17 @@ enum-told-5 c = search needs
 
 returns-5 : tie.Need-returns-5
 unfolding classicAt
-returns-5 c = rw (sym (c .before .before .before .before .before .before .before .before .before .before .before .before .before .before .before .before .before .before .read-u16 .ensures) ∙ c .before .before .before .before .before .before .before .before .before .before .before .before .before .before .before .before .classes .given .1, sym (c .before .before .before .before .before .before .before .before .before .before .before .before .before .before .read-u162 .ensures) ∙ c .before .before .before .before .before .before .before .before .before .before .before .before .table .given .1, sym (c .before .before .before .before .before .before .before .before .before .before .read-u163 .ensures) ∙ c .before .before .before .before .before .before .before .before .array .given .1, sym (c .before .before .before .before .before .before .read-u164 .ensures) ∙ c .before .before .before .before .entries .given .1, sym (c .before .before .read-u165 .ensures) ∙ c .enum-told5 .given .1, classicAt)
+returns-5 c =
+    let at-read-u165 = c .before .before in
+    let at-entries = at-read-u165 .before .before in
+    let at-read-u164 = at-entries .before .before in
+    let at-array = at-read-u164 .before .before in
+    let at-read-u163 = at-array .before .before in
+    let at-table = at-read-u163 .before .before in
+    let at-read-u162 = at-table .before .before in
+    let at-classes = at-read-u162 .before .before in
+    let at-read-u16 = at-classes .before .before in
+    rw (sym (at-read-u16 .read-u16 .ensures) ∙ at-classes .classes .given .1, sym (at-read-u162 .read-u162 .ensures) ∙ at-table .table .given .1, sym (at-read-u163 .read-u163 .ensures) ∙ at-array .array .given .1, sym (at-read-u164 .read-u164 .ensures) ∙ at-entries .entries .given .1, sym (at-read-u165 .read-u165 .ensures) ∙ c .enum-told5 .given .1, classicAt)
 
 cast-read-u16-2 : tie.Need-cast-read-u16-2
 cast-read-u16-2 c = search needs
@@ -91,7 +119,19 @@ enum-told-6 c = search needs
 
 returns-6 : tie.Need-returns-6
 unfolding classicAt
-returns-6 c = rw (sym (c .before .before .before .before .before .before .before .before .before .before .before .before .before .before .before .before .before .before .before .before .before .before .read-u16 .ensures) ∙ c .before .before .before .before .before .before .before .before .before .before .before .before .before .before .before .before .before .before .before .before .classes .given .1, sym (c .before .before .before .before .before .before .before .before .before .before .before .before .before .before .before .before .before .before .read-u162 .ensures) ∙ c .before .before .before .before .before .before .before .before .before .before .before .before .before .before .before .before .table .given .1, sym (c .before .before .before .before .before .before .before .before .before .before .before .before .before .before .read-u163 .ensures) ∙ c .before .before .before .before .before .before .before .before .before .before .before .before .array .given .1, sym (c .before .before .before .before .before .before .before .before .before .before .read-u164 .ensures) ∙ c .before .before .before .before .before .before .before .before .entries .given .1, sym (c .before .before .before .before .before .before .read-u165 .ensures) ∙ c .before .before .before .before .first .given .1, sym (c .before .before .read-u166 .ensures) ∙ c .enum-told6 .given .1, classicAt)
+returns-6 c =
+    let at-read-u166 = c .before .before in
+    let at-first = at-read-u166 .before .before in
+    let at-read-u165 = at-first .before .before in
+    let at-entries = at-read-u165 .before .before in
+    let at-read-u164 = at-entries .before .before in
+    let at-array = at-read-u164 .before .before in
+    let at-read-u163 = at-array .before .before in
+    let at-table = at-read-u163 .before .before in
+    let at-read-u162 = at-table .before .before in
+    let at-classes = at-read-u162 .before .before in
+    let at-read-u16 = at-classes .before .before in
+    rw (sym (at-read-u16 .read-u16 .ensures) ∙ at-classes .classes .given .1, sym (at-read-u162 .read-u162 .ensures) ∙ at-table .table .given .1, sym (at-read-u163 .read-u163 .ensures) ∙ at-array .array .given .1, sym (at-read-u164 .read-u164 .ensures) ∙ at-entries .entries .given .1, sym (at-read-u165 .read-u165 .ensures) ∙ at-first .first .given .1, sym (at-read-u166 .read-u166 .ensures) ∙ c .enum-told6 .given .1, classicAt)
 
 cast-read-part : tie.Need-cast-read-part
 cast-read-part c = search needs
@@ -113,14 +153,43 @@ enum-told-8 c = search needs
 
 returns-7 : tie.Need-returns-7
 unfolding classicAt
-returns-7 c = rw (sym (c .before .before .before .before .before .before .before .before .before .before .before .before .before .before .before .before .before .before .before .before .before .before .before .before .before .before .read-u16 .ensures) ∙ c .before .before .before .before .before .before .before .before .before .before .before .before .before .before .before .before .before .before .before .before .before .before .before .before .classes .given .1, sym (c .before .before .before .before .before .before .before .before .before .before .before .before .before .before .before .before .before .before .before .before .before .before .read-u162 .ensures) ∙ c .before .before .before .before .before .before .before .before .before .before .before .before .before .before .before .before .before .before .before .before .table .given .1, sym (c .before .before .before .before .before .before .before .before .before .before .before .before .before .before .before .before .before .before .read-u163 .ensures) ∙ c .before .before .before .before .before .before .before .before .before .before .before .before .before .before .before .before .array .given .1, sym (c .before .before .before .before .before .before .before .before .before .before .before .before .before .before .read-u164 .ensures) ∙ c .before .before .before .before .before .before .before .before .before .before .before .before .entries .given .1, sym (c .before .before .before .before .before .before .before .before .before .before .read-u165 .ensures) ∙ c .before .before .before .before .before .before .before .before .first .given .1, sym (c .before .before .before .before .before .before .read-u166 .ensures) ∙ c .before .before .before .before .count .given .1, part-short _ _ _ (c .before .before .read-part .ensures) (c .enum-told8 .given .1), classicAt)
+returns-7 c =
+    let at-read-part = c .before .before in
+    let at-count = at-read-part .before .before in
+    let at-read-u166 = at-count .before .before in
+    let at-first = at-read-u166 .before .before in
+    let at-read-u165 = at-first .before .before in
+    let at-entries = at-read-u165 .before .before in
+    let at-read-u164 = at-entries .before .before in
+    let at-array = at-read-u164 .before .before in
+    let at-read-u163 = at-array .before .before in
+    let at-table = at-read-u163 .before .before in
+    let at-read-u162 = at-table .before .before in
+    let at-classes = at-read-u162 .before .before in
+    let at-read-u16 = at-classes .before .before in
+    rw (sym (at-read-u16 .read-u16 .ensures) ∙ at-classes .classes .given .1, sym (at-read-u162 .read-u162 .ensures) ∙ at-table .table .given .1, sym (at-read-u163 .read-u163 .ensures) ∙ at-array .array .given .1, sym (at-read-u164 .read-u164 .ensures) ∙ at-entries .entries .given .1, sym (at-read-u165 .read-u165 .ensures) ∙ at-first .first .given .1, sym (at-read-u166 .read-u166 .ensures) ∙ at-count .count .given .1, part-short _ _ _ (at-read-part .read-part .ensures) (c .enum-told8 .given .1), classicAt)
 
 cast-if1 : tie.Need-cast-if1
 cast-if1 c = search needs
 
 returns-8 : tie.Need-returns-8
 unfolding classicAt
-returns-8 c = rw (sym (c .before .before .before .before .before .before .before .before .before .before .before .before .before .before .before .before .before .before .before .before .before .before .before .before .before .before .before .read-u16 .ensures) ∙ c .before .before .before .before .before .before .before .before .before .before .before .before .before .before .before .before .before .before .before .before .before .before .before .before .before .classes .given .1, sym (c .before .before .before .before .before .before .before .before .before .before .before .before .before .before .before .before .before .before .before .before .before .before .before .read-u162 .ensures) ∙ c .before .before .before .before .before .before .before .before .before .before .before .before .before .before .before .before .before .before .before .before .before .table .given .1, sym (c .before .before .before .before .before .before .before .before .before .before .before .before .before .before .before .before .before .before .before .read-u163 .ensures) ∙ c .before .before .before .before .before .before .before .before .before .before .before .before .before .before .before .before .before .array .given .1, sym (c .before .before .before .before .before .before .before .before .before .before .before .before .before .before .before .read-u164 .ensures) ∙ c .before .before .before .before .before .before .before .before .before .before .before .before .before .entries .given .1, sym (c .before .before .before .before .before .before .before .before .before .before .before .read-u165 .ensures) ∙ c .before .before .before .before .before .before .before .before .before .first .given .1, sym (c .before .before .before .before .before .before .before .read-u166 .ensures) ∙ c .before .before .before .before .before .count .given .1, part-inside _ _ _ (c .before .before .before .read-part .ensures) (c .before .enum-told7 .given .1), lt-ltb _ _ (c .if1 .taken), classicAt)
+returns-8 c =
+    let at-enum-told7 = c .before in
+    let at-read-part = at-enum-told7 .before .before in
+    let at-count = at-read-part .before .before in
+    let at-read-u166 = at-count .before .before in
+    let at-first = at-read-u166 .before .before in
+    let at-read-u165 = at-first .before .before in
+    let at-entries = at-read-u165 .before .before in
+    let at-read-u164 = at-entries .before .before in
+    let at-array = at-read-u164 .before .before in
+    let at-read-u163 = at-array .before .before in
+    let at-table = at-read-u163 .before .before in
+    let at-read-u162 = at-table .before .before in
+    let at-classes = at-read-u162 .before .before in
+    let at-read-u16 = at-classes .before .before in
+    rw (sym (at-read-u16 .read-u16 .ensures) ∙ at-classes .classes .given .1, sym (at-read-u162 .read-u162 .ensures) ∙ at-table .table .given .1, sym (at-read-u163 .read-u163 .ensures) ∙ at-array .array .given .1, sym (at-read-u164 .read-u164 .ensures) ∙ at-entries .entries .given .1, sym (at-read-u165 .read-u165 .ensures) ∙ at-first .first .given .1, sym (at-read-u166 .read-u166 .ensures) ∙ at-count .count .given .1, part-inside _ _ _ (at-read-part .read-part .ensures) (at-enum-told7 .enum-told7 .given .1), lt-ltb _ _ (c .if1 .taken), classicAt)
 
 cast-t19 : tie.Need-cast-t19
 cast-t19 c = search needs
@@ -139,7 +208,22 @@ cast-t24 c = search needs
 
 returns-9 : tie.Need-returns-9
 unfolding classicAt
-returns-9 c = rw (sym (c .before .before .before .before .before .before .before .before .before .before .before .before .before .before .before .before .before .before .before .before .before .before .before .before .before .before .before .read-u16 .ensures) ∙ c .before .before .before .before .before .before .before .before .before .before .before .before .before .before .before .before .before .before .before .before .before .before .before .before .before .classes .given .1, sym (c .before .before .before .before .before .before .before .before .before .before .before .before .before .before .before .before .before .before .before .before .before .before .before .read-u162 .ensures) ∙ c .before .before .before .before .before .before .before .before .before .before .before .before .before .before .before .before .before .before .before .before .before .table .given .1, sym (c .before .before .before .before .before .before .before .before .before .before .before .before .before .before .before .before .before .before .before .read-u163 .ensures) ∙ c .before .before .before .before .before .before .before .before .before .before .before .before .before .before .before .before .before .array .given .1, sym (c .before .before .before .before .before .before .before .before .before .before .before .before .before .before .before .read-u164 .ensures) ∙ c .before .before .before .before .before .before .before .before .before .before .before .before .before .entries .given .1, sym (c .before .before .before .before .before .before .before .before .before .before .before .read-u165 .ensures) ∙ c .before .before .before .before .before .before .before .before .before .first .given .1, sym (c .before .before .before .before .before .before .before .read-u166 .ensures) ∙ c .before .before .before .before .before .count .given .1, part-inside _ _ _ (c .before .before .before .read-part .ensures) (c .before .enum-told7 .given .1), le-ltb _ _ (c .if1 .left), classicAt)
+returns-9 c =
+    let at-enum-told7 = c .before in
+    let at-read-part = at-enum-told7 .before .before in
+    let at-count = at-read-part .before .before in
+    let at-read-u166 = at-count .before .before in
+    let at-first = at-read-u166 .before .before in
+    let at-read-u165 = at-first .before .before in
+    let at-entries = at-read-u165 .before .before in
+    let at-read-u164 = at-entries .before .before in
+    let at-array = at-read-u164 .before .before in
+    let at-read-u163 = at-array .before .before in
+    let at-table = at-read-u163 .before .before in
+    let at-read-u162 = at-table .before .before in
+    let at-classes = at-read-u162 .before .before in
+    let at-read-u16 = at-classes .before .before in
+    rw (sym (at-read-u16 .read-u16 .ensures) ∙ at-classes .classes .given .1, sym (at-read-u162 .read-u162 .ensures) ∙ at-table .table .given .1, sym (at-read-u163 .read-u163 .ensures) ∙ at-array .array .given .1, sym (at-read-u164 .read-u164 .ensures) ∙ at-entries .entries .given .1, sym (at-read-u165 .read-u165 .ensures) ∙ at-first .first .given .1, sym (at-read-u166 .read-u166 .ensures) ∙ at-count .count .given .1, part-inside _ _ _ (at-read-part .read-part .ensures) (at-enum-told7 .enum-told7 .given .1), le-ltb _ _ (c .if1 .left), classicAt)
 
 pub classic-spec : {M : Type 1} → statement M
 classic-spec =

@@ -28,7 +28,11 @@ enum-told-2 c = search needs
 
 returns-2 : tie.Need-returns-2
 unfolding extendedAt
-returns-2 c = rw (sym (c .before .before .before .before .before .before .read-u32 .ensures) ∙ c .before .before .before .before .classes .given .1, sym (c .before .before .read-u322 .ensures) ∙ c .enum-told2 .given .1, extendedAt)
+returns-2 c =
+    let at-read-u322 = c .before .before in
+    let at-classes = at-read-u322 .before .before in
+    let at-read-u32 = at-classes .before .before in
+    rw (sym (at-read-u32 .read-u32 .ensures) ∙ at-classes .classes .given .1, sym (at-read-u322 .read-u322 .ensures) ∙ c .enum-told2 .given .1, extendedAt)
 
 read-u32-requires-3 : tie.Need-read-u32-requires-3
 read-u32-requires-3 c κs = search needs
@@ -41,7 +45,13 @@ enum-told-3 c = search needs
 
 returns-3 : tie.Need-returns-3
 unfolding extendedAt
-returns-3 c = rw (sym (c .before .before .before .before .before .before .before .before .before .before .read-u32 .ensures) ∙ c .before .before .before .before .before .before .before .before .classes .given .1, sym (c .before .before .before .before .before .before .read-u322 .ensures) ∙ c .before .before .before .before .table .given .1, sym (c .before .before .read-u323 .ensures) ∙ c .enum-told3 .given .1, extendedAt)
+returns-3 c =
+    let at-read-u323 = c .before .before in
+    let at-table = at-read-u323 .before .before in
+    let at-read-u322 = at-table .before .before in
+    let at-classes = at-read-u322 .before .before in
+    let at-read-u32 = at-classes .before .before in
+    rw (sym (at-read-u32 .read-u32 .ensures) ∙ at-classes .classes .given .1, sym (at-read-u322 .read-u322 .ensures) ∙ at-table .table .given .1, sym (at-read-u323 .read-u323 .ensures) ∙ c .enum-told3 .given .1, extendedAt)
 
 read-u32-requires-4 : tie.Need-read-u32-requires-4
 read-u32-requires-4 c κs = search needs
@@ -54,11 +64,28 @@ enum-told-4 c = search needs
 
 returns-4 : tie.Need-returns-4
 unfolding extendedAt
-returns-4 c = rw (sym (c .before .before .before .before .before .before .before .before .before .before .before .before .before .before .read-u32 .ensures) ∙ c .before .before .before .before .before .before .before .before .before .before .before .before .classes .given .1, sym (c .before .before .before .before .before .before .before .before .before .before .read-u322 .ensures) ∙ c .before .before .before .before .before .before .before .before .table .given .1, sym (c .before .before .before .before .before .before .read-u323 .ensures) ∙ c .before .before .before .before .array .given .1, sym (c .before .before .read-u324 .ensures) ∙ c .enum-told4 .given .1, extendedAt)
+returns-4 c =
+    let at-read-u324 = c .before .before in
+    let at-array = at-read-u324 .before .before in
+    let at-read-u323 = at-array .before .before in
+    let at-table = at-read-u323 .before .before in
+    let at-read-u322 = at-table .before .before in
+    let at-classes = at-read-u322 .before .before in
+    let at-read-u32 = at-classes .before .before in
+    rw (sym (at-read-u32 .read-u32 .ensures) ∙ at-classes .classes .given .1, sym (at-read-u322 .read-u322 .ensures) ∙ at-table .table .given .1, sym (at-read-u323 .read-u323 .ensures) ∙ at-array .array .given .1, sym (at-read-u324 .read-u324 .ensures) ∙ c .enum-told4 .given .1, extendedAt)
 
 returns-5 : tie.Need-returns-5
 unfolding extendedAt
-returns-5 c = rw (sym (c .before .before .before .before .before .before .before .before .before .before .before .before .before .before .before .read-u32 .ensures) ∙ c .before .before .before .before .before .before .before .before .before .before .before .before .before .classes .given .1, sym (c .before .before .before .before .before .before .before .before .before .before .before .read-u322 .ensures) ∙ c .before .before .before .before .before .before .before .before .before .table .given .1, sym (c .before .before .before .before .before .before .before .read-u323 .ensures) ∙ c .before .before .before .before .before .array .given .1, sym (c .before .before .before .read-u324 .ensures) ∙ c .before .entries .given .1, extendedAt)
+returns-5 c =
+    let at-entries = c .before in
+    let at-read-u324 = at-entries .before .before in
+    let at-array = at-read-u324 .before .before in
+    let at-read-u323 = at-array .before .before in
+    let at-table = at-read-u323 .before .before in
+    let at-read-u322 = at-table .before .before in
+    let at-classes = at-read-u322 .before .before in
+    let at-read-u32 = at-classes .before .before in
+    rw (sym (at-read-u32 .read-u32 .ensures) ∙ at-classes .classes .given .1, sym (at-read-u322 .read-u322 .ensures) ∙ at-table .table .given .1, sym (at-read-u323 .read-u323 .ensures) ∙ at-array .array .given .1, sym (at-read-u324 .read-u324 .ensures) ∙ at-entries .entries .given .1, extendedAt)
 
 pub extended-spec : {M : Type 1} → statement M
 extended-spec =

@@ -37,7 +37,12 @@ cast-result c = search needs
 
 returns-4 : tie.Need-returns-4
 unfolding classByArray
-returns-4 c = rw (le-ltb _ _ (c .before .before .before .before .before .if1 .left), lt-ltb _ _ (c .before .before .before .before .if2 .left), sym (c .before .before .before .read-u8 .ensures) ∙ c .before .class .given .1, classByArray)
+returns-4 c =
+    let at-class = c .before in
+    let at-read-u8 = at-class .before .before in
+    let at-if2 = at-read-u8 .before in
+    let at-if1 = at-if2 .before in
+    rw (le-ltb _ _ (at-if1 .if1 .left), lt-ltb _ _ (at-if2 .if2 .left), sym (at-read-u8 .read-u8 .ensures) ∙ at-class .class .given .1, classByArray)
 
 pub class-by-array-spec : {M : Type 1} → statement M
 class-by-array-spec =

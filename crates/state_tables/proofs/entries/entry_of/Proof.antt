@@ -31,14 +31,25 @@ enum-told-2 c = search needs
 
 returns-2 : tie.Need-returns-2
 unfolding entryOf
-returns-2 c = rw (sym (c .before .before .before .before .before .before .before .entry-number .ensures) ∙ c .before .before .before .before .before .number .given .1, ← (c .before .before .before .entry-place .ensures .0), sym (c .before .before .entry-at .ensures) ∙ c .enum-told2 .given .1, entryOf)
+returns-2 c =
+    let at-entry-at = c .before .before in
+    let at-entry-place = at-entry-at .before in
+    let at-number = at-entry-place .before .before in
+    let at-entry-number = at-number .before .before in
+    rw (sym (at-entry-number .entry-number .ensures) ∙ at-number .number .given .1, ← (at-entry-place .entry-place .ensures .0), sym (at-entry-at .entry-at .ensures) ∙ c .enum-told2 .given .1, entryOf)
 
 resolved-requires : tie.Need-resolved-requires
 resolved-requires c κs = search needs
 
 returns-3 : tie.Need-returns-3
 unfolding entryOf
-returns-3 c = rw (sym (c .before .before .before .before .before .before .before .before .before .entry-number .ensures) ∙ c .before .before .before .before .before .before .before .number .given .1, ← (c .before .before .before .before .before .entry-place .ensures .0), sym (c .before .before .before .before .entry-at .ensures) ∙ c .before .before .entry .given .1, c .resolved .ensures, entryOf)
+returns-3 c =
+    let at-entry = c .before .before in
+    let at-entry-at = at-entry .before .before in
+    let at-entry-place = at-entry-at .before in
+    let at-number = at-entry-place .before .before in
+    let at-entry-number = at-number .before .before in
+    rw (sym (at-entry-number .entry-number .ensures) ∙ at-number .number .given .1, ← (at-entry-place .entry-place .ensures .0), sym (at-entry-at .entry-at .ensures) ∙ at-entry .entry .given .1, c .resolved .ensures, entryOf)
 
 pub entry-of-spec : {M : Type 1} → statement M
 entry-of-spec =

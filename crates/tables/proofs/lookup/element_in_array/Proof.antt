@@ -35,7 +35,11 @@ enum-told-2 c = search needs
 
 returns-2 : tie.Need-returns-2
 unfolding elementOf
-returns-2 c = rw (sym (c .before .before .before .before .before .before .read-u16 .ensures) ∙ c .before .before .before .before .first .given .1, sym (c .before .before .read-u162 .ensures) ∙ c .enum-told2 .given .1, elementOf)
+returns-2 c =
+    let at-read-u162 = c .before .before in
+    let at-first = at-read-u162 .before .before in
+    let at-read-u16 = at-first .before .before in
+    rw (sym (at-read-u16 .read-u16 .ensures) ∙ at-first .first .given .1, sym (at-read-u162 .read-u162 .ensures) ∙ c .enum-told2 .given .1, elementOf)
 
 cast-element-at : tie.Need-cast-element-at
 cast-element-at c = search needs
@@ -54,7 +58,13 @@ element-at-requires c κs = search needs
 
 returns-3 : tie.Need-returns-3
 unfolding elementOf
-returns-3 c = rw (sym (c .before .before .before .before .before .before .before .before .before .read-u16 .ensures) ∙ c .before .before .before .before .before .before .before .first .given .1, sym (c .before .before .before .before .before .read-u162 .ensures) ∙ c .before .before .before .offset .given .1, c .element-at .ensures, c .before .beyond .ensures .0, elementOf)
+returns-3 c =
+    let at-beyond = c .before in
+    let at-offset = at-beyond .before .before in
+    let at-read-u162 = at-offset .before .before in
+    let at-first = at-read-u162 .before .before in
+    let at-read-u16 = at-first .before .before in
+    rw (sym (at-read-u16 .read-u16 .ensures) ∙ at-first .first .given .1, sym (at-read-u162 .read-u162 .ensures) ∙ at-offset .offset .given .1, c .element-at .ensures, at-beyond .beyond .ensures .0, elementOf)
 
 pub element-in-array-spec : {M : Type 1} → statement M
 element-in-array-spec =

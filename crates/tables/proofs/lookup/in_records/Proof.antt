@@ -41,15 +41,29 @@ enum-told-3 c = search needs
 
 returns-2 : tie.Need-returns-2
 unfolding inRecords elementIn
-returns-2 c = rw (sym (c .before .before .before .before .before .before .before .before .before .read-u16 .ensures) ∙ c .before .before .before .before .before .before .before .count .given .1, sym (c .before .before .before .before .before .search .ensures) ∙ c .before .before .before .spot .given .1, c .element-of .ensures, c .before .record-place .ensures .0, inRecords, elementIn)
+returns-2 c =
+    let at-record-place = c .before in
+    let at-spot = at-record-place .before .before in
+    let at-search = at-spot .before .before in
+    let at-count = at-search .before .before in
+    let at-read-u16 = at-count .before .before in
+    rw (sym (at-read-u16 .read-u16 .ensures) ∙ at-count .count .given .1, sym (at-search .search .ensures) ∙ at-spot .spot .given .1, c .element-of .ensures, at-record-place .record-place .ensures .0, inRecords, elementIn)
 
 returns-3 : tie.Need-returns-3
 unfolding inRecords elementIn
-returns-3 c = rw (sym (c .before .before .before .before .before .before .read-u16 .ensures) ∙ c .before .before .before .before .count .given .1, sym (c .before .before .search .ensures) ∙ c .enum-told2 .given .1, inRecords, elementIn)
+returns-3 c =
+    let at-search = c .before .before in
+    let at-count = at-search .before .before in
+    let at-read-u16 = at-count .before .before in
+    rw (sym (at-read-u16 .read-u16 .ensures) ∙ at-count .count .given .1, sym (at-search .search .ensures) ∙ c .enum-told2 .given .1, inRecords, elementIn)
 
 returns-4 : tie.Need-returns-4
 unfolding inRecords elementIn
-returns-4 c = rw (sym (c .before .before .before .before .before .before .read-u16 .ensures) ∙ c .before .before .before .before .count .given .1, sym (c .before .before .search .ensures) ∙ c .enum-told3 .given .1, inRecords, elementIn)
+returns-4 c =
+    let at-search = c .before .before in
+    let at-count = at-search .before .before in
+    let at-read-u16 = at-count .before .before in
+    rw (sym (at-read-u16 .read-u16 .ensures) ∙ at-count .count .given .1, sym (at-search .search .ensures) ∙ c .enum-told3 .given .1, inRecords, elementIn)
 
 pub in-records-spec : {M : Type 1} → statement M
 in-records-spec =

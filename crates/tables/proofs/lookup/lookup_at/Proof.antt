@@ -50,19 +50,38 @@ enum-told-3 c = search needs
 
 returns-2 : tie.Need-returns-2
 unfolding lookupAt inFormat
-returns-2 c = rw (sym (c .before .before .before .before .before .before .before .read-u16 .ensures) ∙ c .before .before .before .before .before .number .given .1, sym (c .before .before .before .format-of .ensures) ∙ c .before .enum-told2 .given .1, c .element-at .ensures, lookupAt, inFormat)
+returns-2 c =
+    let at-enum-told2 = c .before in
+    let at-format-of = at-enum-told2 .before .before in
+    let at-number = at-format-of .before .before in
+    let at-read-u16 = at-number .before .before in
+    rw (sym (at-read-u16 .read-u16 .ensures) ∙ at-number .number .given .1, sym (at-format-of .format-of .ensures) ∙ at-enum-told2 .enum-told2 .given .1, c .element-at .ensures, lookupAt, inFormat)
 
 returns-3 : tie.Need-returns-3
 unfolding lookupAt inFormat
-returns-3 c = rw (sym (c .before .before .before .before .before .before .before .before .read-u16 .ensures) ∙ c .before .before .before .before .before .before .number .given .1, sym (c .before .before .before .before .format-of .ensures) ∙ c .before .before .format .given .1, c .in-records .ensures, lookupAt, inFormat)
+returns-3 c =
+    let at-format = c .before .before in
+    let at-format-of = at-format .before .before in
+    let at-number = at-format-of .before .before in
+    let at-read-u16 = at-number .before .before in
+    rw (sym (at-read-u16 .read-u16 .ensures) ∙ at-number .number .given .1, sym (at-format-of .format-of .ensures) ∙ at-format .format .given .1, c .in-records .ensures, lookupAt, inFormat)
 
 returns-4 : tie.Need-returns-4
 unfolding lookupAt inFormat
-returns-4 c = rw (sym (c .before .before .before .before .before .before .before .before .read-u16 .ensures) ∙ c .before .before .before .before .before .before .number .given .1, sym (c .before .before .before .before .format-of .ensures) ∙ c .before .before .format2 .given .1, c .trimmed .ensures, lookupAt, inFormat)
+returns-4 c =
+    let at-format2 = c .before .before in
+    let at-format-of = at-format2 .before .before in
+    let at-number = at-format-of .before .before in
+    let at-read-u16 = at-number .before .before in
+    rw (sym (at-read-u16 .read-u16 .ensures) ∙ at-number .number .given .1, sym (at-format-of .format-of .ensures) ∙ at-format2 .format2 .given .1, c .trimmed .ensures, lookupAt, inFormat)
 
 returns-5 : tie.Need-returns-5
 unfolding lookupAt inFormat
-returns-5 c = rw (sym (c .before .before .before .before .before .before .read-u16 .ensures) ∙ c .before .before .before .before .number .given .1, sym (c .before .before .format-of .ensures) ∙ c .enum-told3 .given .1, lookupAt, inFormat)
+returns-5 c =
+    let at-format-of = c .before .before in
+    let at-number = at-format-of .before .before in
+    let at-read-u16 = at-number .before .before in
+    rw (sym (at-read-u16 .read-u16 .ensures) ∙ at-number .number .given .1, sym (at-format-of .format-of .ensures) ∙ c .enum-told3 .given .1, lookupAt, inFormat)
 
 pub lookup-at-spec : {M : Type 1} → statement M
 lookup-at-spec =

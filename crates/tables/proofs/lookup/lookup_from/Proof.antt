@@ -32,14 +32,25 @@ enum-told-2 c = search needs
 
 returns-2 : tie.Need-returns-2
 unfolding lookupReply
-returns-2 c = rw (sym (c .before .before .before .before .before .before .refuse-table .ensures) ∙ c .before .before .before .before .enum-told .given .1, ← (c .before .before .before .from .ensures), sym (c .before .before .lookup-at .ensures) ∙ c .enum-told2 .given .1, lookupReply)
+returns-2 c =
+    let at-lookup-at = c .before .before in
+    let at-from = at-lookup-at .before in
+    let at-enum-told = at-from .before in
+    let at-refuse-table = at-enum-told .before .before in
+    rw (sym (at-refuse-table .refuse-table .ensures) ∙ at-enum-told .enum-told .given .1, ← (at-from .from .ensures), sym (at-lookup-at .lookup-at .ensures) ∙ c .enum-told2 .given .1, lookupReply)
 
 cast-t10 : tie.Need-cast-t10
 cast-t10 c = search needs
 
 returns-3 : tie.Need-returns-3
 unfolding lookupReply
-returns-3 c = rw (sym (c .before .before .before .before .before .before .before .refuse-table .ensures) ∙ c .before .before .before .before .before .enum-told .given .1, ← (c .before .before .before .before .from .ensures), sym (c .before .before .before .lookup-at .ensures) ∙ c .before .element .given .1, lookupReply)
+returns-3 c =
+    let at-element = c .before in
+    let at-lookup-at = at-element .before .before in
+    let at-from = at-lookup-at .before in
+    let at-enum-told = at-from .before in
+    let at-refuse-table = at-enum-told .before .before in
+    rw (sym (at-refuse-table .refuse-table .ensures) ∙ at-enum-told .enum-told .given .1, ← (at-from .from .ensures), sym (at-lookup-at .lookup-at .ensures) ∙ at-element .element .given .1, lookupReply)
 
 pub lookup-from-spec : {M : Type 1} → statement M
 lookup-from-spec =

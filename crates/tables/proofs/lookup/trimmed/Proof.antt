@@ -32,11 +32,20 @@ enum-told-2 c = search needs
 
 returns-2 : tie.Need-returns-2
 unfolding trimmedAt
-returns-2 c = rw (sym (c .before .before .before .before .before .before .read-u16 .ensures) ∙ c .before .before .before .before .first .given .1, sym (c .before .before .read-u162 .ensures) ∙ c .enum-told2 .given .1, trimmedAt)
+returns-2 c =
+    let at-read-u162 = c .before .before in
+    let at-first = at-read-u162 .before .before in
+    let at-read-u16 = at-first .before .before in
+    rw (sym (at-read-u16 .read-u16 .ensures) ∙ at-first .first .given .1, sym (at-read-u162 .read-u162 .ensures) ∙ c .enum-told2 .given .1, trimmedAt)
 
 returns-3 : tie.Need-returns-3
 unfolding trimmedAt
-returns-3 c = rw (sym (c .before .before .before .before .before .before .before .before .read-u16 .ensures) ∙ c .before .before .before .before .before .before .first .given .1, sym (c .before .before .before .before .read-u162 .ensures) ∙ c .before .before .count .given .1, lt-ltb _ _ (c .if1 .taken), trimmedAt)
+returns-3 c =
+    let at-count = c .before .before in
+    let at-read-u162 = at-count .before .before in
+    let at-first = at-read-u162 .before .before in
+    let at-read-u16 = at-first .before .before in
+    rw (sym (at-read-u16 .read-u16 .ensures) ∙ at-first .first .given .1, sym (at-read-u162 .read-u162 .ensures) ∙ at-count .count .given .1, lt-ltb _ _ (c .if1 .taken), trimmedAt)
 
 add-element-at : tie.Need-add-element-at
 add-element-at c = search needs
@@ -55,11 +64,24 @@ element-at-requires c κs = search needs
 
 returns-4 : tie.Need-returns-4
 unfolding trimmedAt
-returns-4 c = rw (sym (c .before .before .before .before .before .before .before .before .before .before .read-u16 .ensures) ∙ c .before .before .before .before .before .before .before .before .first .given .1, sym (c .before .before .before .before .before .before .read-u162 .ensures) ∙ c .before .before .before .before .count .given .1, le-ltb _ _ (c .before .before .if1 .left), lt-ltb _ _ (c .before .if2 .taken), c .element-at .ensures, trimmedAt)
+returns-4 c =
+    let at-if2 = c .before in
+    let at-if1 = at-if2 .before in
+    let at-count = at-if1 .before .before in
+    let at-read-u162 = at-count .before .before in
+    let at-first = at-read-u162 .before .before in
+    let at-read-u16 = at-first .before .before in
+    rw (sym (at-read-u16 .read-u16 .ensures) ∙ at-first .first .given .1, sym (at-read-u162 .read-u162 .ensures) ∙ at-count .count .given .1, le-ltb _ _ (at-if1 .if1 .left), lt-ltb _ _ (at-if2 .if2 .taken), c .element-at .ensures, trimmedAt)
 
 returns-5 : tie.Need-returns-5
 unfolding trimmedAt
-returns-5 c = rw (sym (c .before .before .before .before .before .before .before .before .before .read-u16 .ensures) ∙ c .before .before .before .before .before .before .before .first .given .1, sym (c .before .before .before .before .before .read-u162 .ensures) ∙ c .before .before .before .count .given .1, le-ltb _ _ (c .before .if1 .left), le-ltb _ _ (c .if2 .left), trimmedAt)
+returns-5 c =
+    let at-if1 = c .before in
+    let at-count = at-if1 .before .before in
+    let at-read-u162 = at-count .before .before in
+    let at-first = at-read-u162 .before .before in
+    let at-read-u16 = at-first .before .before in
+    rw (sym (at-read-u16 .read-u16 .ensures) ∙ at-first .first .given .1, sym (at-read-u162 .read-u162 .ensures) ∙ at-count .count .given .1, le-ltb _ _ (at-if1 .if1 .left), le-ltb _ _ (c .if2 .left), trimmedAt)
 
 pub trimmed-spec : {M : Type 1} → statement M
 trimmed-spec =

@@ -32,25 +32,46 @@ enum-told-2 c = search needs
 
 returns-2 : tie.Need-returns-2
 unfolding sideOfArray
-returns-2 c = rw (sym (c .before .before .before .before .before .before .read-u16 .ensures) ∙ c .before .before .before .before .first .given .1, sym (c .before .before .read-u162 .ensures) ∙ c .enum-told2 .given .1, sideOfArray)
+returns-2 c =
+    let at-read-u162 = c .before .before in
+    let at-first = at-read-u162 .before .before in
+    let at-read-u16 = at-first .before .before in
+    rw (sym (at-read-u16 .read-u16 .ensures) ∙ at-first .first .given .1, sym (at-read-u162 .read-u162 .ensures) ∙ c .enum-told2 .given .1, sideOfArray)
 
 cast-if1 : tie.Need-cast-if1
 cast-if1 c = search needs
 
 returns-3 : tie.Need-returns-3
 unfolding sideOfArray
-returns-3 c = rw (sym (c .before .before .before .before .before .before .before .before .read-u16 .ensures) ∙ c .before .before .before .before .before .before .first .given .1, sym (c .before .before .before .before .read-u162 .ensures) ∙ c .before .before .last .given .1, lt-ltb _ _ (c .if1 .taken), sideOfArray)
+returns-3 c =
+    let at-last = c .before .before in
+    let at-read-u162 = at-last .before .before in
+    let at-first = at-read-u162 .before .before in
+    let at-read-u16 = at-first .before .before in
+    rw (sym (at-read-u16 .read-u16 .ensures) ∙ at-first .first .given .1, sym (at-read-u162 .read-u162 .ensures) ∙ at-last .last .given .1, lt-ltb _ _ (c .if1 .taken), sideOfArray)
 
 cast-if2 : tie.Need-cast-if2
 cast-if2 c = search needs
 
 returns-4 : tie.Need-returns-4
 unfolding sideOfArray
-returns-4 c = rw (sym (c .before .before .before .before .before .before .before .before .before .read-u16 .ensures) ∙ c .before .before .before .before .before .before .before .first .given .1, sym (c .before .before .before .before .before .read-u162 .ensures) ∙ c .before .before .before .last .given .1, le-ltb _ _ (c .before .if1 .left), lt-ltb _ _ (c .if2 .taken), sideOfArray)
+returns-4 c =
+    let at-if1 = c .before in
+    let at-last = at-if1 .before .before in
+    let at-read-u162 = at-last .before .before in
+    let at-first = at-read-u162 .before .before in
+    let at-read-u16 = at-first .before .before in
+    rw (sym (at-read-u16 .read-u16 .ensures) ∙ at-first .first .given .1, sym (at-read-u162 .read-u162 .ensures) ∙ at-last .last .given .1, le-ltb _ _ (at-if1 .if1 .left), lt-ltb _ _ (c .if2 .taken), sideOfArray)
 
 returns-5 : tie.Need-returns-5
 unfolding sideOfArray
-returns-5 c = rw (sym (c .before .before .before .before .before .before .before .before .before .read-u16 .ensures) ∙ c .before .before .before .before .before .before .before .first .given .1, sym (c .before .before .before .before .before .read-u162 .ensures) ∙ c .before .before .before .last .given .1, le-ltb _ _ (c .before .if1 .left), le-ltb _ _ (c .if2 .left), sideOfArray)
+returns-5 c =
+    let at-if1 = c .before in
+    let at-last = at-if1 .before .before in
+    let at-read-u162 = at-last .before .before in
+    let at-first = at-read-u162 .before .before in
+    let at-read-u16 = at-first .before .before in
+    rw (sym (at-read-u16 .read-u16 .ensures) ∙ at-first .first .given .1, sym (at-read-u162 .read-u162 .ensures) ∙ at-last .last .given .1, le-ltb _ _ (at-if1 .if1 .left), le-ltb _ _ (c .if2 .left), sideOfArray)
 
 pub side-of-array-spec : {M : Type 1} → statement M
 side-of-array-spec =

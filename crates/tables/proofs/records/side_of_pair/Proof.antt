@@ -24,11 +24,19 @@ returns-2 c = rw (sym (c .before .before .before .before .read-u32 .ensures) ∙
 
 returns-3 : tie.Need-returns-3
 unfolding sideOfPair
-returns-3 c = rw (sym (c .before .before .before .before .before .read-u32 .ensures) ∙ c .before .before .before .pair .given .1, le-ltb _ _ (c .before .if1 .left), lt-ltb _ _ (c .if2 .taken), sideOfPair)
+returns-3 c =
+    let at-if1 = c .before in
+    let at-pair = at-if1 .before .before in
+    let at-read-u32 = at-pair .before .before in
+    rw (sym (at-read-u32 .read-u32 .ensures) ∙ at-pair .pair .given .1, le-ltb _ _ (at-if1 .if1 .left), lt-ltb _ _ (c .if2 .taken), sideOfPair)
 
 returns-4 : tie.Need-returns-4
 unfolding sideOfPair
-returns-4 c = rw (sym (c .before .before .before .before .before .read-u32 .ensures) ∙ c .before .before .before .pair .given .1, le-ltb _ _ (c .before .if1 .left), le-ltb _ _ (c .if2 .left), sideOfPair)
+returns-4 c =
+    let at-if1 = c .before in
+    let at-pair = at-if1 .before .before in
+    let at-read-u32 = at-pair .before .before in
+    rw (sym (at-read-u32 .read-u32 .ensures) ∙ at-pair .pair .given .1, le-ltb _ _ (at-if1 .if1 .left), le-ltb _ _ (c .if2 .left), sideOfPair)
 
 pub side-of-pair-spec : {M : Type 1} → statement M
 side-of-pair-spec =

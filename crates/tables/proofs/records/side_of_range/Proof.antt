@@ -41,18 +41,35 @@ enum-told-2 c = search needs
 
 returns-3 : tie.Need-returns-3
 unfolding sideOfRange
-returns-3 c = rw (sym (c .before .before .before .before .before .before .before .read-u16 .ensures) ∙ c .before .before .before .before .before .last .given .1, le-ltb _ _ (c .before .before .before .if1 .left), sym (c .before .before .read-u162 .ensures) ∙ c .enum-told2 .given .1, sideOfRange)
+returns-3 c =
+    let at-read-u162 = c .before .before in
+    let at-if1 = at-read-u162 .before in
+    let at-last = at-if1 .before .before in
+    let at-read-u16 = at-last .before .before in
+    rw (sym (at-read-u16 .read-u16 .ensures) ∙ at-last .last .given .1, le-ltb _ _ (at-if1 .if1 .left), sym (at-read-u162 .read-u162 .ensures) ∙ c .enum-told2 .given .1, sideOfRange)
 
 cast-if2 : tie.Need-cast-if2
 cast-if2 c = search needs
 
 returns-4 : tie.Need-returns-4
 unfolding sideOfRange
-returns-4 c = rw (sym (c .before .before .before .before .before .before .before .before .before .read-u16 .ensures) ∙ c .before .before .before .before .before .before .before .last .given .1, le-ltb _ _ (c .before .before .before .before .before .if1 .left), sym (c .before .before .before .before .read-u162 .ensures) ∙ c .before .before .first .given .1, lt-ltb _ _ (c .if2 .taken), sideOfRange)
+returns-4 c =
+    let at-first = c .before .before in
+    let at-read-u162 = at-first .before .before in
+    let at-if1 = at-read-u162 .before in
+    let at-last = at-if1 .before .before in
+    let at-read-u16 = at-last .before .before in
+    rw (sym (at-read-u16 .read-u16 .ensures) ∙ at-last .last .given .1, le-ltb _ _ (at-if1 .if1 .left), sym (at-read-u162 .read-u162 .ensures) ∙ at-first .first .given .1, lt-ltb _ _ (c .if2 .taken), sideOfRange)
 
 returns-5 : tie.Need-returns-5
 unfolding sideOfRange
-returns-5 c = rw (sym (c .before .before .before .before .before .before .before .before .before .read-u16 .ensures) ∙ c .before .before .before .before .before .before .before .last .given .1, le-ltb _ _ (c .before .before .before .before .before .if1 .left), sym (c .before .before .before .before .read-u162 .ensures) ∙ c .before .before .first .given .1, le-ltb _ _ (c .if2 .left), sideOfRange)
+returns-5 c =
+    let at-first = c .before .before in
+    let at-read-u162 = at-first .before .before in
+    let at-if1 = at-read-u162 .before in
+    let at-last = at-if1 .before .before in
+    let at-read-u16 = at-last .before .before in
+    rw (sym (at-read-u16 .read-u16 .ensures) ∙ at-last .last .given .1, le-ltb _ _ (at-if1 .if1 .left), sym (at-read-u162 .read-u162 .ensures) ∙ at-first .first .given .1, le-ltb _ _ (c .if2 .left), sideOfRange)
 
 pub side-of-range-spec : {M : Type 1} → statement M
 side-of-range-spec =

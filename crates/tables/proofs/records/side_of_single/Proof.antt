@@ -30,11 +30,19 @@ cast-if2 c = search needs
 
 returns-3 : tie.Need-returns-3
 unfolding sideOfSingle
-returns-3 c = rw (sym (c .before .before .before .before .before .read-u16 .ensures) ∙ c .before .before .before .glyph .given .1, le-ltb _ _ (c .before .if1 .left), lt-ltb _ _ (c .if2 .taken), sideOfSingle)
+returns-3 c =
+    let at-if1 = c .before in
+    let at-glyph = at-if1 .before .before in
+    let at-read-u16 = at-glyph .before .before in
+    rw (sym (at-read-u16 .read-u16 .ensures) ∙ at-glyph .glyph .given .1, le-ltb _ _ (at-if1 .if1 .left), lt-ltb _ _ (c .if2 .taken), sideOfSingle)
 
 returns-4 : tie.Need-returns-4
 unfolding sideOfSingle
-returns-4 c = rw (sym (c .before .before .before .before .before .read-u16 .ensures) ∙ c .before .before .before .glyph .given .1, le-ltb _ _ (c .before .if1 .left), le-ltb _ _ (c .if2 .left), sideOfSingle)
+returns-4 c =
+    let at-if1 = c .before in
+    let at-glyph = at-if1 .before .before in
+    let at-read-u16 = at-glyph .before .before in
+    rw (sym (at-read-u16 .read-u16 .ensures) ∙ at-glyph .glyph .given .1, le-ltb _ _ (at-if1 .if1 .left), le-ltb _ _ (c .if2 .left), sideOfSingle)
 
 pub side-of-single-spec : {M : Type 1} → statement M
 side-of-single-spec =

@@ -37,19 +37,36 @@ enum-told-4 c = search needs
 
 returns-2 : tie.Need-returns-2
 unfolding surveyAt surveyIn
-returns-2 c = rw (sym (c .before .before .before .before .before .before .before .before .read-u16 .ensures) ∙ c .before .before .before .before .before .before .number .given .1, sym (c .before .before .before .before .format-of .ensures) ∙ c .before .before .format .given .1, c .survey-counted .ensures, surveyAt)
+returns-2 c =
+    let at-format = c .before .before in
+    let at-format-of = at-format .before .before in
+    let at-number = at-format-of .before .before in
+    let at-read-u16 = at-number .before .before in
+    rw (sym (at-read-u16 .read-u16 .ensures) ∙ at-number .number .given .1, sym (at-format-of .format-of .ensures) ∙ at-format .format .given .1, c .survey-counted .ensures, surveyAt)
 
 returns-3 : tie.Need-returns-3
 unfolding surveyAt surveyIn
-returns-3 c = rw (sym (c .before .before .before .before .before .before .read-u16 .ensures) ∙ c .before .before .before .before .number .given .1, sym (c .before .before .format-of .ensures) ∙ c .enum-told2 .given .1, surveyAt)
+returns-3 c =
+    let at-format-of = c .before .before in
+    let at-number = at-format-of .before .before in
+    let at-read-u16 = at-number .before .before in
+    rw (sym (at-read-u16 .read-u16 .ensures) ∙ at-number .number .given .1, sym (at-format-of .format-of .ensures) ∙ c .enum-told2 .given .1, surveyAt)
 
 returns-4 : tie.Need-returns-4
 unfolding surveyAt surveyIn
-returns-4 c = rw (sym (c .before .before .before .before .before .before .read-u16 .ensures) ∙ c .before .before .before .before .number .given .1, sym (c .before .before .format-of .ensures) ∙ c .enum-told3 .given .1, surveyAt)
+returns-4 c =
+    let at-format-of = c .before .before in
+    let at-number = at-format-of .before .before in
+    let at-read-u16 = at-number .before .before in
+    rw (sym (at-read-u16 .read-u16 .ensures) ∙ at-number .number .given .1, sym (at-format-of .format-of .ensures) ∙ c .enum-told3 .given .1, surveyAt)
 
 returns-5 : tie.Need-returns-5
 unfolding surveyAt surveyIn
-returns-5 c = rw (sym (c .before .before .before .before .before .before .read-u16 .ensures) ∙ c .before .before .before .before .number .given .1, sym (c .before .before .format-of .ensures) ∙ c .enum-told4 .given .1, surveyAt)
+returns-5 c =
+    let at-format-of = c .before .before in
+    let at-number = at-format-of .before .before in
+    let at-read-u16 = at-number .before .before in
+    rw (sym (at-read-u16 .read-u16 .ensures) ∙ at-number .number .given .1, sym (at-format-of .format-of .ensures) ∙ c .enum-told4 .given .1, surveyAt)
 
 pub survey-at-spec : {M : Type 1} → statement M
 survey-at-spec =

@@ -30,10 +30,10 @@ cast-if1 : tie.Need-cast-if1 Inv-loop μ-loop
 cast-if1 c = search needs
 
 returns-2 : tie.Need-returns-2 Inv-loop μ-loop
-returns-2 c = bad-low (c .before .before .before .before .before .before .loop .inv) (c .before .before .before .before .before .loop-test .taken) (c .before .before .before .before .record-at .ensures) (c .before .before .first .given .1) (c .if1 .taken)
+returns-2 c = search bad-low
 
 returns-3 : tie.Need-returns-3 Inv-loop μ-loop
-returns-3 c = bad-turned (c .before .before .before .before .before .before .before .loop .inv) (c .before .before .before .before .before .before .loop-test .taken) (c .before .before .before .before .before .record-at .ensures) (c .before .before .before .first .given .1) (c .if2 .taken)
+returns-3 c = search bad-turned
 
 cast-floor : tie.Need-cast-floor Inv-loop μ-loop
 cast-floor c = search needs
@@ -48,7 +48,7 @@ loop-less : tie.Need-loop-less Inv-loop μ-loop
 loop-less c = omega arith
 
 loop-again : tie.Need-loop-again Inv-loop μ-loop
-loop-again c = surveying-next (c .before .before .before .before .before .before .before .loop .inv) (c .before .before .before .before .before .before .loop-test .taken) (c .before .before .before .before .before .record-at .ensures) (c .before .before .before .first .given .1) (c .before .if1 .left) (c .if2 .left)
+loop-again c = search surveying-next
 
 returns-4 : tie.Need-returns-4 Inv-loop μ-loop
 returns-4 c = surveying-done (c .before .loop .inv) (c .loop-test .left)
