@@ -32,13 +32,25 @@ is-small-requires : tie.Need-is-small-requires Inv-loop μ-loop
 is-small-requires c κs = search needs
 
 returns : tie.Need-returns Inv-loop μ-loop
-returns c = scanning-fails _ (c .before .before .before .before .loop .inv) (c .before .before .before .loop-test .taken) (sym (small-of (c .before .before .before .before .before .args .along .now) (c .before .before .before .before .loop .left - 1) (c .before .before .is-small-arg .given) (c .before .is-small .ensures)) ∙ not-true _ (c .if1 .taken))
+returns c =
+    let at-is-small = c .before in
+    let at-is-small-arg = at-is-small .before in
+    let at-loop-test = at-is-small-arg .before in
+    let at-loop = at-loop-test .before in
+    let start = at-loop .before in
+    scanning-fails _ (at-loop .loop .inv) (at-loop-test .loop-test .taken) (sym (small-of (start .args .along .now) (at-loop .loop .left - 1) (at-is-small-arg .is-small-arg .given) (at-is-small .is-small .ensures)) ∙ not-true _ (c .if1 .taken))
 
 loop-less : tie.Need-loop-less Inv-loop μ-loop
 loop-less c = omega arith
 
 loop-again : tie.Need-loop-again Inv-loop μ-loop
-loop-again c = scanning-next _ (c .before .before .before .before .loop .inv) (c .before .before .before .loop-test .taken) (sym (small-of (c .before .before .before .before .before .args .along .now) (c .before .before .before .before .loop .left - 1) (c .before .before .is-small-arg .given) (c .before .is-small .ensures)) ∙ not-false _ (c .if1 .left))
+loop-again c =
+    let at-is-small = c .before in
+    let at-is-small-arg = at-is-small .before in
+    let at-loop-test = at-is-small-arg .before in
+    let at-loop = at-loop-test .before in
+    let start = at-loop .before in
+    scanning-next _ (at-loop .loop .inv) (at-loop-test .loop-test .taken) (sym (small-of (start .args .along .now) (at-loop .loop .left - 1) (at-is-small-arg .is-small-arg .given) (at-is-small .is-small .ensures)) ∙ not-false _ (c .if1 .left))
 
 returns-2 : tie.Need-returns-2 Inv-loop μ-loop
 returns-2 c = scanning-done _ (c .before .loop .inv) (c .loop-test .left)

@@ -35,7 +35,12 @@ same-length-4 : tie.Need-same-length-4
 same-length-4 c = search needs
 
 returns-2 : tie.Need-returns-2
-returns-2 c = fresh-done _ _ _ (c .before .before .before .before .before .before .before .before .before .before .refuse-fresh .ensures) (c .before .before .before .before .before .before .before .before .enum-told .given .1) (c .before .before .before .before .before .before .number .ensures) (c .before .before .number2 .ensures)
+returns-2 c =
+    let at-number2 = c .before .before in
+    let at-number = at-number2 .before .before .before .before in
+    let at-enum-told = at-number .before .before in
+    let at-refuse-fresh = at-enum-told .before .before in
+    fresh-done _ _ _ (at-refuse-fresh .refuse-fresh .ensures) (at-enum-told .enum-told .given .1) (at-number .number .ensures) (at-number2 .number2 .ensures)
 
 pub fresh-spec : {M : Type 1} → statement M
 fresh-spec =

@@ -31,7 +31,10 @@ returns-2 : tie.Need-returns-2
 returns-2 c = verb-none _ _ _ _ _ _ _ (c .before .before .before .refuse-verb .ensures) (c .before .enum-told .given .1) (c .if1 .taken)
 
 rearrange-requires : tie.Need-rearrange-requires
-rearrange-requires c κs = verb-fits _ _ _ _ _ _ (c .before .before .before .before .before .refuse-verb .ensures) (c .before .before .before .enum-told .given .1)
+rearrange-requires c κs =
+    let at-enum-told = c .before .before .before in
+    let at-refuse-verb = at-enum-told .before .before in
+    verb-fits _ _ _ _ _ _ (at-refuse-verb .refuse-verb .ensures) (at-enum-told .enum-told .given .1)
 
 same-length-5 : tie.Need-same-length-5
 same-length-5 c = search needs
@@ -40,7 +43,12 @@ same-length-6 : tie.Need-same-length-6
 same-length-6 c = search needs
 
 returns-3 : tie.Need-returns-3
-returns-3 c = verb-done _ _ _ _ _ _ _ (c .before .before .before .before .before .before .before .before .before .before .refuse-verb .ensures) (c .before .before .before .before .before .before .before .before .enum-told .given .1) (c .before .before .before .before .before .before .before .if1 .left) (c .before .before .before .before .rearrange .ensures)
+returns-3 c =
+    let at-rearrange = c .before .before .before .before in
+    let at-if1 = at-rearrange .before .before .before in
+    let at-enum-told = at-if1 .before in
+    let at-refuse-verb = at-enum-told .before .before in
+    verb-done _ _ _ _ _ _ _ (at-refuse-verb .refuse-verb .ensures) (at-enum-told .enum-told .given .1) (at-if1 .if1 .left) (at-rearrange .rearrange .ensures)
 
 pub lone-verb-spec : {M : Type 1} → statement M
 lone-verb-spec =

@@ -42,19 +42,32 @@ sub-add-in-line : tie.Need-sub-add-in-line Inv-loop μ-loop
 sub-add-in-line c = omega arith
 
 mul-add-in-line : tie.Need-mul-add-in-line Inv-loop μ-loop
-mul-add-in-line c = omega (arith, c .before .before .before .before .before .before .loop .inv .few)
+mul-add-in-line c = omega arith
 
 element-copy-out-add-in-line : tie.Need-element-copy-out-add-in-line Inv-loop μ-loop
-element-copy-out-add-in-line c = omega (arith, c .before .before .before .before .before .before .loop .inv .few)
+element-copy-out-add-in-line c = omega arith
 
 add-in-line-requires : tie.Need-add-in-line-requires Inv-loop μ-loop
-add-in-line-requires c κs = (omega (arith, walking-long _ _ _ _ _ (c .before .before .before .before .before .before .before .loop .inv), c .before .before .before .before .before .before .before .before .before .pre .2), walking-within _ _ _ _ _ (c .before .before .before .before .before .before .before .loop .inv) (c .before .before .before .before .before .before .before .before .before .pre .3))
+add-in-line-requires c κs =
+    let at-loop = c .before .before .before .before .before .before .before in
+    let start = at-loop .before .before in
+    (omega (arith, walking-long _ _ _ _ _ (at-loop .loop .inv)), walking-within _ _ _ _ _ (at-loop .loop .inv) (start .pre .3))
 
 same-length-3 : tie.Need-same-length-3 Inv-loop μ-loop
-same-length-3 c = omega (arith, walking-long _ _ _ _ _ (c .before .before .before .before .before .before .before .before .before .loop .inv), c .before .add-in-line .kept .0)
+same-length-3 c =
+    let at-add-in-line = c .before in
+    let at-loop = at-add-in-line .before .before .before .before .before .before .before .before in
+    omega (arith, walking-long _ _ _ _ _ (at-loop .loop .inv), at-add-in-line .add-in-line .kept .0)
 
 returns-3 : tie.Need-returns-3 Inv-loop μ-loop
-returns-3 c = let e = walking-last _ _ _ _ _ (c .before .before .before .before .before .before .before .before .before .loop .inv) (c .before .before .before .before .before .before .before .before .loop-test .taken) (c .before .before .before .before .before .before .before .number-at .ensures) (c .before .add-in-line .ensures) (c .before .before .before .before .before .number .given .1) in (e .answers, e .leaves-them)
+returns-3 c =
+    let at-add-in-line = c .before in
+    let at-number = at-add-in-line .before .before .before .before in
+    let at-number-at = at-number .before .before in
+    let at-loop-test = at-number-at .before in
+    let at-loop = at-loop-test .before in
+    let e = walking-last _ _ _ _ _ (at-loop .loop .inv) (at-loop-test .loop-test .taken) (at-number-at .number-at .ensures) (at-add-in-line .add-in-line .ensures) (at-number .number .given .1) in
+    (e .answers, e .leaves-them)
 
 enum-known-number-2 : tie.Need-enum-known-number-2 Inv-loop μ-loop
 enum-known-number-2 c = search needs
@@ -63,25 +76,39 @@ sub-add-in-line-2 : tie.Need-sub-add-in-line-2 Inv-loop μ-loop
 sub-add-in-line-2 c = omega arith
 
 mul-add-in-line-2 : tie.Need-mul-add-in-line-2 Inv-loop μ-loop
-mul-add-in-line-2 c = omega (arith, c .before .before .before .before .before .before .loop .inv .few)
+mul-add-in-line-2 c = omega arith
 
 element-copy-out-add-in-line-2 : tie.Need-element-copy-out-add-in-line-2 Inv-loop μ-loop
-element-copy-out-add-in-line-2 c = omega (arith, c .before .before .before .before .before .before .loop .inv .few)
+element-copy-out-add-in-line-2 c = omega arith
 
 add-in-line-requires-2 : tie.Need-add-in-line-requires-2 Inv-loop μ-loop
-add-in-line-requires-2 c κs = (omega (arith, walking-long _ _ _ _ _ (c .before .before .before .before .before .before .before .loop .inv), c .before .before .before .before .before .before .before .before .before .pre .2), walking-within _ _ _ _ _ (c .before .before .before .before .before .before .before .loop .inv) (c .before .before .before .before .before .before .before .before .before .pre .3))
+add-in-line-requires-2 c κs =
+    let at-loop = c .before .before .before .before .before .before .before in
+    let start = at-loop .before .before in
+    (omega (arith, walking-long _ _ _ _ _ (at-loop .loop .inv)), walking-within _ _ _ _ _ (at-loop .loop .inv) (start .pre .3))
 
 sub-left : tie.Need-sub-left Inv-loop μ-loop
 sub-left c = omega arith
 
 add-next : tie.Need-add-next Inv-loop μ-loop
-add-next c = omega (arith, walking-inside _ _ _ _ _ (c .before .before .before .before .before .before .before .before .before .loop .inv) (c .before .before .before .before .before .before .before .before .loop-test .taken) (c .before .before .before .before .before .before .before .number-at .ensures) (c .before .before .before .before .before .number2 .given .1), c .before .before .before .before .before .before .before .before .before .before .before .pre .0)
+add-next c =
+    let at-number2 = c .before .before .before .before .before in
+    let at-number-at = at-number2 .before .before in
+    let at-loop-test = at-number-at .before in
+    let at-loop = at-loop-test .before in
+    omega (arith, walking-inside _ _ _ _ _ (at-loop .loop .inv) (at-loop-test .loop-test .taken) (at-number-at .number-at .ensures) (at-number2 .number2 .given .1))
 
 loop-less : tie.Need-loop-less Inv-loop μ-loop
 loop-less c = omega arith
 
 loop-again : tie.Need-loop-again Inv-loop μ-loop
-loop-again c = walking-more _ _ _ _ _ (c .before .before .before .before .before .before .before .before .before .loop .inv) (c .before .before .before .before .before .before .before .before .loop-test .taken) (c .before .before .before .before .before .before .before .number-at .ensures) (c .before .add-in-line2 .ensures) (c .before .before .before .before .before .number2 .given .1)
+loop-again c =
+    let at-add-in-line2 = c .before in
+    let at-number2 = at-add-in-line2 .before .before .before .before in
+    let at-number-at = at-number2 .before .before in
+    let at-loop-test = at-number-at .before in
+    let at-loop = at-loop-test .before in
+    walking-more _ _ _ _ _ (at-loop .loop .inv) (at-loop-test .loop-test .taken) (at-number-at .number-at .ensures) (at-add-in-line2 .add-in-line2 .ensures) (at-number2 .number2 .given .1)
 
 same-length-4 : tie.Need-same-length-4 Inv-loop μ-loop
 same-length-4 c = omega (arith, walking-long _ _ _ _ _ (c .before .loop .inv))

@@ -39,7 +39,10 @@ loop-less : tie.Need-loop-less Inv-loop μ-loop
 loop-less c = omega arith
 
 loop-again : tie.Need-loop-again Inv-loop μ-loop
-loop-again c = (omega arith, every-next (λ i. ltb (getD (c .before .before .before .before .before .args .homes .now) i 0) (c .before .before .before .before .before .args .used)) (c .before .before .before .loop .c) (c .before .before .before .loop .inv .1) (c .both .ensures))
+loop-again c =
+    let at-loop = c .before .before .before in
+    let start = at-loop .before .before in
+    (omega arith, every-next (λ i. ltb (getD (start .args .homes .now) i 0) (start .args .used)) (at-loop .loop .c) (at-loop .loop .inv .1) (c .both .ensures))
 
 returns : tie.Need-returns Inv-loop μ-loop
 unfolding areHoused

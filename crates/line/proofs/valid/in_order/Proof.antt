@@ -41,7 +41,10 @@ loop-less : tie.Need-loop-less Inv-loop μ-loop
 loop-less c = omega arith
 
 loop-again : tie.Need-loop-again Inv-loop μ-loop
-loop-again c = (omega arith, every-next (λ i. eqb (getD (c .before .before .before .before .before .args .tags .now) i 0) i) (c .before .before .before .loop .p) (c .before .before .before .loop .inv .1) (c .both .ensures))
+loop-again c =
+    let at-loop = c .before .before .before in
+    let start = at-loop .before .before in
+    (omega arith, every-next (λ i. eqb (getD (start .args .tags .now) i 0) i) (at-loop .loop .p) (at-loop .loop .inv .1) (c .both .ensures))
 
 returns : tie.Need-returns Inv-loop μ-loop
 unfolding areInOrder
