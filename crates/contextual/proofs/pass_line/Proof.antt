@@ -37,16 +37,34 @@ same-length : tie.Need-same-length Inv-loop μ-loop
 same-length c = omega (arith, c .before .before .before .before .next .kept .1 .1 .1 .0)
 
 returns : tie.Need-returns Inv-loop μ-loop
-returns c = let e = going-stop _ _ _ (c .before .before .before .before .before .before .before .before .loop .inv) (c .before .before .before .before .before .before .before .loop-test .taken) (c .before .before .before .before .next .ensures .0) (sym (c .before .is-done .ensures) ∙ not-true _ (c .if1 .taken)) (c .before .before .before .before .next .ensures .1) in (e .answers, e .left)
+returns c =
+    let at-is-done = c .before in
+    let at-next = at-is-done .before .before .before in
+    let at-loop-test = at-next .before .before .before in
+    let at-loop = at-loop-test .before in
+    let e = going-stop _ _ _ (at-loop .loop .inv) (at-loop-test .loop-test .taken) (at-next .next .ensures .0) (sym (at-is-done .is-done .ensures) ∙ not-true _ (c .if1 .taken)) (at-next .next .ensures .1) in
+    (e .answers, e .left)
 
 add-place : tie.Need-add-place Inv-loop μ-loop
-add-place c = omega (arith, c .before .before .before .before .before .before .before .before .before .before .before .before .before .before .before .before .fits .used, going-step _ _ _ (c .before .before .before .before .before .before .before .before .before .before .loop .inv) (c .before .before .before .before .before .before .before .before .before .loop-test .taken) (c .before .before .before .before .before .before .next .ensures .0) (sym (c .before .before .before .is-done .ensures) ∙ not-false _ (c .before .before .if1 .left)) (c .before .before .before .before .before .before .next .ensures .1) (c .before .before .before .before .before .before .next .kept .1 .1 .1 .0) .within)
+add-place c = omega (arith, (let at-if1 = c .before .before in let at-is-done = at-if1 .before in let at-next = at-is-done .before .before .before in let at-loop-test = at-next .before .before .before in let at-loop = at-loop-test .before in going-step _ _ _ (at-loop .loop .inv) (at-loop-test .loop-test .taken) (at-next .next .ensures .0) (sym (at-is-done .is-done .ensures) ∙ not-false _ (at-if1 .if1 .left)) (at-next .next .ensures .1) (at-next .next .kept .1 .1 .1 .0) .within))
 
 loop-less : tie.Need-loop-less Inv-loop μ-loop
-loop-less c = going-less _ _ _ (c .before .before .before .before .before .before .before .before .before .before .loop .inv) (c .before .before .before .before .before .before .before .before .before .loop-test .taken) (c .before .before .before .before .before .before .next .ensures .0) (sym (c .before .before .before .is-done .ensures) ∙ not-false _ (c .before .before .if1 .left))
+loop-less c =
+    let at-if1 = c .before .before in
+    let at-is-done = at-if1 .before in
+    let at-next = at-is-done .before .before .before in
+    let at-loop-test = at-next .before .before .before in
+    let at-loop = at-loop-test .before in
+    going-less _ _ _ (at-loop .loop .inv) (at-loop-test .loop-test .taken) (at-next .next .ensures .0) (sym (at-is-done .is-done .ensures) ∙ not-false _ (at-if1 .if1 .left))
 
 loop-again : tie.Need-loop-again Inv-loop μ-loop
-loop-again c = going-step _ _ _ (c .before .before .before .before .before .before .before .before .before .before .loop .inv) (c .before .before .before .before .before .before .before .before .before .loop-test .taken) (c .before .before .before .before .before .before .next .ensures .0) (sym (c .before .before .before .is-done .ensures) ∙ not-false _ (c .before .before .if1 .left)) (c .before .before .before .before .before .before .next .ensures .1) (c .before .before .before .before .before .before .next .kept .1 .1 .1 .0)
+loop-again c =
+    let at-if1 = c .before .before in
+    let at-is-done = at-if1 .before in
+    let at-next = at-is-done .before .before .before in
+    let at-loop-test = at-next .before .before .before in
+    let at-loop = at-loop-test .before in
+    going-step _ _ _ (at-loop .loop .inv) (at-loop-test .loop-test .taken) (at-next .next .ensures .0) (sym (at-is-done .is-done .ensures) ∙ not-false _ (at-if1 .if1 .left)) (at-next .next .ensures .1) (at-next .next .kept .1 .1 .1 .0)
 
 next-requires-2 : tie.Need-next-requires-2 Inv-loop μ-loop
 next-requires-2 c κs = omega arith
@@ -55,7 +73,12 @@ same-length-2 : tie.Need-same-length-2 Inv-loop μ-loop
 same-length-2 c = omega (arith, c .before .before .next2 .kept .1 .1 .1 .0)
 
 returns-2 : tie.Need-returns-2 Inv-loop μ-loop
-returns-2 c = let e = going-end _ _ _ (c .before .before .before .before .before .loop .inv) (c .before .before .before .before .loop-test .left) (c .before .before .next2 .ensures .0) (c .before .before .next2 .ensures .1) in (e .answers, e .left)
+returns-2 c =
+    let at-next2 = c .before .before in
+    let at-loop-test = at-next2 .before .before in
+    let at-loop = at-loop-test .before in
+    let e = going-end _ _ _ (at-loop .loop .inv) (at-loop-test .loop-test .left) (at-next2 .next2 .ensures .0) (at-next2 .next2 .ensures .1) in
+    (e .answers, e .left)
 
 pub pass-line-spec : {M : Type 1} → statement M
 pass-line-spec =

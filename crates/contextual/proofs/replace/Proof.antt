@@ -21,7 +21,10 @@ same-length c = search needs
 
 returns-2 : tie.Need-returns-2
 unfolding writtenAll
-returns-2 c = rw (c .before .before .before .before .before .substitute .given .1) (c .before .before .write .ensures)
+returns-2 c =
+    let at-write = c .before .before in
+    let at-substitute = at-write .before .before .before in
+    rw (at-substitute .substitute .given .1) (at-write .write .ensures)
 
 pub replace-spec : {M : Type 1} → statement M
 replace-spec =

@@ -42,7 +42,12 @@ enum-told-2 c = search needs
 
 returns-3 : tie.Need-returns-3
 unfolding substituteOf
-returns-3 c = rw (ne-eqb _ _ (c .before .before .before .before .before .before .before .if1 .left), sym (c .before .before .before .before .before .before .read-u32 .ensures) ∙ c .before .before .before .before .list .given .1, sym (c .before .before .read-u322 .ensures) ∙ c .enum-told2 .given .1, substituteOf)
+returns-3 c =
+    let at-read-u322 = c .before .before in
+    let at-list = at-read-u322 .before .before in
+    let at-read-u32 = at-list .before .before in
+    let at-if1 = at-read-u32 .before in
+    rw (ne-eqb _ _ (at-if1 .if1 .left), sym (at-read-u32 .read-u32 .ensures) ∙ at-list .list .given .1, sym (at-read-u322 .read-u322 .ensures) ∙ c .enum-told2 .given .1, substituteOf)
 
 cast-from : tie.Need-cast-from
 cast-from c = search needs
@@ -67,11 +72,28 @@ enum-told-3 c = search needs
 
 returns-4 : tie.Need-returns-4
 unfolding substituteOf
-returns-4 c = rw (ne-eqb _ _ (c .before .before .before .before .before .before .before .before .before .before .before .before .if1 .left), sym (c .before .before .before .before .before .before .before .before .before .before .before .read-u32 .ensures) ∙ c .before .before .before .before .before .before .before .before .before .list .given .1, sym (c .before .before .before .before .before .before .before .read-u322 .ensures) ∙ c .before .before .before .before .before .offset .given .1, ← (c .before .before .before .from .ensures), sym (c .before .before .lookup-at .ensures) ∙ c .enum-told3 .given .1, substituteOf)
+returns-4 c =
+    let at-lookup-at = c .before .before in
+    let at-from = at-lookup-at .before in
+    let at-offset = at-from .before .before in
+    let at-read-u322 = at-offset .before .before in
+    let at-list = at-read-u322 .before .before in
+    let at-read-u32 = at-list .before .before in
+    let at-if1 = at-read-u32 .before in
+    rw (ne-eqb _ _ (at-if1 .if1 .left), sym (at-read-u32 .read-u32 .ensures) ∙ at-list .list .given .1, sym (at-read-u322 .read-u322 .ensures) ∙ at-offset .offset .given .1, ← (at-from .from .ensures), sym (at-lookup-at .lookup-at .ensures) ∙ c .enum-told3 .given .1, substituteOf)
 
 returns-5 : tie.Need-returns-5
 unfolding substituteOf
-returns-5 c = rw (ne-eqb _ _ (c .before .before .before .before .before .before .before .before .before .before .before .before .before .if1 .left), sym (c .before .before .before .before .before .before .before .before .before .before .before .before .read-u32 .ensures) ∙ c .before .before .before .before .before .before .before .before .before .before .list .given .1, sym (c .before .before .before .before .before .before .before .before .read-u322 .ensures) ∙ c .before .before .before .before .before .before .offset .given .1, ← (c .before .before .before .before .from .ensures), sym (c .before .before .before .lookup-at .ensures) ∙ c .before .found .given .1, substituteOf)
+returns-5 c =
+    let at-found = c .before in
+    let at-lookup-at = at-found .before .before in
+    let at-from = at-lookup-at .before in
+    let at-offset = at-from .before .before in
+    let at-read-u322 = at-offset .before .before in
+    let at-list = at-read-u322 .before .before in
+    let at-read-u32 = at-list .before .before in
+    let at-if1 = at-read-u32 .before in
+    rw (ne-eqb _ _ (at-if1 .if1 .left), sym (at-read-u32 .read-u32 .ensures) ∙ at-list .list .given .1, sym (at-read-u322 .read-u322 .ensures) ∙ at-offset .offset .given .1, ← (at-from .from .ensures), sym (at-lookup-at .lookup-at .ensures) ∙ at-found .found .given .1, substituteOf)
 
 pub substitute-of-spec : {M : Type 1} → statement M
 substitute-of-spec =

@@ -22,7 +22,12 @@ same-length c = search needs
 
 returns : tie.Need-returns
 unfolding callLeaves
-returns c = let e = call-refused _ _ (lineOf _ _ _ _) (c .before .before .before .before .before .from .ensures) (c .before .before .before .refuse-pass .ensures) (c .before .why .given .1) in (e .answers, e .left)
+returns c =
+    let at-why = c .before in
+    let at-refuse-pass = at-why .before .before in
+    let at-from = at-refuse-pass .before .before in
+    let e = call-refused _ _ (lineOf _ _ _ _) (at-from .from .ensures) (at-refuse-pass .refuse-pass .ensures) (at-why .why .given .1) in
+    (e .answers, e .left)
 
 enum-told : tie.Need-enum-told
 enum-told c = search needs
@@ -35,7 +40,13 @@ same-length-2 c = search needs
 
 returns-2 : tie.Need-returns-2
 unfolding callLeaves
-returns-2 c = let e = call-works _ _ (lineOf _ _ _ _) (c .before .before .before .before .before .before .before .before .from .ensures) (c .before .before .before .before .before .before .refuse-pass .ensures) (c .before .before .before .before .enum-told .given .1) (c .before .before .work .ensures .0) (c .before .before .work .ensures .1) in (e .answers, e .left)
+returns-2 c =
+    let at-work = c .before .before in
+    let at-enum-told = at-work .before .before in
+    let at-refuse-pass = at-enum-told .before .before in
+    let at-from = at-refuse-pass .before .before in
+    let e = call-works _ _ (lineOf _ _ _ _) (at-from .from .ensures) (at-refuse-pass .refuse-pass .ensures) (at-enum-told .enum-told .given .1) (at-work .work .ensures .0) (at-work .work .ensures .1) in
+    (e .answers, e .left)
 
 pub pass-spec : {M : Type 1} → statement M
 pass-spec =

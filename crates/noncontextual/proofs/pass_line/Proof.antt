@@ -30,7 +30,7 @@ loop-less : tie.Need-loop-less Inv-loop μ-loop
 loop-less c = omega arith
 
 loop-again : tie.Need-loop-again Inv-loop μ-loop
-loop-again c = going-step _ _ _ _ _ (c .before .before .before .before .before .before .loop .inv) (c .before .before .before .before .before .loop-test .taken) (c .before .before .replace .ensures) (c .before .before .replace .kept .1 .0)
+loop-again c = search going-step
 
 same-length : tie.Need-same-length Inv-loop μ-loop
 same-length c = omega arith

@@ -22,7 +22,11 @@ same-length : tie.Need-same-length
 same-length c = search needs
 
 returns-2 : tie.Need-returns-2
-returns-2 c = rw (sym (c .before .before .before .before .before .before .before .lookup-at .ensures) ∙ c .before .before .before .before .before .substitute .given .1) (c .before .before .write .ensures)
+returns-2 c =
+    let at-write = c .before .before in
+    let at-substitute = at-write .before .before .before in
+    let at-lookup-at = at-substitute .before .before in
+    rw (sym (at-lookup-at .lookup-at .ensures) ∙ at-substitute .substitute .given .1) (at-write .write .ensures)
 
 pub replace-spec : {M : Type 1} → statement M
 replace-spec =

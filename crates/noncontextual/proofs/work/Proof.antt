@@ -26,7 +26,13 @@ same-length c = search needs
 
 returns-2 : tie.Need-returns-2
 unfolding workLeaves
-returns-2 c = let e = work-passed _ (lineOf _ _ _ _) (c .before .before .before .before .before .before .has-kind .ensures) (c .before .before .before .before .before .if1 .left) (c .before .before .before .before .from .ensures) (c .before .before .pass-line .ensures) in (e .answers, e .left)
+returns-2 c =
+    let at-pass-line = c .before .before in
+    let at-from = at-pass-line .before .before in
+    let at-if1 = at-from .before in
+    let at-has-kind = at-if1 .before in
+    let e = work-passed _ (lineOf _ _ _ _) (at-has-kind .has-kind .ensures) (at-if1 .if1 .left) (at-from .from .ensures) (at-pass-line .pass-line .ensures) in
+    (e .answers, e .left)
 
 pub work-spec : {M : Type 1} → statement M
 work-spec =

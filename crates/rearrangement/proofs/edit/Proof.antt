@@ -25,7 +25,10 @@ same-length-2 c = search needs
 
 returns-2 : tie.Need-returns-2
 unfolding applyAll apply
-returns-2 c = rw (c .before .before .before .before .before .before .before .before .window .given .1) (c .before .before .before .before .rearrange .ensures .0, c .before .before .before .before .rearrange .ensures .1)
+returns-2 c =
+    let at-rearrange = c .before .before .before .before in
+    let at-window = at-rearrange .before .before .before .before in
+    rw (at-window .window .given .1) (at-rearrange .rearrange .ensures .0, at-rearrange .rearrange .ensures .1)
 
 pub edit-spec : {M : Type 1} → statement M
 edit-spec =

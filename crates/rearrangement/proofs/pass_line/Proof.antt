@@ -41,14 +41,20 @@ enum-told : tie.Need-enum-told Inv-loop μ-loop
 enum-told c = search needs
 
 same-length : tie.Need-same-length Inv-loop μ-loop
-same-length c = omega (arith, c .before .before .before .before .before .before .loop .inv .long-glyphs)
+same-length c = omega arith
 
 same-length-2 : tie.Need-same-length-2 Inv-loop μ-loop
-same-length-2 c = omega (arith, c .before .before .before .before .before .before .loop .inv .long-tags)
+same-length-2 c = omega arith
 
 returns : tie.Need-returns Inv-loop μ-loop
 unfolding applyAll
-returns c = let e = going-stop _ _ _ (c .before .before .before .before .before .before .loop .inv) (c .before .before .before .before .before .loop-test .taken) (ends-here _ _ _ _ _ (c .before .before .before .class-of .ensures) (sym (c .before .before .entry-of .ensures) ∙ c .enum-told .given .1)) refl refl refl in (e .answers, (e .glyphs-left, e .tags-left))
+returns c =
+    let at-entry-of = c .before .before in
+    let at-class-of = at-entry-of .before in
+    let at-loop-test = at-class-of .before .before in
+    let at-loop = at-loop-test .before in
+    let e = going-stop _ _ _ (at-loop .loop .inv) (at-loop-test .loop-test .taken) (ends-here _ _ _ _ _ (at-class-of .class-of .ensures) (sym (at-entry-of .entry-of .ensures) ∙ c .enum-told .given .1)) refl refl refl in
+    (e .answers, (e .glyphs-left, e .tags-left))
 
 act-requires : tie.Need-act-requires Inv-loop μ-loop
 act-requires c κs = search needs
@@ -57,13 +63,37 @@ edit-requires : tie.Need-edit-requires Inv-loop μ-loop
 edit-requires c κs = omega arith
 
 add-place : tie.Need-add-place Inv-loop μ-loop
-add-place c = omega (arith, c .before .before .before .before .before .before .before .before .before .before .before .before .before .before .before .before .before .before .before .before .before .before .before .fits .used, going-step _ _ _ (c .before .before .before .before .before .before .before .before .before .before .before .before .before .before .before .before .before .loop .inv) (c .before .before .before .before .before .before .before .before .before .before .before .before .before .before .before .before .loop-test .taken) (acts _ _ _ _ _ (c .before .before .before .before .before .before .before .before .before .before .before .before .before .before .class-of .ensures) (sym (c .before .before .before .before .before .before .before .before .before .before .before .before .before .entry-of .ensures) ∙ c .before .before .before .before .before .before .before .before .before .before .before .entry .given .1) (c .before .before .before .before .before .before .before .before .before .act .ensures)) (acted-done _ _ _ (c .before .before .before .before .before .before .before .before .before .act .ensures)) (c .before .before .before .before .before .before .edit .ensures .0) (c .before .before .before .before .before .before .edit .ensures .1) (c .before .before .before .before .before .before .edit .kept .0) (c .before .before .before .before .before .before .edit .kept .1 .0) .within)
+add-place c =
+    let at-edit = c .before .before .before .before .before .before in
+    let at-act = at-edit .before .before .before in
+    let at-entry = at-act .before .before in
+    let at-entry-of = at-entry .before .before in
+    let at-class-of = at-entry-of .before in
+    let at-loop-test = at-class-of .before .before in
+    let at-loop = at-loop-test .before in
+    let start = at-loop .before .before .before .before .before .before in
+    omega (arith, start .fits .used, going-step _ _ _ (at-loop .loop .inv) (at-loop-test .loop-test .taken) (acts _ _ _ _ _ (at-class-of .class-of .ensures) (sym (at-entry-of .entry-of .ensures) ∙ at-entry .entry .given .1) (at-act .act .ensures)) (acted-done _ _ _ (at-act .act .ensures)) (at-edit .edit .ensures .0) (at-edit .edit .ensures .1) (at-edit .edit .kept .0) (at-edit .edit .kept .1 .0) .within)
 
 loop-less : tie.Need-loop-less Inv-loop μ-loop
-loop-less c = going-less _ _ _ (c .before .before .before .before .before .before .before .before .before .before .before .before .before .before .before .before .before .loop .inv) (c .before .before .before .before .before .before .before .before .before .before .before .before .before .before .before .before .loop-test .taken) (acts _ _ _ _ _ (c .before .before .before .before .before .before .before .before .before .before .before .before .before .before .class-of .ensures) (sym (c .before .before .before .before .before .before .before .before .before .before .before .before .before .entry-of .ensures) ∙ c .before .before .before .before .before .before .before .before .before .before .before .entry .given .1) (c .before .before .before .before .before .before .before .before .before .act .ensures)) (acted-done _ _ _ (c .before .before .before .before .before .before .before .before .before .act .ensures))
+loop-less c =
+    let at-act = c .before .before .before .before .before .before .before .before .before in
+    let at-entry = at-act .before .before in
+    let at-entry-of = at-entry .before .before in
+    let at-class-of = at-entry-of .before in
+    let at-loop-test = at-class-of .before .before in
+    let at-loop = at-loop-test .before in
+    going-less _ _ _ (at-loop .loop .inv) (at-loop-test .loop-test .taken) (acts _ _ _ _ _ (at-class-of .class-of .ensures) (sym (at-entry-of .entry-of .ensures) ∙ at-entry .entry .given .1) (at-act .act .ensures)) (acted-done _ _ _ (at-act .act .ensures))
 
 loop-again : tie.Need-loop-again Inv-loop μ-loop
-loop-again c = going-step _ _ _ (c .before .before .before .before .before .before .before .before .before .before .before .before .before .before .before .before .before .loop .inv) (c .before .before .before .before .before .before .before .before .before .before .before .before .before .before .before .before .loop-test .taken) (acts _ _ _ _ _ (c .before .before .before .before .before .before .before .before .before .before .before .before .before .before .class-of .ensures) (sym (c .before .before .before .before .before .before .before .before .before .before .before .before .before .entry-of .ensures) ∙ c .before .before .before .before .before .before .before .before .before .before .before .entry .given .1) (c .before .before .before .before .before .before .before .before .before .act .ensures)) (acted-done _ _ _ (c .before .before .before .before .before .before .before .before .before .act .ensures)) (c .before .before .before .before .before .before .edit .ensures .0) (c .before .before .before .before .before .before .edit .ensures .1) (c .before .before .before .before .before .before .edit .kept .0) (c .before .before .before .before .before .before .edit .kept .1 .0)
+loop-again c =
+    let at-edit = c .before .before .before .before .before .before in
+    let at-act = at-edit .before .before .before in
+    let at-entry = at-act .before .before in
+    let at-entry-of = at-entry .before .before in
+    let at-class-of = at-entry-of .before in
+    let at-loop-test = at-class-of .before .before in
+    let at-loop = at-loop-test .before in
+    going-step _ _ _ (at-loop .loop .inv) (at-loop-test .loop-test .taken) (acts _ _ _ _ _ (at-class-of .class-of .ensures) (sym (at-entry-of .entry-of .ensures) ∙ at-entry .entry .given .1) (at-act .act .ensures)) (acted-done _ _ _ (at-act .act .ensures)) (at-edit .edit .ensures .0) (at-edit .edit .ensures .1) (at-edit .edit .kept .0) (at-edit .edit .kept .1 .0)
 
 next-requires : tie.Need-next-requires Inv-loop μ-loop
 next-requires c κs = search needs
@@ -78,7 +108,13 @@ same-length-4 : tie.Need-same-length-4 Inv-loop μ-loop
 same-length-4 c = omega (arith, c .before .before .before .before .edit2 .kept .1 .0)
 
 returns-2 : tie.Need-returns-2 Inv-loop μ-loop
-returns-2 c = let e = going-end _ _ _ (c .before .before .before .before .before .before .before .before .before .loop .inv) (c .before .before .before .before .before .before .before .before .loop-test .left) (c .before .before .before .before .before .before .before .next .ensures) (c .before .before .before .before .edit2 .ensures .0) (c .before .before .before .before .edit2 .ensures .1) in (e .answers, (e .glyphs-left, e .tags-left))
+returns-2 c =
+    let at-edit2 = c .before .before .before .before in
+    let at-next = at-edit2 .before .before .before in
+    let at-loop-test = at-next .before in
+    let at-loop = at-loop-test .before in
+    let e = going-end _ _ _ (at-loop .loop .inv) (at-loop-test .loop-test .left) (at-next .next .ensures) (at-edit2 .edit2 .ensures .0) (at-edit2 .edit2 .ensures .1) in
+    (e .answers, (e .glyphs-left, e .tags-left))
 
 pub pass-line-spec : {M : Type 1} → statement M
 pass-line-spec =

@@ -26,7 +26,14 @@ entered-requires c κs = search needs
 
 returns : tie.Need-returns
 unfolding acted
-returns c = rw (c .entered .ensures, c .before .is-set .ensures, c .before .before .glyph-after .ensures, c .before .before .before .substitute-of2 .ensures, c .before .before .before .before .seen-glyph .ensures, c .before .before .before .before .before .before .substitute-of .ensures, c .before .before .before .before .before .before .before .two-numbers .ensures .0, c .before .before .before .before .before .before .before .two-numbers .ensures .1, acted)
+returns c =
+    let at-is-set = c .before in
+    let at-glyph-after = at-is-set .before in
+    let at-substitute-of2 = at-glyph-after .before in
+    let at-seen-glyph = at-substitute-of2 .before in
+    let at-substitute-of = at-seen-glyph .before .before in
+    let at-two-numbers = at-substitute-of .before in
+    rw (c .entered .ensures, at-is-set .is-set .ensures, at-glyph-after .glyph-after .ensures, at-substitute-of2 .substitute-of2 .ensures, at-seen-glyph .seen-glyph .ensures, at-substitute-of .substitute-of .ensures, at-two-numbers .two-numbers .ensures .0, at-two-numbers .two-numbers .ensures .1, acted)
 
 pub act-spec : {M : Type 1} → statement M
 act-spec =

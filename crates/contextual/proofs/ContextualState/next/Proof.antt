@@ -43,43 +43,77 @@ same-length : tie.Need-same-length Inv-loop μ-loop
 same-length c = omega (arith, c .before .before .before .before .loop .inv .long)
 
 returns-2 : tie.Need-returns-2 Inv-loop μ-loop
-returns-2 c = let e = next-over _ _ _ _ _ _ (c .before .before .before .before .before .before .before .before .idle .ensures) (c .before .before .before .before .before .before .before .if1 .left) (c .before .before .before .before .before .before .begun .ensures) (c .before .before .before .before .before .class-at .ensures) (running-ended _ _ _ _ _ _ (c .before .before .before .before .loop .inv) (c .before .before .before .loop-test .taken) (c .before .before .entry-of .ensures) (c .enum-told .given .1)) in (e .answers, e .left)
+returns-2 c =
+    let at-entry-of = c .before .before in
+    let at-loop-test = at-entry-of .before in
+    let at-loop = at-loop-test .before in
+    let at-class-at = at-loop .before in
+    let at-begun = at-class-at .before in
+    let at-if1 = at-begun .before in
+    let at-idle = at-if1 .before in
+    let e = next-over _ _ _ _ _ _ (at-idle .idle .ensures) (at-if1 .if1 .left) (at-begun .begun .ensures) (at-class-at .class-at .ensures) (running-ended _ _ _ _ _ _ (at-loop .loop .inv) (at-loop-test .loop-test .taken) (at-entry-of .entry-of .ensures) (c .enum-told .given .1)) in
+    (e .answers, e .left)
 
 act-requires : tie.Need-act-requires Inv-loop μ-loop
 act-requires c κs = entry-payload _ _ _ _ _ (c .before .before .before .entry-of .ensures) (c .before .entry .given .1)
 
 replace-requires : tie.Need-replace-requires Inv-loop μ-loop
-replace-requires c κs = omega (arith, c .before .before .before .before .before .before .before .loop .inv .long)
+replace-requires c κs = omega arith
 
 replace-requires-2 : tie.Need-replace-requires-2 Inv-loop μ-loop
-replace-requires-2 c κs = omega (arith, c .before .before .before .before .before .before .before .before .before .before .before .before .before .before .before .before .before .before .pre, c .before .before .before .before .before .before .before .before .before .before .before .loop .inv .long, c .before .before .before .replace .kept .0)
+replace-requires-2 c κs =
+    let at-replace = c .before .before .before in
+    let at-loop = at-replace .before .before .before .before .before .before .before .before in
+    let start = at-loop .before .before .before .before .before .before .before in
+    omega (arith, start .pre, at-loop .loop .inv .long, at-replace .replace .kept .0)
 
 is-set-requires : tie.Need-is-set-requires Inv-loop μ-loop
 is-set-requires c κs = search needs
 
 same-length-2 : tie.Need-same-length-2 Inv-loop μ-loop
-same-length-2 c = omega (arith, c .before .before .before .before .before .before .before .before .before .before .before .before .before .before .before .before .before .loop .inv .long, c .before .before .before .before .before .before .before .before .before .replace .kept .0, c .before .before .before .before .before .replace2 .kept .0)
+same-length-2 c = omega arith
 
 returns-3 : tie.Need-returns-3 Inv-loop μ-loop
-returns-3 c = let e = next-over _ _ _ _ _ _ (c .before .before .before .before .before .before .before .before .before .before .before .before .before .before .before .before .before .before .before .before .before .idle .ensures) (c .before .before .before .before .before .before .before .before .before .before .before .before .before .before .before .before .before .before .before .before .if1 .left) (c .before .before .before .before .before .before .before .before .before .before .before .before .before .before .before .before .before .before .before .begun .ensures) (c .before .before .before .before .before .before .before .before .before .before .before .before .before .before .before .before .before .before .class-at .ensures) (running-stops _ _ _ _ _ _ (c .before .before .before .before .before .before .before .before .before .before .before .before .before .before .before .before .before .loop .inv) (c .before .before .before .before .before .before .before .before .before .before .before .before .before .before .before .before .loop-test .taken) (c .before .before .before .before .before .before .before .before .before .before .before .before .before .before .before .entry-of .ensures) (c .before .before .before .before .before .before .before .before .before .before .before .before .before .entry .given .1) (c .before .before .before .before .before .before .before .before .before .before .before .act .ensures) (c .before .before .before .before .before .before .before .before .before .replace .ensures) (c .before .before .before .before .before .replace2 .ensures) (c .before .is-set .ensures) (c .if2 .taken)) in (e .answers, e .left)
+returns-3 c =
+    let at-is-set = c .before in
+    let at-replace2 = at-is-set .before .before .before .before in
+    let at-replace = at-replace2 .before .before .before .before in
+    let at-act = at-replace .before .before in
+    let at-entry = at-act .before .before in
+    let at-entry-of = at-entry .before .before in
+    let at-loop-test = at-entry-of .before in
+    let at-loop = at-loop-test .before in
+    let at-class-at = at-loop .before in
+    let at-begun = at-class-at .before in
+    let at-if1 = at-begun .before in
+    let at-idle = at-if1 .before in
+    let e = next-over _ _ _ _ _ _ (at-idle .idle .ensures) (at-if1 .if1 .left) (at-begun .begun .ensures) (at-class-at .class-at .ensures) (running-stops _ _ _ _ _ _ (at-loop .loop .inv) (at-loop-test .loop-test .taken) (at-entry-of .entry-of .ensures) (at-entry .entry .given .1) (at-act .act .ensures) (at-replace .replace .ensures) (at-replace2 .replace2 .ensures) (at-is-set .is-set .ensures) (c .if2 .taken)) in
+    (e .answers, e .left)
 
 class-of-requires : tie.Need-class-of-requires Inv-loop μ-loop
 class-of-requires c κs = search needs
 
 sub-left : tie.Need-sub-left Inv-loop μ-loop
-sub-left c = omega (arith, c .before .before .before .before .before .before .before .before .before .before .before .before .before .before .before .before .before .loop-test .taken)
+sub-left c = omega arith
 
 loop-less : tie.Need-loop-less Inv-loop μ-loop
-loop-less c = omega (arith, c .before .before .before .before .before .before .before .before .before .before .before .before .before .before .before .before .before .loop-test .taken)
+loop-less c = omega arith
 
 loop-again : tie.Need-loop-again Inv-loop μ-loop
-loop-again c = running-goes _ _ _ _ _ _ (c .before .before .before .before .before .before .before .before .before .before .before .before .before .before .before .before .before .before .loop .inv) (c .before .before .before .before .before .before .before .before .before .before .before .before .before .before .before .before .before .loop-test .taken) (c .before .before .before .before .before .before .before .before .before .before .before .before .before .before .before .before .entry-of .ensures) (c .before .before .before .before .before .before .before .before .before .before .before .before .before .before .entry .given .1) (c .before .before .before .before .before .before .before .before .before .before .before .before .act .ensures) (c .before .before .before .before .before .before .before .before .before .before .replace .ensures) (c .before .before .before .before .before .before .replace2 .ensures) (c .before .before .is-set .ensures) (c .before .if2 .left) (c .class-of .ensures) (c .before .before .before .before .before .before .before .before .before .before .replace .kept .0) (c .before .before .before .before .before .before .replace2 .kept .0)
+loop-again c = search running-goes
 
 same-length-3 : tie.Need-same-length-3 Inv-loop μ-loop
 same-length-3 c = omega (arith, c .before .loop .inv .long)
 
 returns-4 : tie.Need-returns-4 Inv-loop μ-loop
-returns-4 c = let e = next-over _ _ _ _ _ _ (c .before .before .before .before .before .idle .ensures) (c .before .before .before .before .if1 .left) (c .before .before .before .begun .ensures) (c .before .before .class-at .ensures) (running-out _ _ _ _ _ _ (c .before .loop .inv) (c .loop-test .left)) in (e .answers, e .left)
+returns-4 c =
+    let at-loop = c .before in
+    let at-class-at = at-loop .before in
+    let at-begun = at-class-at .before in
+    let at-if1 = at-begun .before in
+    let at-idle = at-if1 .before in
+    let e = next-over _ _ _ _ _ _ (at-idle .idle .ensures) (at-if1 .if1 .left) (at-begun .begun .ensures) (at-class-at .class-at .ensures) (running-out _ _ _ _ _ _ (at-loop .loop .inv) (c .loop-test .left)) in
+    (e .answers, e .left)
 
 pub next-spec : {M : Type 1} → statement M
 next-spec =

@@ -26,7 +26,14 @@ stall-requires c κs = search needs
 
 returns : tie.Need-returns
 unfolding acted
-returns c = rw (c .stall .ensures, c .before .is-set3 .ensures, c .before .before .window-of .ensures, c .before .before .before .marked2 .ensures, c .before .before .before .before .is-set2 .ensures, c .before .before .before .before .before .marked .ensures, c .before .before .before .before .before .before .is-set .ensures, acted)
+returns c =
+    let at-is-set3 = c .before in
+    let at-window-of = at-is-set3 .before in
+    let at-marked2 = at-window-of .before in
+    let at-is-set2 = at-marked2 .before in
+    let at-marked = at-is-set2 .before in
+    let at-is-set = at-marked .before in
+    rw (c .stall .ensures, at-is-set3 .is-set3 .ensures, at-window-of .window-of .ensures, at-marked2 .marked2 .ensures, at-is-set2 .is-set2 .ensures, at-marked .marked .ensures, at-is-set .is-set .ensures, acted)
 
 pub act-spec : {M : Type 1} → statement M
 act-spec =

@@ -21,7 +21,12 @@ unmoved-requires c κs = search needs
 
 returns : tie.Need-returns
 unfolding stepCall
-returns c = rw (← (c .before .before .before .before .before .before .from .ensures), ← (c .before .before .before .before .before .«open» .ensures), sym (c .before .before .before .before .refuse .ensures) ∙ c .before .before .why .given .1, c .unmoved .ensures, stepCall)
+returns c =
+    let at-why = c .before .before in
+    let at-refuse = at-why .before .before in
+    let at-open = at-refuse .before in
+    let at-from = at-open .before in
+    rw (← (at-from .from .ensures), ← (at-open .«open» .ensures), sym (at-refuse .refuse .ensures) ∙ at-why .why .given .1, c .unmoved .ensures, stepCall)
 
 enum-told : tie.Need-enum-told
 enum-told c = search needs
@@ -37,7 +42,13 @@ unmoved-requires-2 c κs = search needs
 
 returns-2 : tie.Need-returns-2
 unfolding stepCall
-returns-2 c = rw (← (c .before .before .before .before .before .before .before .from .ensures), ← (c .before .before .before .before .before .before .«open» .ensures), sym (c .before .before .before .before .before .refuse .ensures) ∙ c .before .before .before .enum-told .given .1, c .before .enum-told2 .given .1, c .unmoved2 .ensures, stepCall)
+returns-2 c =
+    let at-enum-told2 = c .before in
+    let at-enum-told = at-enum-told2 .before .before in
+    let at-refuse = at-enum-told .before .before in
+    let at-open = at-refuse .before in
+    let at-from = at-open .before in
+    rw (← (at-from .from .ensures), ← (at-open .«open» .ensures), sym (at-refuse .refuse .ensures) ∙ at-enum-told .enum-told .given .1, at-enum-told2 .enum-told2 .given .1, c .unmoved2 .ensures, stepCall)
 
 from-requires-2 : tie.Need-from-requires-2
 from-requires-2 c κs = search needs
@@ -47,7 +58,14 @@ next-requires c κs = search needs
 
 returns-3 : tie.Need-returns-3
 unfolding stepCall
-returns-3 c = rw (← (c .before .before .before .before .before .before .before .before .before .from .ensures), ← (c .before .before .before .before .before .before .before .before .«open» .ensures), sym (c .before .before .before .before .before .before .before .refuse .ensures) ∙ c .before .before .before .before .before .enum-told .given .1, c .before .before .before .made .given .1, c .next .ensures, c .before .from2 .ensures, stepCall)
+returns-3 c =
+    let at-from2 = c .before in
+    let at-made = at-from2 .before .before in
+    let at-enum-told = at-made .before .before in
+    let at-refuse = at-enum-told .before .before in
+    let at-open = at-refuse .before in
+    let at-from = at-open .before in
+    rw (← (at-from .from .ensures), ← (at-open .«open» .ensures), sym (at-refuse .refuse .ensures) ∙ at-enum-told .enum-told .given .1, at-made .made .given .1, c .next .ensures, at-from2 .from2 .ensures, stepCall)
 
 pub step-spec : {M : Type 1} → statement M
 step-spec =
