@@ -55,7 +55,11 @@ same-length-2 : tie.Need-same-length-2
 same-length-2 c = search needs
 
 returns-3 : tie.Need-returns-3
-returns-3 c = let m = made-ligature _ _ _ _ _ _ _ _ (c .before .before .before .before .before .before .before .before .before .before .before .action .given .1) (c .before .before .before .before .ligate .ensures .0) (c .before .before .before .before .ligate .ensures .1) in (m .stored, (m .written, m .joined))
+returns-3 c =
+    let at-ligate = c .before .before .before .before in
+    let at-action = at-ligate .before .before .before .before .before .before .before in
+    let m = made-ligature _ _ _ _ _ _ _ _ (at-action .action .given .1) (at-ligate .ligate .ensures .0) (at-ligate .ligate .ensures .1) in
+    (m .stored, (m .written, m .joined))
 
 pub make-spec : {M : Type 1} → statement M
 make-spec =

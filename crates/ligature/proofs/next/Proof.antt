@@ -19,7 +19,7 @@ class-at-requires : tie.Need-class-at-requires Inv-loop μ-loop
 class-at-requires c κs = search needs
 
 loop-holds : tie.Need-loop-holds Inv-loop μ-loop
-loop-holds c = running-start _ _ _ _ _ _ _ _ _ _ _ _ _ (c .class-at .ensures) (c .before .before .before .before .before .pre .0)
+loop-holds c = search running-start
 
 add-loop : tie.Need-add-loop Inv-loop μ-loop
 add-loop c = search needs
@@ -43,46 +43,82 @@ returns : tie.Need-returns Inv-loop μ-loop
 returns c = let e = running-none _ _ _ _ _ _ _ _ _ (c .before .before .before .before .loop .inv) (c .before .before .entry-of .ensures) (c .enum-told .given .1) in (e .answers, (e .placed, (e .stored, (e .written, (e .joined, c .before .before .before .before .loop .inv .within)))))
 
 enter-requires : tie.Need-enter-requires Inv-loop μ-loop
-enter-requires c κs = let p = entry-payload _ _ _ _ _ (c .before .before .before .before .before .before .before .entry-of .ensures) (c .before .before .before .before .before .entry .given .1) in omega (arith, p, c .before .before .before .before .before .before .before .before .before .loop .inv .within, c .before .before .before .before .before .before .before .before .before .loop .inv .spent, c .before .before .before .before .before .before .before .before .before .loop .inv .long, c .before .before .before .before .before .before .before .before .before .before .before .before .before .before .before .pre)
+enter-requires c κs =
+    let at-entry = c .before .before .before .before .before in
+    let at-entry-of = at-entry .before .before in
+    let p = entry-payload _ _ _ _ _ (at-entry-of .entry-of .ensures) (at-entry .entry .given .1) in
+    omega (arith, p)
 
 same-length-3 : tie.Need-same-length-3 Inv-loop μ-loop
-same-length-3 c = omega (arith, c .before .before .before .before .before .before .before .before .before .before .before .before .before .before .before .loop .inv .long, c .before .before .before .before .before .enter .kept .1 .1 .1 .1 .1 .0)
+same-length-3 c = omega arith
 
 same-length-4 : tie.Need-same-length-4 Inv-loop μ-loop
-same-length-4 c = omega (arith, c .before .before .before .before .before .before .before .before .before .before .before .before .before .before .before .loop .inv .all, c .before .before .before .before .before .enter .kept .1 .1 .1 .1 .1 .1 .1 .0)
+same-length-4 c = omega arith
 
 returns-2 : tie.Need-returns-2 Inv-loop μ-loop
-returns-2 c = let e = running-ended _ _ _ _ _ _ _ _ _ (c .before .before .before .before .before .before .before .before .before .before .before .before .before .before .before .loop .inv) (c .before .before .before .before .before .before .before .before .before .before .before .before .before .entry-of .ensures) (c .before .before .before .before .before .before .before .before .before .before .before .entry .given .1) (record { answers = c .before .before .before .before .before .enter .ensures .0; placed = c .before .before .before .before .before .enter .ensures .1 .0; stored = c .before .before .before .before .before .enter .ensures .1 .1 .0; written = c .before .before .before .before .before .enter .ensures .1 .1 .1 .0; joined = c .before .before .before .before .before .enter .ensures .1 .1 .1 .1 .0 }) (c .if1 .taken) in (e .answers, (e .placed, (e .stored, (e .written, (e .joined, c .before .before .before .before .before .enter .ensures .1 .1 .1 .1 .1 .0)))))
+returns-2 c =
+    let at-enter = c .before .before .before .before .before in
+    let at-entry = at-enter .before .before .before .before .before .before in
+    let at-entry-of = at-entry .before .before in
+    let at-loop = at-entry-of .before .before in
+    let e = running-ended _ _ _ _ _ _ _ _ _ (at-loop .loop .inv) (at-entry-of .entry-of .ensures) (at-entry .entry .given .1) (record { answers = at-enter .enter .ensures .0; placed = at-enter .enter .ensures .1 .0; stored = at-enter .enter .ensures .1 .1 .0; written = at-enter .enter .ensures .1 .1 .1 .0; joined = at-enter .enter .ensures .1 .1 .1 .1 .0 }) (c .if1 .taken) in
+    (e .answers, (e .placed, (e .stored, (e .written, (e .joined, at-enter .enter .ensures .1 .1 .1 .1 .1 .0)))))
 
 is-set-requires : tie.Need-is-set-requires Inv-loop μ-loop
 is-set-requires c κs = search needs
 
 same-length-5 : tie.Need-same-length-5 Inv-loop μ-loop
-same-length-5 c = omega (arith, c .before .before .before .before .before .before .before .before .before .before .before .before .before .before .before .before .before .loop .inv .long, c .before .before .before .before .before .before .before .enter .kept .1 .1 .1 .1 .1 .0)
+same-length-5 c = omega arith
 
 same-length-6 : tie.Need-same-length-6 Inv-loop μ-loop
-same-length-6 c = omega (arith, c .before .before .before .before .before .before .before .before .before .before .before .before .before .before .before .before .before .loop .inv .all, c .before .before .before .before .before .before .before .enter .kept .1 .1 .1 .1 .1 .1 .1 .0)
+same-length-6 c = omega arith
 
 returns-3 : tie.Need-returns-3 Inv-loop μ-loop
-returns-3 c = let e = running-stops _ _ _ _ _ _ _ _ _ (c .before .before .before .before .before .before .before .before .before .before .before .before .before .before .before .before .before .loop .inv) (c .before .before .before .before .before .before .before .before .before .before .before .before .before .before .before .entry-of .ensures) (c .before .before .before .before .before .before .before .before .before .before .before .before .before .entry .given .1) (record { answers = c .before .before .before .before .before .before .before .enter .ensures .0; placed = c .before .before .before .before .before .before .before .enter .ensures .1 .0; stored = c .before .before .before .before .before .before .before .enter .ensures .1 .1 .0; written = c .before .before .before .before .before .before .before .enter .ensures .1 .1 .1 .0; joined = c .before .before .before .before .before .before .before .enter .ensures .1 .1 .1 .1 .0 }) (c .before .before .if1 .left) (c .before .is-set .ensures) (c .if2 .taken) in (e .answers, (e .placed, (e .stored, (e .written, (e .joined, c .before .before .before .before .before .before .before .enter .ensures .1 .1 .1 .1 .1 .0)))))
+returns-3 c =
+    let at-is-set = c .before in
+    let at-if1 = at-is-set .before in
+    let at-enter = at-if1 .before .before .before .before .before in
+    let at-entry = at-enter .before .before .before .before .before .before in
+    let at-entry-of = at-entry .before .before in
+    let at-loop = at-entry-of .before .before in
+    let e = running-stops _ _ _ _ _ _ _ _ _ (at-loop .loop .inv) (at-entry-of .entry-of .ensures) (at-entry .entry .given .1) (record { answers = at-enter .enter .ensures .0; placed = at-enter .enter .ensures .1 .0; stored = at-enter .enter .ensures .1 .1 .0; written = at-enter .enter .ensures .1 .1 .1 .0; joined = at-enter .enter .ensures .1 .1 .1 .1 .0 }) (at-if1 .if1 .left) (at-is-set .is-set .ensures) (c .if2 .taken) in
+    (e .answers, (e .placed, (e .stored, (e .written, (e .joined, at-enter .enter .ensures .1 .1 .1 .1 .1 .0)))))
 
 same-length-7 : tie.Need-same-length-7 Inv-loop μ-loop
-same-length-7 c = omega (arith, c .before .before .before .before .before .before .before .before .before .before .before .before .before .before .before .before .before .before .before .loop .inv .long, c .before .before .before .before .before .before .before .before .before .enter .kept .1 .1 .1 .1 .1 .0)
+same-length-7 c = omega arith
 
 same-length-8 : tie.Need-same-length-8 Inv-loop μ-loop
-same-length-8 c = omega (arith, c .before .before .before .before .before .before .before .before .before .before .before .before .before .before .before .before .before .before .before .loop .inv .all, c .before .before .before .before .before .before .before .before .before .enter .kept .1 .1 .1 .1 .1 .1 .1 .0)
+same-length-8 c = omega arith
 
 returns-4 : tie.Need-returns-4 Inv-loop μ-loop
-returns-4 c = let e = running-spent _ _ _ _ _ _ _ _ _ (c .before .before .before .before .before .before .before .before .before .before .before .before .before .before .before .before .before .before .before .loop .inv) (c .before .before .before .before .before .before .before .before .before .before .before .before .before .before .before .before .before .entry-of .ensures) (c .before .before .before .before .before .before .before .before .before .before .before .before .before .before .before .entry .given .1) (record { answers = c .before .before .before .before .before .before .before .before .before .enter .ensures .0; placed = c .before .before .before .before .before .before .before .before .before .enter .ensures .1 .0; stored = c .before .before .before .before .before .before .before .before .before .enter .ensures .1 .1 .0; written = c .before .before .before .before .before .before .before .before .before .enter .ensures .1 .1 .1 .0; joined = c .before .before .before .before .before .before .before .before .before .enter .ensures .1 .1 .1 .1 .0 }) (c .before .before .before .before .if1 .left) (c .before .before .before .is-set .ensures) (c .before .before .if2 .left) (c .if3 .taken) in (e .answers, (e .placed, (e .stored, (e .written, (e .joined, c .before .before .before .before .before .before .before .before .before .enter .ensures .1 .1 .1 .1 .1 .0)))))
+returns-4 c =
+    let at-if2 = c .before .before in
+    let at-is-set = at-if2 .before in
+    let at-if1 = at-is-set .before in
+    let at-enter = at-if1 .before .before .before .before .before in
+    let at-entry = at-enter .before .before .before .before .before .before in
+    let at-entry-of = at-entry .before .before in
+    let at-loop = at-entry-of .before .before in
+    let e = running-spent _ _ _ _ _ _ _ _ _ (at-loop .loop .inv) (at-entry-of .entry-of .ensures) (at-entry .entry .given .1) (record { answers = at-enter .enter .ensures .0; placed = at-enter .enter .ensures .1 .0; stored = at-enter .enter .ensures .1 .1 .0; written = at-enter .enter .ensures .1 .1 .1 .0; joined = at-enter .enter .ensures .1 .1 .1 .1 .0 }) (at-if1 .if1 .left) (at-is-set .is-set .ensures) (at-if2 .if2 .left) (c .if3 .taken) in
+    (e .answers, (e .placed, (e .stored, (e .written, (e .joined, at-enter .enter .ensures .1 .1 .1 .1 .1 .0)))))
 
 add-cycles : tie.Need-add-cycles Inv-loop μ-loop
 add-cycles c = omega (arith, c .before .if3 .left)
 
 loop-less : tie.Need-loop-less Inv-loop μ-loop
-loop-less c = omega (arith, c .before .if3 .left, c .before .before .before .before .before .before .before .before .before .before .before .before .before .before .before .before .before .before .before .before .loop .inv .spent, c .before .before .before .before .before .before .before .before .before .before .enter .ensures .1 .1 .1 .1 .1 .1)
+loop-less c = omega arith
 
 loop-again : tie.Need-loop-again Inv-loop μ-loop
-loop-again c = running-goes _ _ _ _ _ _ _ _ _ (c .before .before .before .before .before .before .before .before .before .before .before .before .before .before .before .before .before .before .before .before .loop .inv) (c .before .before .before .before .before .before .before .before .before .before .before .before .before .before .before .before .before .before .entry-of .ensures) (c .before .before .before .before .before .before .before .before .before .before .before .before .before .before .before .before .entry .given .1) (record { answers = c .before .before .before .before .before .before .before .before .before .before .enter .ensures .0; placed = c .before .before .before .before .before .before .before .before .before .before .enter .ensures .1 .0; stored = c .before .before .before .before .before .before .before .before .before .before .enter .ensures .1 .1 .0; written = c .before .before .before .before .before .before .before .before .before .before .enter .ensures .1 .1 .1 .0; joined = c .before .before .before .before .before .before .before .before .before .before .enter .ensures .1 .1 .1 .1 .0 }) (c .before .before .before .before .before .if1 .left) (c .before .before .before .before .is-set .ensures) (c .before .before .before .if2 .left) (c .before .if3 .left) (c .before .before .before .before .before .before .before .before .before .before .enter .ensures .1 .1 .1 .1 .1 .1) (c .before .before .before .before .before .before .before .before .before .before .enter .ensures .1 .1 .1 .1 .1 .0) (c .before .before .before .before .before .before .before .before .before .before .enter .kept .1 .1 .1 .1 .1 .0) (c .before .before .before .before .before .before .before .before .before .before .enter .kept .1 .1 .1 .1 .1 .1 .1 .0)
+loop-again c =
+    let at-if3 = c .before in
+    let at-if2 = at-if3 .before .before in
+    let at-is-set = at-if2 .before in
+    let at-if1 = at-is-set .before in
+    let at-enter = at-if1 .before .before .before .before .before in
+    let at-entry = at-enter .before .before .before .before .before .before in
+    let at-entry-of = at-entry .before .before in
+    let at-loop = at-entry-of .before .before in
+    running-goes _ _ _ _ _ _ _ _ _ (at-loop .loop .inv) (at-entry-of .entry-of .ensures) (at-entry .entry .given .1) (record { answers = at-enter .enter .ensures .0; placed = at-enter .enter .ensures .1 .0; stored = at-enter .enter .ensures .1 .1 .0; written = at-enter .enter .ensures .1 .1 .1 .0; joined = at-enter .enter .ensures .1 .1 .1 .1 .0 }) (at-if1 .if1 .left) (at-is-set .is-set .ensures) (at-if2 .if2 .left) (at-if3 .if3 .left) (at-enter .enter .ensures .1 .1 .1 .1 .1 .1) (at-enter .enter .ensures .1 .1 .1 .1 .1 .0) (at-enter .enter .kept .1 .1 .1 .1 .1 .0) (at-enter .enter .kept .1 .1 .1 .1 .1 .1 .1 .0)
 
 same-length-9 : tie.Need-same-length-9 Inv-loop μ-loop
 same-length-9 c = c .before .loop .inv .long

@@ -25,43 +25,59 @@ mul-glyph : tie.Need-mul-glyph Inv-loop μ-loop
 mul-glyph c = search needs
 
 slice-read-glyph : tie.Need-slice-read-glyph Inv-loop μ-loop
-slice-read-glyph c = omega (arith, c .before .loop-test .taken, c .before .before .loop .inv .long, c .before .before .before .before .before .before .before .before .before .before .pre)
+slice-read-glyph c = omega arith
 
 next-requires : tie.Need-next-requires Inv-loop μ-loop
-next-requires c κs = omega (arith, c .before .before .before .before .before .before .loop .inv .deep, c .before .before .before .before .before .before .loop .inv .long, c .before .before .before .before .before .before .before .before .before .before .before .before .before .before .pre)
+next-requires c κs = omega arith
 
 is-done-requires : tie.Need-is-done-requires Inv-loop μ-loop
 is-done-requires c κs = search needs
 
 same-length : tie.Need-same-length Inv-loop μ-loop
-same-length c = omega (arith, c .before .before .before .before .before .before .before .before .before .before .before .before .before .loop .inv .long, c .before .before .before .before .before .before .next .kept .1 .1 .1 .1 .1 .1 .0)
+same-length c = omega arith
 
 same-length-2 : tie.Need-same-length-2 Inv-loop μ-loop
-same-length-2 c = omega (arith, c .before .before .before .before .before .before .before .before .before .before .before .before .before .loop .inv .all, c .before .before .before .before .before .before .next .kept .1 .1 .1 .1 .1 .1 .1 .1 .0)
+same-length-2 c = omega arith
 
 returns : tie.Need-returns Inv-loop μ-loop
-returns c = let e = going-stop _ _ _ (c .before .before .before .before .before .before .before .before .before .before .before .before .before .loop .inv) (c .before .before .before .before .before .before .before .before .before .before .before .before .loop-test .taken) (record { answers = c .before .before .before .before .before .before .next .ensures .0; placed = c .before .before .before .before .before .before .next .ensures .1 .0; stored = c .before .before .before .before .before .before .next .ensures .1 .1 .0; written = c .before .before .before .before .before .before .next .ensures .1 .1 .1 .0; joined = c .before .before .before .before .before .before .next .ensures .1 .1 .1 .1 .0 }) (sym (c .before .is-done .ensures) ∙ not-true _ (c .if1 .taken)) in (e .answers, (e .left, e .joined))
+returns c =
+    let at-is-done = c .before in
+    let at-next = at-is-done .before .before .before .before .before in
+    let at-loop-test = at-next .before .before .before .before .before .before in
+    let at-loop = at-loop-test .before in
+    let e = going-stop _ _ _ (at-loop .loop .inv) (at-loop-test .loop-test .taken) (record { answers = at-next .next .ensures .0; placed = at-next .next .ensures .1 .0; stored = at-next .next .ensures .1 .1 .0; written = at-next .next .ensures .1 .1 .1 .0; joined = at-next .next .ensures .1 .1 .1 .1 .0 }) (sym (at-is-done .is-done .ensures) ∙ not-true _ (c .if1 .taken)) in
+    (e .answers, (e .left, e .joined))
 
 add-place : tie.Need-add-place Inv-loop μ-loop
-add-place c = omega (arith, c .before .before .before .before .before .before .before .before .before .before .before .before .loop-test .taken, c .before .before .before .before .before .before .before .before .before .before .before .before .before .before .before .before .before .before .before .before .before .fits .used)
+add-place c = omega arith
 
 loop-less : tie.Need-loop-less Inv-loop μ-loop
-loop-less c = omega (arith, c .before .before .before .before .before .before .before .before .before .before .before .before .loop-test .taken)
+loop-less c = omega arith
 
 loop-again : tie.Need-loop-again Inv-loop μ-loop
-loop-again c = going-step _ _ _ (c .before .before .before .before .before .before .before .before .before .before .before .before .before .loop .inv) (c .before .before .before .before .before .before .before .before .before .before .before .before .loop-test .taken) (record { answers = c .before .before .before .before .before .before .next .ensures .0; placed = c .before .before .before .before .before .before .next .ensures .1 .0; stored = c .before .before .before .before .before .before .next .ensures .1 .1 .0; written = c .before .before .before .before .before .before .next .ensures .1 .1 .1 .0; joined = c .before .before .before .before .before .before .next .ensures .1 .1 .1 .1 .0 }) (sym (c .before .is-done .ensures) ∙ not-false _ (c .if1 .left)) (c .before .before .before .before .before .before .next .ensures .1 .1 .1 .1 .1) (c .before .before .before .before .before .before .next .kept .1 .1 .1 .1 .1 .1 .0) (c .before .before .before .before .before .before .next .kept .1 .1 .1 .1 .1 .1 .1 .1 .0)
+loop-again c =
+    let at-is-done = c .before in
+    let at-next = at-is-done .before .before .before .before .before in
+    let at-loop-test = at-next .before .before .before .before .before .before in
+    let at-loop = at-loop-test .before in
+    going-step _ _ _ (at-loop .loop .inv) (at-loop-test .loop-test .taken) (record { answers = at-next .next .ensures .0; placed = at-next .next .ensures .1 .0; stored = at-next .next .ensures .1 .1 .0; written = at-next .next .ensures .1 .1 .1 .0; joined = at-next .next .ensures .1 .1 .1 .1 .0 }) (sym (at-is-done .is-done .ensures) ∙ not-false _ (c .if1 .left)) (at-next .next .ensures .1 .1 .1 .1 .1) (at-next .next .kept .1 .1 .1 .1 .1 .1 .0) (at-next .next .kept .1 .1 .1 .1 .1 .1 .1 .1 .0)
 
 next-requires-2 : tie.Need-next-requires-2 Inv-loop μ-loop
-next-requires-2 c κs = omega (arith, c .before .before .before .before .before .loop .inv .deep, c .before .before .before .before .before .loop .inv .long, c .before .before .before .before .before .before .before .before .before .before .before .before .before .pre)
+next-requires-2 c κs = omega arith
 
 same-length-3 : tie.Need-same-length-3 Inv-loop μ-loop
-same-length-3 c = omega (arith, c .before .before .before .before .before .before .before .before .before .before .loop .inv .long, c .before .before .before .before .next2 .kept .1 .1 .1 .1 .1 .1 .0)
+same-length-3 c = omega arith
 
 same-length-4 : tie.Need-same-length-4 Inv-loop μ-loop
-same-length-4 c = omega (arith, c .before .before .before .before .before .before .before .before .before .before .loop .inv .all, c .before .before .before .before .next2 .kept .1 .1 .1 .1 .1 .1 .1 .1 .0)
+same-length-4 c = omega arith
 
 returns-2 : tie.Need-returns-2 Inv-loop μ-loop
-returns-2 c = let e = going-end _ _ _ (c .before .before .before .before .before .before .before .before .before .before .loop .inv) (c .before .before .before .before .before .before .before .before .before .loop-test .left) (record { answers = c .before .before .before .before .next2 .ensures .0; placed = c .before .before .before .before .next2 .ensures .1 .0; stored = c .before .before .before .before .next2 .ensures .1 .1 .0; written = c .before .before .before .before .next2 .ensures .1 .1 .1 .0; joined = c .before .before .before .before .next2 .ensures .1 .1 .1 .1 .0 }) in (e .answers, (e .left, e .joined))
+returns-2 c =
+    let at-next2 = c .before .before .before .before in
+    let at-loop-test = at-next2 .before .before .before .before .before in
+    let at-loop = at-loop-test .before in
+    let e = going-end _ _ _ (at-loop .loop .inv) (at-loop-test .loop-test .left) (record { answers = at-next2 .next2 .ensures .0; placed = at-next2 .next2 .ensures .1 .0; stored = at-next2 .next2 .ensures .1 .1 .0; written = at-next2 .next2 .ensures .1 .1 .1 .0; joined = at-next2 .next2 .ensures .1 .1 .1 .1 .0 }) in
+    (e .answers, (e .left, e .joined))
 
 pub pass-line-spec : {M : Type 1} → statement M
 pass-line-spec =

@@ -22,7 +22,13 @@ same-length-2 : tie.Need-same-length-2
 same-length-2 c = search needs
 
 returns : tie.Need-returns
-returns c = let e = step-refused _ _ _ _ _ _ _ _ _ _ (c .before .before .before .before .before .before .before .from .ensures) (c .before .before .before .before .before .before .«open» .ensures) (c .before .before .before .refuse-step .ensures) (c .before .why .given .1) in (e .answers, (e .left, e .joined))
+returns c =
+    let at-why = c .before in
+    let at-refuse-step = at-why .before .before in
+    let at-open = at-refuse-step .before .before .before in
+    let at-from = at-open .before in
+    let e = step-refused _ _ _ _ _ _ _ _ _ _ (at-from .from .ensures) (at-open .«open» .ensures) (at-refuse-step .refuse-step .ensures) (at-why .why .given .1) in
+    (e .answers, (e .left, e .joined))
 
 enum-told : tie.Need-enum-told
 enum-told c = search needs
@@ -40,13 +46,22 @@ same-length-4 : tie.Need-same-length-4
 same-length-4 c = search needs
 
 returns-2 : tie.Need-returns-2
-returns-2 c = let e = step-headless _ _ _ _ _ _ _ _ _ _ (c .before .before .before .before .before .before .before .before .from .ensures) (c .before .before .before .before .before .before .before .«open» .ensures) (c .before .before .before .before .refuse-step .ensures) (c .before .before .enum-told .given .1) (c .enum-told2 .given .1) in (e .answers, (e .left, e .joined))
+returns-2 c =
+    let at-enum-told = c .before .before in
+    let at-refuse-step = at-enum-told .before .before in
+    let at-open = at-refuse-step .before .before .before in
+    let at-from = at-open .before in
+    let e = step-headless _ _ _ _ _ _ _ _ _ _ (at-from .from .ensures) (at-open .«open» .ensures) (at-refuse-step .refuse-step .ensures) (at-enum-told .enum-told .given .1) (c .enum-told2 .given .1) in
+    (e .answers, (e .left, e .joined))
 
 from-requires-2 : tie.Need-from-requires-2
 from-requires-2 c κs = search needs
 
 next-requires : tie.Need-next-requires
-next-requires c κs = step-fits _ _ _ _ _ _ _ _ (c .before .before .before .before .before .before .before .before .before .before .before .before .refuse-step .ensures) (c .before .before .before .before .before .before .before .before .before .before .enum-told .given .1)
+next-requires c κs =
+    let at-enum-told = c .before .before .before .before .before .before .before .before .before .before in
+    let at-refuse-step = at-enum-told .before .before in
+    step-fits _ _ _ _ _ _ _ _ (at-refuse-step .refuse-step .ensures) (at-enum-told .enum-told .given .1)
 
 advance-of-requires : tie.Need-advance-of-requires
 advance-of-requires c κs = search needs
@@ -58,7 +73,16 @@ same-length-6 : tie.Need-same-length-6
 same-length-6 c = search needs
 
 returns-3 : tie.Need-returns-3
-returns-3 c = let e = step-worked _ _ _ _ _ _ _ _ _ _ (c .before .before .before .before .before .before .before .before .before .before .before .before .before .before .before .before .before .before .before .before .before .before .from .ensures) (c .before .before .before .before .before .before .before .before .before .before .before .before .before .before .before .before .before .before .before .before .before .«open» .ensures) (c .before .before .before .before .before .before .before .before .before .before .before .before .before .before .before .before .before .before .refuse-step .ensures) (c .before .before .before .before .before .before .before .before .before .before .before .before .before .before .before .before .enum-told .given .1) (c .before .before .before .before .before .before .before .before .before .before .before .before .before .before .made .given .1) (c .before .before .before .before .before .before .before .before .before .before .from2 .ensures) (record { answers = c .before .before .before .before .before .next .ensures .0; placed = c .before .before .before .before .before .next .ensures .1 .0; stored = c .before .before .before .before .before .next .ensures .1 .1 .0; written = c .before .before .before .before .before .next .ensures .1 .1 .1 .0; joined = c .before .before .before .before .before .next .ensures .1 .1 .1 .1 .0 }) (c .advance-of .ensures) in (e .answers, (e .left, e .joined))
+returns-3 c =
+    let at-next = c .before .before .before .before .before in
+    let at-from2 = at-next .before .before .before .before .before in
+    let at-made = at-from2 .before .before .before .before in
+    let at-enum-told = at-made .before .before in
+    let at-refuse-step = at-enum-told .before .before in
+    let at-open = at-refuse-step .before .before .before in
+    let at-from = at-open .before in
+    let e = step-worked _ _ _ _ _ _ _ _ _ _ (at-from .from .ensures) (at-open .«open» .ensures) (at-refuse-step .refuse-step .ensures) (at-enum-told .enum-told .given .1) (at-made .made .given .1) (at-from2 .from2 .ensures) (record { answers = at-next .next .ensures .0; placed = at-next .next .ensures .1 .0; stored = at-next .next .ensures .1 .1 .0; written = at-next .next .ensures .1 .1 .1 .0; joined = at-next .next .ensures .1 .1 .1 .1 .0 }) (c .advance-of .ensures) in
+    (e .answers, (e .left, e .joined))
 
 pub step-spec : {M : Type 1} → statement M
 step-spec =

@@ -41,7 +41,13 @@ enum-told-2 c = search needs
 
 returns-3 : tie.Need-returns-3
 unfolding actionOf
-returns-3 c = (rw (ne-eqb _ _ (c .before .before .before .before .before .before .before .before .if1 .left), sym (c .before .before .before .before .before .before .before .read-action .ensures) ∙ c .before .before .before .before .before .action .given .1, component-by _ _ (c .before .before .before .offset-of .ensures) (c .before .before .component-of .ensures) ∙ c .enum-told2 .given .1, actionOf), omega arith)
+returns-3 c =
+    let at-component-of = c .before .before in
+    let at-offset-of = at-component-of .before in
+    let at-action = at-offset-of .before .before in
+    let at-read-action = at-action .before .before in
+    let at-if1 = at-read-action .before in
+    (rw (ne-eqb _ _ (at-if1 .if1 .left), sym (at-read-action .read-action .ensures) ∙ at-action .action .given .1, component-by _ _ (at-offset-of .offset-of .ensures) (at-component-of .component-of .ensures) ∙ c .enum-told2 .given .1, actionOf), omega arith)
 
 read-number-requires : tie.Need-read-number-requires
 read-number-requires c κs = search needs
@@ -54,7 +60,15 @@ enum-told-3 c = search needs
 
 returns-4 : tie.Need-returns-4
 unfolding actionOf
-returns-4 c = (rw (ne-eqb _ _ (c .before .before .before .before .before .before .before .before .before .before .before .before .if1 .left), sym (c .before .before .before .before .before .before .before .before .before .before .before .read-action .ensures) ∙ c .before .before .before .before .before .before .before .before .before .action .given .1, component-by _ _ (c .before .before .before .before .before .before .before .offset-of .ensures) (c .before .before .before .before .before .before .component-of .ensures) ∙ c .before .before .before .before .component .given .1, sym (c .before .before .read-number .ensures) ∙ c .enum-told3 .given .1, actionOf), omega arith)
+returns-4 c =
+    let at-read-number = c .before .before in
+    let at-component = at-read-number .before .before in
+    let at-component-of = at-component .before .before in
+    let at-offset-of = at-component-of .before in
+    let at-action = at-offset-of .before .before in
+    let at-read-action = at-action .before .before in
+    let at-if1 = at-read-action .before in
+    (rw (ne-eqb _ _ (at-if1 .if1 .left), sym (at-read-action .read-action .ensures) ∙ at-action .action .given .1, component-by _ _ (at-offset-of .offset-of .ensures) (at-component-of .component-of .ensures) ∙ at-component .component .given .1, sym (at-read-number .read-number .ensures) ∙ c .enum-told3 .given .1, actionOf), omega arith)
 
 cast-made-by : tie.Need-cast-made-by
 cast-made-by c = search needs
@@ -67,7 +81,18 @@ made-by-requires c κs = search needs
 
 returns-5 : tie.Need-returns-5
 unfolding actionOf
-returns-5 c = (rw (ne-eqb _ _ (c .before .before .before .before .before .before .before .before .before .before .before .before .before .before .if1 .left), sym (c .before .before .before .before .before .before .before .before .before .before .before .before .before .read-action .ensures) ∙ c .before .before .before .before .before .before .before .before .before .before .before .action .given .1, component-by _ _ (c .before .before .before .before .before .before .before .before .before .offset-of .ensures) (c .before .before .before .before .before .before .before .before .component-of .ensures) ∙ c .before .before .before .before .before .before .component .given .1, sym (c .before .before .before .before .read-number .ensures) ∙ c .before .before .adds .given .1, actionOf) (c .made-by .ensures .0), omega (arith, c .made-by .ensures .1))
+returns-5 c = (
+  (let at-adds = c .before .before in
+      let at-read-number = at-adds .before .before in
+      let at-component = at-read-number .before .before in
+      let at-component-of = at-component .before .before in
+      let at-offset-of = at-component-of .before in
+      let at-action = at-offset-of .before .before in
+      let at-read-action = at-action .before .before in
+      let at-if1 = at-read-action .before in
+      rw (ne-eqb _ _ (at-if1 .if1 .left), sym (at-read-action .read-action .ensures) ∙ at-action .action .given .1, component-by _ _ (at-offset-of .offset-of .ensures) (at-component-of .component-of .ensures) ∙ at-component .component .given .1, sym (at-read-number .read-number .ensures) ∙ at-adds .adds .given .1, actionOf) (c .made-by .ensures .0)),
+  omega (arith, c .made-by .ensures .1),
+)
 
 pub action-of-spec : {M : Type 1} → statement M
 action-of-spec =

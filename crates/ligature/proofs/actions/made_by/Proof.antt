@@ -31,7 +31,12 @@ is-set-requires c κs = search needs
 
 returns-3 : tie.Need-returns-3
 unfolding madeBy
-returns-3 c = (rw (sym (c .before .before .before .before .before .before .stores .ensures) ∙ not-false _ (c .before .before .before .before .before .if1 .left), sym (c .before .before .before .before .read-number .ensures) ∙ c .before .before .ligature .given .1, c .is-set .ensures, madeBy), omega arith)
+returns-3 c =
+    let at-ligature = c .before .before in
+    let at-read-number = at-ligature .before .before in
+    let at-if1 = at-read-number .before in
+    let at-stores = at-if1 .before in
+    (rw (sym (at-stores .stores .ensures) ∙ not-false _ (at-if1 .if1 .left), sym (at-read-number .read-number .ensures) ∙ at-ligature .ligature .given .1, c .is-set .ensures, madeBy), omega arith)
 
 pub made-by-spec : {M : Type 1} → statement M
 made-by-spec =
