@@ -46,11 +46,21 @@ enum-told-3 c = search needs
 
 returns-3 : tie.Need-returns-3
 unfolding listOf
-returns-3 c = rw (ne-eqb _ _ (c .before .before .before .before .before .before .before .if1 .left), sym (c .before .before .before .before .before .before .read-u32 .ensures) ∙ c .before .before .before .before .glyphs .given .1, part-short _ _ _ (c .before .before .read-part .ensures) (c .enum-told3 .given .1), listOf)
+returns-3 c =
+    let at-read-part = c .before .before in
+    let at-glyphs = at-read-part .before .before in
+    let at-read-u32 = at-glyphs .before .before in
+    let at-if1 = at-read-u32 .before in
+    rw (ne-eqb _ _ (at-if1 .if1 .left), sym (at-read-u32 .read-u32 .ensures) ∙ at-glyphs .glyphs .given .1, part-short _ _ _ (at-read-part .read-part .ensures) (c .enum-told3 .given .1), listOf)
 
 returns-4 : tie.Need-returns-4
 unfolding listOf
-returns-4 c = rw (ne-eqb _ _ (c .before .before .before .before .before .before .before .if1 .left), sym (c .before .before .before .before .before .before .read-u32 .ensures) ∙ c .before .before .before .before .glyphs .given .1, part-inside _ _ _ (c .before .before .read-part .ensures) (c .enum-told2 .given .1), listOf)
+returns-4 c =
+    let at-read-part = c .before .before in
+    let at-glyphs = at-read-part .before .before in
+    let at-read-u32 = at-glyphs .before .before in
+    let at-if1 = at-read-u32 .before in
+    rw (ne-eqb _ _ (at-if1 .if1 .left), sym (at-read-u32 .read-u32 .ensures) ∙ at-glyphs .glyphs .given .1, part-inside _ _ _ (at-read-part .read-part .ensures) (c .enum-told2 .given .1), listOf)
 
 pub list-of-spec : {M : Type 1} → statement M
 list-of-spec =

@@ -26,7 +26,13 @@ same-length-2 c = search needs
 
 returns : tie.Need-returns
 unfolding callLeaves workLeaves
-returns c = let e = call-refused _ _ _ (c .before .before .before .before .before .before .before .from .ensures) (c .before .before .before .before .«open» .ensures) (c .before .before .before .refuse-pass .ensures) (c .before .why .given .1) in (e .answers, (e .left .used-left, (e .left .glyphs-left, e .left .tags-left)))
+returns c =
+    let at-why = c .before in
+    let at-refuse-pass = at-why .before .before in
+    let at-open = at-refuse-pass .before in
+    let at-from = at-open .before .before .before in
+    let e = call-refused _ _ _ (at-from .from .ensures) (at-open .«open» .ensures) (at-refuse-pass .refuse-pass .ensures) (at-why .why .given .1) in
+    (e .answers, (e .left .used-left, (e .left .glyphs-left, e .left .tags-left)))
 
 enum-told : tie.Need-enum-told
 enum-told c = search needs
@@ -42,7 +48,14 @@ same-length-4 c = search needs
 
 returns-2 : tie.Need-returns-2
 unfolding callLeaves workLeaves
-returns-2 c = let e = call-works _ _ _ (c .before .before .before .before .before .before .before .before .before .before .before .before .before .from .ensures) (c .before .before .before .before .before .before .before .before .before .before .«open» .ensures) (c .before .before .before .before .before .before .before .before .before .refuse-pass .ensures) (c .before .before .before .before .before .before .before .enum-told .given .1) (record { answers = c .before .before .before .before .work .ensures .0; left = record { glyphs-left = c .before .before .before .before .work .ensures .1 .1 .0; tags-left = c .before .before .before .before .work .ensures .1 .1 .1; used-left = c .before .before .before .before .work .ensures .1 .0 } }) in (e .answers, (e .left .used-left, (e .left .glyphs-left, e .left .tags-left)))
+returns-2 c =
+    let at-work = c .before .before .before .before in
+    let at-enum-told = at-work .before .before .before in
+    let at-refuse-pass = at-enum-told .before .before in
+    let at-open = at-refuse-pass .before in
+    let at-from = at-open .before .before .before in
+    let e = call-works _ _ _ (at-from .from .ensures) (at-open .«open» .ensures) (at-refuse-pass .refuse-pass .ensures) (at-enum-told .enum-told .given .1) (record { answers = at-work .work .ensures .0; left = record { glyphs-left = at-work .work .ensures .1 .1 .0; tags-left = at-work .work .ensures .1 .1 .1; used-left = at-work .work .ensures .1 .0 } }) in
+    (e .answers, (e .left .used-left, (e .left .glyphs-left, e .left .tags-left)))
 
 pub pass-spec : {M : Type 1} → statement M
 pass-spec =

@@ -26,7 +26,10 @@ same-length-2 : tie.Need-same-length-2
 same-length-2 c = search needs
 
 returns-2 : tie.Need-returns-2
-returns-2 c = rw (c .before .before .before .before .before .before .before .before .edit .given .1) (c .before .before .before .before .put-at .ensures .0, (c .before .before .before .before .put-at .ensures .1 .0, c .before .before .before .before .put-at .ensures .1 .1))
+returns-2 c =
+    let at-put-at = c .before .before .before .before in
+    let at-edit = at-put-at .before .before .before .before in
+    rw (at-edit .edit .given .1) (at-put-at .put-at .ensures .0, (at-put-at .put-at .ensures .1 .0, at-put-at .put-at .ensures .1 .1))
 
 pub put-spec : {M : Type 1} → statement M
 put-spec =

@@ -31,7 +31,13 @@ same-length-2 c = search needs
 
 returns-2 : tie.Need-returns-2
 unfolding workLeaves
-returns-2 c = let e = work-passes _ _ (c .before .before .before .before .before .before .before .before .before .before .before .«open» .ensures) (c .before .before .before .before .before .before .before .before .before .states .given .1) (c .before .before .before .before .before .before .before .from .ensures) (c .before .before .before .before .pass-line .ensures .0) (c .before .before .before .before .pass-line .ensures .1 .0) (c .before .before .before .before .pass-line .ensures .1 .1 .0) (c .before .before .before .before .pass-line .ensures .1 .1 .1) in (e .answers, (e .left .used-left, (e .left .glyphs-left, e .left .tags-left)))
+returns-2 c =
+    let at-pass-line = c .before .before .before .before in
+    let at-from = at-pass-line .before .before .before in
+    let at-states = at-from .before .before in
+    let at-open = at-states .before .before in
+    let e = work-passes _ _ (at-open .«open» .ensures) (at-states .states .given .1) (at-from .from .ensures) (at-pass-line .pass-line .ensures .0) (at-pass-line .pass-line .ensures .1 .0) (at-pass-line .pass-line .ensures .1 .1 .0) (at-pass-line .pass-line .ensures .1 .1 .1) in
+    (e .answers, (e .left .used-left, (e .left .glyphs-left, e .left .tags-left)))
 
 pub work-spec : {M : Type 1} → statement M
 work-spec =

@@ -34,11 +34,25 @@ stopped-requires c κs = search needs
 
 returns : tie.Need-returns
 unfolding acted
-returns c = rw (← (c .before .before .before .before .before .before .before .before .two-numbers .ensures .1), ← (c .before .before .before .before .before .before .is-set .ensures), ← (c .before .before .before .before .before .place-of .ensures), sym (c .before .before .before .before .insertion-of .ensures) ∙ c .before .before .tried .given .1, c .follow .ensures, c .before .before .before .before .before .before .before .with-state .ensures, c .before .before .before .before .before .before .before .before .two-numbers .ensures .0, acted)
+returns c =
+    let at-tried = c .before .before in
+    let at-insertion-of = at-tried .before .before in
+    let at-place-of = at-insertion-of .before in
+    let at-is-set = at-place-of .before in
+    let at-with-state = at-is-set .before in
+    let at-two-numbers = at-with-state .before in
+    rw (← (at-two-numbers .two-numbers .ensures .1), ← (at-is-set .is-set .ensures), ← (at-place-of .place-of .ensures), sym (at-insertion-of .insertion-of .ensures) ∙ at-tried .tried .given .1, c .follow .ensures, at-with-state .with-state .ensures, at-two-numbers .two-numbers .ensures .0, acted)
 
 returns-2 : tie.Need-returns-2
 unfolding acted
-returns-2 c = rw (← (c .before .before .before .before .before .before .before .before .two-numbers .ensures .1), ← (c .before .before .before .before .before .before .is-set .ensures), ← (c .before .before .before .before .before .place-of .ensures), sym (c .before .before .before .before .insertion-of .ensures) ∙ c .before .before .tried2 .given .1, c .stopped .ensures, c .before .before .before .before .before .before .before .with-state .ensures, acted)
+returns-2 c =
+    let at-tried2 = c .before .before in
+    let at-insertion-of = at-tried2 .before .before in
+    let at-place-of = at-insertion-of .before in
+    let at-is-set = at-place-of .before in
+    let at-with-state = at-is-set .before in
+    let at-two-numbers = at-with-state .before in
+    rw (← (at-two-numbers .two-numbers .ensures .1), ← (at-is-set .is-set .ensures), ← (at-place-of .place-of .ensures), sym (at-insertion-of .insertion-of .ensures) ∙ at-tried2 .tried2 .given .1, c .stopped .ensures, at-with-state .with-state .ensures, acted)
 
 pub act-spec : {M : Type 1} → statement M
 act-spec =

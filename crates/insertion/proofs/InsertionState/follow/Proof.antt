@@ -48,11 +48,27 @@ stopped-requires c κs = search needs
 
 returns : tie.Need-returns
 unfolding followed
-returns c = rw (← (c .before .before .before .before .before .before .before .count-of .ensures), ← (c .before .before .before .before .before .before .is-set2 .ensures), ← (c .before .before .before .before .before .place-of .ensures), sym (c .before .before .before .before .insertion-of .ensures) ∙ c .before .before .tried .given .1, c .finish .ensures, c .before .before .before .before .before .before .before .before .with-mark .ensures, c .before .before .before .before .before .before .before .before .before .is-set .ensures, followed)
+returns c =
+    let at-tried = c .before .before in
+    let at-insertion-of = at-tried .before .before in
+    let at-place-of = at-insertion-of .before in
+    let at-is-set2 = at-place-of .before in
+    let at-count-of = at-is-set2 .before in
+    let at-with-mark = at-count-of .before in
+    let at-is-set = at-with-mark .before in
+    rw (← (at-count-of .count-of .ensures), ← (at-is-set2 .is-set2 .ensures), ← (at-place-of .place-of .ensures), sym (at-insertion-of .insertion-of .ensures) ∙ at-tried .tried .given .1, c .finish .ensures, at-with-mark .with-mark .ensures, at-is-set .is-set .ensures, followed)
 
 returns-2 : tie.Need-returns-2
 unfolding followed
-returns-2 c = rw (← (c .before .before .before .before .before .before .before .count-of .ensures), ← (c .before .before .before .before .before .before .is-set2 .ensures), ← (c .before .before .before .before .before .place-of .ensures), sym (c .before .before .before .before .insertion-of .ensures) ∙ c .before .before .tried2 .given .1, c .stopped .ensures, c .before .before .before .before .before .before .before .before .with-mark .ensures, c .before .before .before .before .before .before .before .before .before .is-set .ensures, followed)
+returns-2 c =
+    let at-tried2 = c .before .before in
+    let at-insertion-of = at-tried2 .before .before in
+    let at-place-of = at-insertion-of .before in
+    let at-is-set2 = at-place-of .before in
+    let at-count-of = at-is-set2 .before in
+    let at-with-mark = at-count-of .before in
+    let at-is-set = at-with-mark .before in
+    rw (← (at-count-of .count-of .ensures), ← (at-is-set2 .is-set2 .ensures), ← (at-place-of .place-of .ensures), sym (at-insertion-of .insertion-of .ensures) ∙ at-tried2 .tried2 .given .1, c .stopped .ensures, at-with-mark .with-mark .ensures, at-is-set .is-set .ensures, followed)
 
 pub follow-spec : {M : Type 1} → statement M
 follow-spec =

@@ -29,7 +29,11 @@ act-requires c κs = let p = entry-payload _ _ _ _ _ (c .before .before .before 
 
 returns-2 : tie.Need-returns-2
 unfolding next
-returns-2 c = rw (← (c .before .before .before .before .before .class-at .ensures), sym (c .before .before .before .before .entry-of .ensures) ∙ c .before .before .entry .given .1, c .act .ensures, next)
+returns-2 c =
+    let at-entry = c .before .before in
+    let at-entry-of = at-entry .before .before in
+    let at-class-at = at-entry-of .before in
+    rw (← (at-class-at .class-at .ensures), sym (at-entry-of .entry-of .ensures) ∙ at-entry .entry .given .1, c .act .ensures, next)
 
 pub next-spec : {M : Type 1} → statement M
 next-spec =

@@ -20,7 +20,7 @@ stopped-requires : tie.Need-stopped-requires
 stopped-requires c κs = search needs
 
 returns : tie.Need-returns
-returns c = step-refused _ _ _ _ _ _ _ _ (c .before .before .before .before .before .before .from .ensures) (c .before .before .before .before .before .«open» .ensures) (c .before .before .before .before .refuse-step .ensures) (c .before .before .why .given .1) (c .stopped .ensures)
+returns c = search step-refused
 
 enum-told : tie.Need-enum-told
 enum-told c = search needs
@@ -35,28 +35,68 @@ stopped-requires-2 : tie.Need-stopped-requires-2
 stopped-requires-2 c κs = search needs
 
 returns-2 : tie.Need-returns-2
-returns-2 c = step-headless _ _ _ _ _ _ _ _ (c .before .before .before .before .before .before .before .from .ensures) (c .before .before .before .before .before .before .«open» .ensures) (c .before .before .before .before .before .refuse-step .ensures) (c .before .before .before .enum-told .given .1) (c .before .enum-told2 .given .1) (c .stopped2 .ensures)
+returns-2 c = search step-headless
 
 from-requires-2 : tie.Need-from-requires-2
 from-requires-2 c κs = search needs
 
 next-requires : tie.Need-next-requires
-next-requires c κs = let t = step-told _ _ _ _ _ _ (c .before .before .before .before .before .before .refuse-step .ensures) (c .before .before .before .before .enum-told .given .1) in (t .at, t .within, t .limited)
+next-requires c κs =
+    let at-enum-told = c .before .before .before .before in
+    let at-refuse-step = at-enum-told .before .before in
+    let t = step-told _ _ _ _ _ _ (at-refuse-step .refuse-step .ensures) (at-enum-told .enum-told .given .1) in
+    (t .at, t .within, t .limited)
 
 add-moved-by : tie.Need-add-moved-by
-add-moved-by c = let t = step-told _ _ _ _ _ _ (c .before .before .before .before .before .before .before .before .refuse-step .ensures) (c .before .before .before .before .before .before .enum-told .given .1) in record { fits = start-fits _ _ (t .short) (c .before .before .before .before .before .before .before .before .before .before .from .ensures) (c .before .before .before .before .before .before .before .before .before .«open» .ensures) (c .before .before .before .before .made .given .1) (c .before .before .from2 .ensures) }
+add-moved-by c =
+    let at-from2 = c .before .before in
+    let at-made = at-from2 .before .before in
+    let at-enum-told = at-made .before .before in
+    let at-refuse-step = at-enum-told .before .before in
+    let at-open = at-refuse-step .before in
+    let at-from = at-open .before in
+    let t = step-told _ _ _ _ _ _ (at-refuse-step .refuse-step .ensures) (at-enum-told .enum-told .given .1) in
+    record { fits = start-fits _ _ (t .short) (at-from .from .ensures) (at-open .«open» .ensures) (at-made .made .given .1) (at-from2 .from2 .ensures) }
 
 moved-by-requires : tie.Need-moved-by-requires
-moved-by-requires c κs = let t = step-told _ _ _ _ _ _ (c .before .before .before .before .before .before .before .before .refuse-step .ensures) (c .before .before .before .before .before .before .enum-told .given .1) in let f = next-fits _ _ _ _ _ _ _ _ (t .within) (c .before .next .ensures) in list-fits _ _ (t .short) (c .before .before .before .before .before .before .before .before .before .before .from .ensures) (c .before .before .before .before .before .before .before .before .before .«open» .ensures) (c .before .before .before .before .made .given .1) (c .before .before .from2 .ensures) _ (f .marked-inside)
+moved-by-requires c κs =
+    let at-next = c .before in
+    let at-from2 = at-next .before in
+    let at-made = at-from2 .before .before in
+    let at-enum-told = at-made .before .before in
+    let at-refuse-step = at-enum-told .before .before in
+    let at-open = at-refuse-step .before in
+    let at-from = at-open .before in
+    let t = step-told _ _ _ _ _ _ (at-refuse-step .refuse-step .ensures) (at-enum-told .enum-told .given .1) in
+    let f = next-fits _ _ _ _ _ _ _ _ (t .within) (at-next .next .ensures) in
+    list-fits _ _ (t .short) (at-from .from .ensures) (at-open .«open» .ensures) (at-made .made .given .1) (at-from2 .from2 .ensures) _ (f .marked-inside)
 
 add-moved-by-2 : tie.Need-add-moved-by-2
-add-moved-by-2 c = let t = step-told _ _ _ _ _ _ (c .before .before .before .before .before .before .before .before .before .refuse-step .ensures) (c .before .before .before .before .before .before .before .enum-told .given .1) in record { fits = start-fits _ _ (t .short) (c .before .before .before .before .before .before .before .before .before .before .before .from .ensures) (c .before .before .before .before .before .before .before .before .before .before .«open» .ensures) (c .before .before .before .before .before .made .given .1) (c .before .before .before .from2 .ensures) }
+add-moved-by-2 c =
+    let at-from2 = c .before .before .before in
+    let at-made = at-from2 .before .before in
+    let at-enum-told = at-made .before .before in
+    let at-refuse-step = at-enum-told .before .before in
+    let at-open = at-refuse-step .before in
+    let at-from = at-open .before in
+    let t = step-told _ _ _ _ _ _ (at-refuse-step .refuse-step .ensures) (at-enum-told .enum-told .given .1) in
+    record { fits = start-fits _ _ (t .short) (at-from .from .ensures) (at-open .«open» .ensures) (at-made .made .given .1) (at-from2 .from2 .ensures) }
 
 moved-by-requires-2 : tie.Need-moved-by-requires-2
-moved-by-requires-2 c κs = let t = step-told _ _ _ _ _ _ (c .before .before .before .before .before .before .before .before .before .refuse-step .ensures) (c .before .before .before .before .before .before .before .enum-told .given .1) in let f = next-fits _ _ _ _ _ _ _ _ (t .within) (c .before .before .next .ensures) in list-fits _ _ (t .short) (c .before .before .before .before .before .before .before .before .before .before .before .from .ensures) (c .before .before .before .before .before .before .before .before .before .before .«open» .ensures) (c .before .before .before .before .before .made .given .1) (c .before .before .before .from2 .ensures) _ (f .current-inside)
+moved-by-requires-2 c κs =
+    let at-next = c .before .before in
+    let at-from2 = at-next .before in
+    let at-made = at-from2 .before .before in
+    let at-enum-told = at-made .before .before in
+    let at-refuse-step = at-enum-told .before .before in
+    let at-open = at-refuse-step .before in
+    let at-from = at-open .before in
+    let t = step-told _ _ _ _ _ _ (at-refuse-step .refuse-step .ensures) (at-enum-told .enum-told .given .1) in
+    let f = next-fits _ _ _ _ _ _ _ _ (t .within) (at-next .next .ensures) in
+    list-fits _ _ (t .short) (at-from .from .ensures) (at-open .«open» .ensures) (at-made .made .given .1) (at-from2 .from2 .ensures) _ (f .current-inside)
 
 returns-3 : tie.Need-returns-3
-returns-3 c = step-worked _ _ _ _ _ _ _ _ (c .before .before .before .before .before .before .before .before .before .before .before .before .from .ensures) (c .before .before .before .before .before .before .before .before .before .before .before .«open» .ensures) (c .before .before .before .before .before .before .before .before .before .before .refuse-step .ensures) (c .before .before .before .before .before .before .before .before .enum-told .given .1) (c .before .before .before .before .before .before .made .given .1) (c .before .before .before .before .from2 .ensures) (c .before .before .before .next .ensures) (c .before .moved-by .ensures) (c .moved-by2 .ensures)
+returns-3 c = search step-worked
 
 pub step-spec : {M : Type 1} → statement M
 step-spec =
