@@ -23,7 +23,11 @@ format-of-requires c κs = search needs
 
 returns-2 : tie.Need-returns-2
 unfolding opened
-returns-2 c = rw (sym (c .before .before .before .before .before .read-u16 .ensures) ∙ c .before .before .before .coverage .given .1, ← (c .before .format-of .ensures), ne-eqb _ _ (c .if1 .taken), opened)
+returns-2 c =
+    let at-format-of = c .before in
+    let at-coverage = at-format-of .before .before in
+    let at-read-u16 = at-coverage .before .before in
+    rw (sym (at-read-u16 .read-u16 .ensures) ∙ at-coverage .coverage .given .1, ← (at-format-of .format-of .ensures), ne-eqb _ _ (c .if1 .taken), opened)
 
 head-size-requires : tie.Need-head-size-requires
 head-size-requires c κs = search needs
@@ -45,14 +49,31 @@ enum-told-2 c = search needs
 
 returns-3 : tie.Need-returns-3
 unfolding opened
-returns-3 c = rw (sym (c .before .before .before .before .before .before .before .before .before .before .read-u16 .ensures) ∙ c .before .before .before .before .before .before .before .before .coverage .given .1, ← (c .before .before .before .before .before .before .format-of .ensures), eq-eqb _ _ (c .before .before .before .before .before .if1 .left), ← (c .before .before .before .before .head-size .ensures .0), ← (c .before .before .before .from .ensures), sym (c .before .before .classic .ensures) ∙ c .enum-told2 .given .1, opened)
+returns-3 c =
+    let at-classic = c .before .before in
+    let at-from = at-classic .before in
+    let at-head-size = at-from .before in
+    let at-if1 = at-head-size .before in
+    let at-format-of = at-if1 .before in
+    let at-coverage = at-format-of .before .before in
+    let at-read-u16 = at-coverage .before .before in
+    rw (sym (at-read-u16 .read-u16 .ensures) ∙ at-coverage .coverage .given .1, ← (at-format-of .format-of .ensures), eq-eqb _ _ (at-if1 .if1 .left), ← (at-head-size .head-size .ensures .0), ← (at-from .from .ensures), sym (at-classic .classic .ensures) ∙ c .enum-told2 .given .1, opened)
 
 is-crossed-requires : tie.Need-is-crossed-requires
 is-crossed-requires c κs = search needs
 
 returns-4 : tie.Need-returns-4
 unfolding opened
-returns-4 c = rw (sym (c .before .before .before .before .before .before .before .before .before .before .before .before .read-u16 .ensures) ∙ c .before .before .before .before .before .before .before .before .before .before .coverage .given .1, ← (c .before .before .before .before .before .before .before .before .format-of .ensures), eq-eqb _ _ (c .before .before .before .before .before .before .before .if1 .left), ← (c .before .before .before .before .before .before .head-size .ensures .0), ← (c .before .before .before .before .before .from .ensures), sym (c .before .before .before .before .classic .ensures) ∙ c .before .before .states .given .1, c .is-crossed .ensures, opened)
+returns-4 c =
+    let at-states = c .before .before in
+    let at-classic = at-states .before .before in
+    let at-from = at-classic .before in
+    let at-head-size = at-from .before in
+    let at-if1 = at-head-size .before in
+    let at-format-of = at-if1 .before in
+    let at-coverage = at-format-of .before .before in
+    let at-read-u16 = at-coverage .before .before in
+    rw (sym (at-read-u16 .read-u16 .ensures) ∙ at-coverage .coverage .given .1, ← (at-format-of .format-of .ensures), eq-eqb _ _ (at-if1 .if1 .left), ← (at-head-size .head-size .ensures .0), ← (at-from .from .ensures), sym (at-classic .classic .ensures) ∙ at-states .states .given .1, c .is-crossed .ensures, opened)
 
 pub open-spec : {M : Type 1} → statement M
 open-spec =

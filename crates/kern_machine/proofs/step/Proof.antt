@@ -26,7 +26,13 @@ same-length c = search needs
 
 returns : tie.Need-returns
 unfolding stepCall
-returns c = rw (← (c .before .before .before .before .before .before .from .ensures), ← (c .before .before .before .before .before .«open» .ensures), ← (c .before .before .before .before .head-size .ensures .0), ← (c .before .before .before .from2 .ensures)) (c .before .step .ensures .0, c .before .step .ensures .1)
+returns c =
+    let at-step = c .before in
+    let at-from2 = at-step .before .before in
+    let at-head-size = at-from2 .before in
+    let at-open = at-head-size .before in
+    let at-from = at-open .before in
+    rw (← (at-from .from .ensures), ← (at-open .«open» .ensures), ← (at-head-size .head-size .ensures .0), ← (at-from2 .from2 .ensures)) (at-step .step .ensures .0, at-step .step .ensures .1)
 
 pub step-spec : {M : Type 1} → statement M
 step-spec =

@@ -23,7 +23,12 @@ same-length c = search needs
 
 returns : tie.Need-returns
 unfolding worked
-returns c = rw (← (c .before .before .before .before .before .«open» .ensures), ← (c .before .before .before .before .head-size .ensures .0), ← (c .before .before .before .from .ensures)) (c .before .work .ensures .0, c .before .work .ensures .1)
+returns c =
+    let at-work = c .before in
+    let at-from = at-work .before .before in
+    let at-head-size = at-from .before in
+    let at-open = at-head-size .before in
+    rw (← (at-open .«open» .ensures), ← (at-head-size .head-size .ensures .0), ← (at-from .from .ensures)) (at-work .work .ensures .0, at-work .work .ensures .1)
 
 pub work-spec : {M : Type 1} → statement M
 work-spec =

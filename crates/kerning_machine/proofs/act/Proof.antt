@@ -14,13 +14,24 @@ push-requires : tie.Need-push-requires
 push-requires c κs = (c .before .before .before .before .pre .0, sym (c .before .before .is-full .ensures) ∙ c .before .if1 .left)
 
 follow-requires : tie.Need-follow-requires
-follow-requires c κs = (act-deep (c .before .before .before .before .before .before .before .args .orders) _ _ _ (c .before .before .before .before .before .before .before .pre .0) (sym (c .before .before .before .before .before .is-full .ensures) ∙ c .before .before .before .before .if1 .left) (c .before .before .push .ensures), c .before .before .before .before .before .before .before .pre .1, c .before .before .before .before .before .before .before .pre .2)
+follow-requires c κs =
+    let at-push = c .before .before in
+    let at-if1 = at-push .before .before in
+    let at-is-full = at-if1 .before in
+    let start = at-is-full .before .before in
+    (act-deep (start .args .orders) _ _ _ (start .pre .0) (sym (at-is-full .is-full .ensures) ∙ at-if1 .if1 .left) (at-push .push .ensures), start .pre .1, start .pre .2)
 
 same-length : tie.Need-same-length
 same-length c = search needs
 
 returns-2 : tie.Need-returns-2
-returns-2 c = let e = act-follows _ _ _ _ _ _ _ _ (c .before .before .before .before .before .before .before .is-full .ensures) (c .before .before .before .before .before .before .if1 .left) (c .before .before .before .before .push .ensures) (c .before .follow .ensures .0) (c .before .follow .ensures .1) in (e .steps, e .leaves)
+returns-2 c =
+    let at-follow = c .before in
+    let at-push = at-follow .before .before .before in
+    let at-if1 = at-push .before .before in
+    let at-is-full = at-if1 .before in
+    let e = act-follows _ _ _ _ _ _ _ _ (at-is-full .is-full .ensures) (at-if1 .if1 .left) (at-push .push .ensures) (at-follow .follow .ensures .0) (at-follow .follow .ensures .1) in
+    (e .steps, e .leaves)
 
 pub act-spec : {M : Type 1} → statement M
 act-spec = tie.close (tie.spec is-full-requires returns push-requires follow-requires same-length returns-2)

@@ -27,14 +27,20 @@ enum-known-reading : tie.Need-enum-known-reading
 enum-known-reading c = search needs
 
 walk-requires : tie.Need-walk-requires
-walk-requires c κs = (omega arith, c .before .before .before .before .before .before .before .before .pre .0, c .before .before .before .before .before .before .before .before .pre .1, c .before .before .before .before .before .before .before .before .pre .2)
+walk-requires c κs =
+    let start = c .before .before .before .before .before .before .before .before in
+    (omega arith, start .pre .0, start .pre .1, start .pre .2)
 
 same-length : tie.Need-same-length
 same-length c = search needs
 
 returns-3 : tie.Need-returns-3
 unfolding followed
-returns-3 c = rw (c .before .before .before .before .before .before .before .start .given .1, c .before .before .before .before .reading .given .1) (c .before .walk .ensures .0, c .before .walk .ensures .1)
+returns-3 c =
+    let at-walk = c .before in
+    let at-reading = at-walk .before .before .before in
+    let at-start = at-reading .before .before .before in
+    rw (at-start .start .given .1, at-reading .reading .given .1) (at-walk .walk .ensures .0, at-walk .walk .ensures .1)
 
 enum-known-reading-2 : tie.Need-enum-known-reading-2
 enum-known-reading-2 c = search needs
@@ -43,14 +49,22 @@ size-of-requires : tie.Need-size-of-requires
 size-of-requires c κs = search needs
 
 walk-requires-2 : tie.Need-walk-requires-2
-walk-requires-2 c κs = (omega (arith, c .before .size-of .ensures .2), c .before .before .before .before .before .before .before .before .before .pre .0, c .before .before .before .before .before .before .before .before .before .pre .1, c .before .before .before .before .before .before .before .before .before .pre .2)
+walk-requires-2 c κs =
+    let at-size-of = c .before in
+    let start = at-size-of .before .before .before .before .before .before .before .before in
+    (omega (arith, at-size-of .size-of .ensures .2), start .pre .0, start .pre .1, start .pre .2)
 
 same-length-2 : tie.Need-same-length-2
 same-length-2 c = search needs
 
 returns-4 : tie.Need-returns-4
 unfolding followed
-returns-4 c = rw (c .before .before .before .before .before .before .before .before .start .given .1, c .before .before .before .before .before .reading2 .given .1, ← (c .before .before .before .size-of .ensures .0)) (c .before .walk2 .ensures .0, c .before .walk2 .ensures .1)
+returns-4 c =
+    let at-walk2 = c .before in
+    let at-size-of = at-walk2 .before .before in
+    let at-reading2 = at-size-of .before .before in
+    let at-start = at-reading2 .before .before .before in
+    rw (at-start .start .given .1, at-reading2 .reading2 .given .1, ← (at-size-of .size-of .ensures .0)) (at-walk2 .walk2 .ensures .0, at-walk2 .walk2 .ensures .1)
 
 pub follow-spec : {M : Type 1} → statement M
 follow-spec =

@@ -26,7 +26,13 @@ ended-requires : tie.Need-ended-requires
 ended-requires c κs = search needs
 
 returns : tie.Need-returns
-returns c = let e = next-ended _ _ (standing _ _ _ _) _ _ _ _ (c .before .before .before .before .before .class-of .ensures) (c .before .before .before .before .payload-of .ensures) (c .before .before .before .entry-of .ensures) (c .before .enum-told .given .1) (c .ended .ensures _) in (e .steps, e .leaves)
+returns c =
+    let at-enum-told = c .before in
+    let at-entry-of = at-enum-told .before .before in
+    let at-payload-of = at-entry-of .before in
+    let at-class-of = at-payload-of .before in
+    let e = next-ended _ _ (standing _ _ _ _) _ _ _ _ (at-class-of .class-of .ensures) (at-payload-of .payload-of .ensures) (at-entry-of .entry-of .ensures) (at-enum-told .enum-told .given .1) (c .ended .ensures _) in
+    (e .steps, e .leaves)
 
 orders-of-requires : tie.Need-orders-of-requires
 orders-of-requires c κs = omega (arith, entry-payload _ _ _ _ _ (c .before .before .before .entry-of .ensures) (c .before .entry .given .1), c .before .before .before .before .payload-of .ensures)
@@ -41,7 +47,16 @@ same-length : tie.Need-same-length
 same-length c = search needs
 
 returns-2 : tie.Need-returns-2
-returns-2 c = let e = next-acts _ _ (standing _ _ _ _) _ _ _ _ (c .before .before .before .before .before .before .before .before .before .before .before .before .class-of .ensures) (c .before .before .before .before .before .before .before .before .before .before .before .payload-of .ensures) (c .before .before .before .before .before .before .before .before .before .before .entry-of .ensures) (c .before .before .before .before .before .before .before .before .entry .given .1) (c .before .before .before .before .before .before .orders-of .ensures) (behind-ended _ _ _ _ (c .before .if1 .taken) (c .ended2 .ensures _) ∙ c .before .before .before .act .ensures .0 _) (c .before .before .before .act .ensures .1 _) in (e .steps, e .leaves)
+returns-2 c =
+    let at-if1 = c .before in
+    let at-act = at-if1 .before .before in
+    let at-orders-of = at-act .before .before .before in
+    let at-entry = at-orders-of .before .before in
+    let at-entry-of = at-entry .before .before in
+    let at-payload-of = at-entry-of .before in
+    let at-class-of = at-payload-of .before in
+    let e = next-acts _ _ (standing _ _ _ _) _ _ _ _ (at-class-of .class-of .ensures) (at-payload-of .payload-of .ensures) (at-entry-of .entry-of .ensures) (at-entry .entry .given .1) (at-orders-of .orders-of .ensures) (behind-ended _ _ _ _ (at-if1 .if1 .taken) (c .ended2 .ensures _) ∙ at-act .act .ensures .0 _) (at-act .act .ensures .1 _) in
+    (e .steps, e .leaves)
 
 settle-requires : tie.Need-settle-requires
 settle-requires c κs = search needs
@@ -50,7 +65,16 @@ same-length-2 : tie.Need-same-length-2
 same-length-2 c = search needs
 
 returns-3 : tie.Need-returns-3
-returns-3 c = let e = next-acts _ _ (standing _ _ _ _) _ _ _ _ (c .before .before .before .before .before .before .before .before .before .before .before .before .class-of .ensures) (c .before .before .before .before .before .before .before .before .before .before .before .payload-of .ensures) (c .before .before .before .before .before .before .before .before .before .before .entry-of .ensures) (c .before .before .before .before .before .before .before .before .entry .given .1) (c .before .before .before .before .before .before .orders-of .ensures) (behind-settled _ _ _ _ (c .before .if1 .left) (c .settle .ensures _) ∙ c .before .before .before .act .ensures .0 _) (c .before .before .before .act .ensures .1 _) in (e .steps, e .leaves)
+returns-3 c =
+    let at-if1 = c .before in
+    let at-act = at-if1 .before .before in
+    let at-orders-of = at-act .before .before .before in
+    let at-entry = at-orders-of .before .before in
+    let at-entry-of = at-entry .before .before in
+    let at-payload-of = at-entry-of .before in
+    let at-class-of = at-payload-of .before in
+    let e = next-acts _ _ (standing _ _ _ _) _ _ _ _ (at-class-of .class-of .ensures) (at-payload-of .payload-of .ensures) (at-entry-of .entry-of .ensures) (at-entry .entry .given .1) (at-orders-of .orders-of .ensures) (behind-settled _ _ _ _ (at-if1 .if1 .left) (c .settle .ensures _) ∙ at-act .act .ensures .0 _) (at-act .act .ensures .1 _) in
+    (e .steps, e .leaves)
 
 pub next-spec : {M : Type 1} → statement M
 next-spec =

@@ -41,7 +41,13 @@ is-set-requires-5 c κs = search needs
 
 returns-2 : tie.Need-returns-2
 unfolding ordersOf
-returns-2 c = rw (c .before .before .before .before .before .before .reading .given .1, c .is-set5 .ensures, c .before .is-set4 .ensures, c .before .before .kerx-start .ensures, c .before .before .before .is-set3 .ensures, c .before .before .before .before .one-number .ensures, ordersOf)
+returns-2 c =
+    let at-is-set4 = c .before in
+    let at-kerx-start = at-is-set4 .before in
+    let at-is-set3 = at-kerx-start .before in
+    let at-one-number = at-is-set3 .before in
+    let at-reading = at-one-number .before .before in
+    rw (at-reading .reading .given .1, c .is-set5 .ensures, at-is-set4 .is-set4 .ensures, at-kerx-start .kerx-start .ensures, at-is-set3 .is-set3 .ensures, at-one-number .one-number .ensures, ordersOf)
 
 pub orders-of-spec : {M : Type 1} → statement M
 orders-of-spec =

@@ -43,34 +43,98 @@ enum-told : tie.Need-enum-told Inv-loop μ-loop
 enum-told c = search needs
 
 same-length : tie.Need-same-length Inv-loop μ-loop
-same-length c = omega (arith, going-long _ _ _ _ (c .before .before .before .before .before .before .before .before .loop .inv))
+same-length c =
+    let at-loop = c .before .before .before .before .before .before .before .before in
+    omega (arith, going-long _ _ _ _ (at-loop .loop .inv))
 
 returns : tie.Need-returns Inv-loop μ-loop
-returns c = let n = next-ended _ _ (standing _ _ _ _) _ _ _ _ (c .before .before .before .before .class-of .ensures) (c .before .before .before .payload-of .ensures) (c .before .before .entry-of .ensures) (c .enum-told .given .1) refl in let e = going-stop _ _ _ _ (c .before .before .before .before .before .before .before .before .loop .inv) (c .before .before .before .before .before .before .before .loop-test .taken) (n .steps) (n .leaves) refl in (e .answers, e .leaves)
+returns c =
+    let at-entry-of = c .before .before in
+    let at-payload-of = at-entry-of .before in
+    let at-class-of = at-payload-of .before in
+    let at-loop-test = at-class-of .before .before .before in
+    let at-loop = at-loop-test .before in
+    let n = next-ended _ _ (standing _ _ _ _) _ _ _ _ (at-class-of .class-of .ensures) (at-payload-of .payload-of .ensures) (at-entry-of .entry-of .ensures) (c .enum-told .given .1) refl in
+    let e = going-stop _ _ _ _ (at-loop .loop .inv) (at-loop-test .loop-test .taken) (n .steps) (n .leaves) refl in
+    (e .answers, e .leaves)
 
 orders-of-requires : tie.Need-orders-of-requires Inv-loop μ-loop
 orders-of-requires c κs = omega (arith, entry-payload _ _ _ _ _ (c .before .before .before .entry-of .ensures) (c .before .entry .given .1), c .before .before .before .before .payload-of .ensures)
 
 act-requires : tie.Need-act-requires Inv-loop μ-loop
-act-requires c κs = (c .before .before .before .before .before .before .before .before .before .before .before .before .loop .inv .deep, omega (arith, going-long _ _ _ _ (c .before .before .before .before .before .before .before .before .before .before .before .before .loop .inv), c .before .before .before .before .before .before .before .before .before .before .before .before .before .before .before .before .before .pre .1), going-within _ _ _ _ (c .before .before .before .before .before .before .before .before .before .before .before .before .loop .inv) (c .before .before .before .before .before .before .before .before .before .before .before .before .before .before .before .before .before .pre .2) (c .before .before .before .before .before .before .before .before .before .before .before .before .before .before .before .before .before .pre .3))
+act-requires c κs =
+    let at-loop = c .before .before .before .before .before .before .before .before .before .before .before .before in
+    let start = at-loop .before .before .before .before .before in
+    (at-loop .loop .inv .deep, omega (arith, going-long _ _ _ _ (at-loop .loop .inv)), going-within _ _ _ _ (at-loop .loop .inv) (start .pre .2) (start .pre .3))
 
 same-length-2 : tie.Need-same-length-2 Inv-loop μ-loop
-same-length-2 c = omega (arith, going-long _ _ _ _ (c .before .before .before .before .before .before .before .before .before .before .before .before .before .before .before .loop .inv), c .before .before .act .kept .1 .1 .1 .1 .1 .1 .1 .0)
+same-length-2 c =
+    let at-act = c .before .before in
+    let at-loop = at-act .before .before .before .before .before .before .before .before .before .before .before .before .before in
+    omega (arith, going-long _ _ _ _ (at-loop .loop .inv), at-act .act .kept .1 .1 .1 .1 .1 .1 .1 .0)
 
 returns-2 : tie.Need-returns-2 Inv-loop μ-loop
-returns-2 c = let n = next-acts _ _ (standing _ _ _ _) _ _ _ _ (c .before .before .before .before .before .before .before .before .before .before .before .class-of .ensures) (c .before .before .before .before .before .before .before .before .before .before .payload-of .ensures) (c .before .before .before .before .before .before .before .before .before .entry-of .ensures) (c .before .before .before .before .before .before .before .entry .given .1) (c .before .before .before .before .before .orders-of .ensures) (behind-ended _ _ _ _ (c .if1 .taken) refl ∙ c .before .before .act .ensures .0 _) (c .before .before .act .ensures .1 _) in let e = going-stop _ _ _ _ (c .before .before .before .before .before .before .before .before .before .before .before .before .before .before .before .loop .inv) (c .before .before .before .before .before .before .before .before .before .before .before .before .before .before .loop-test .taken) (n .steps) (n .leaves) refl in (e .answers, e .leaves)
+returns-2 c =
+    let at-act = c .before .before in
+    let at-orders-of = at-act .before .before .before in
+    let at-entry = at-orders-of .before .before in
+    let at-entry-of = at-entry .before .before in
+    let at-payload-of = at-entry-of .before in
+    let at-class-of = at-payload-of .before in
+    let at-loop-test = at-class-of .before .before .before in
+    let at-loop = at-loop-test .before in
+    let n = next-acts _ _ (standing _ _ _ _) _ _ _ _ (at-class-of .class-of .ensures) (at-payload-of .payload-of .ensures) (at-entry-of .entry-of .ensures) (at-entry .entry .given .1) (at-orders-of .orders-of .ensures) (behind-ended _ _ _ _ (c .if1 .taken) refl ∙ at-act .act .ensures .0 _) (at-act .act .ensures .1 _) in
+    let e = going-stop _ _ _ _ (at-loop .loop .inv) (at-loop-test .loop-test .taken) (n .steps) (n .leaves) refl in
+    (e .answers, e .leaves)
 
 settle-requires : tie.Need-settle-requires Inv-loop μ-loop
 settle-requires c κs = search needs
 
 add-place : tie.Need-add-place Inv-loop μ-loop
-add-place c = let e = next-acts _ _ (standing _ _ _ _) _ _ _ _ (c .before .before .before .before .before .before .before .before .before .before .before .before .before .class-of .ensures) (c .before .before .before .before .before .before .before .before .before .before .before .before .payload-of .ensures) (c .before .before .before .before .before .before .before .before .before .before .before .entry-of .ensures) (c .before .before .before .before .before .before .before .before .before .entry .given .1) (c .before .before .before .before .before .before .before .orders-of .ensures) (behind-settled _ _ _ _ (c .before .before .if1 .left) (c .before .settle .ensures _) ∙ c .before .before .before .before .act .ensures .0 _) (c .before .before .before .before .act .ensures .1 _) in omega (arith, going-step _ _ _ _ (c .before .before .before .before .before .before .before .before .before .before .before .before .before .before .before .before .before .loop .inv) (c .before .before .before .before .before .before .before .before .before .before .before .before .before .before .before .before .loop-test .taken) (e .steps) (e .leaves) (settled-done _ _ _ (c .before .settle .ensures [])) .within, c .before .before .before .before .before .before .before .before .before .before .before .before .before .before .before .before .before .before .before .before .before .before .fits .used)
+add-place c =
+    let at-settle = c .before in
+    let at-if1 = at-settle .before in
+    let at-act = at-if1 .before .before in
+    let at-orders-of = at-act .before .before .before in
+    let at-entry = at-orders-of .before .before in
+    let at-entry-of = at-entry .before .before in
+    let at-payload-of = at-entry-of .before in
+    let at-class-of = at-payload-of .before in
+    let at-loop-test = at-class-of .before .before .before in
+    let at-loop = at-loop-test .before in
+    let start = at-loop .before .before .before .before .before in
+    let e = next-acts _ _ (standing _ _ _ _) _ _ _ _ (at-class-of .class-of .ensures) (at-payload-of .payload-of .ensures) (at-entry-of .entry-of .ensures) (at-entry .entry .given .1) (at-orders-of .orders-of .ensures) (behind-settled _ _ _ _ (at-if1 .if1 .left) (at-settle .settle .ensures _) ∙ at-act .act .ensures .0 _) (at-act .act .ensures .1 _) in
+    omega (arith, going-step _ _ _ _ (at-loop .loop .inv) (at-loop-test .loop-test .taken) (e .steps) (e .leaves) (settled-done _ _ _ (at-settle .settle .ensures [])) .within, start .fits .used)
 
 loop-less : tie.Need-loop-less Inv-loop μ-loop
-loop-less c = let e = next-acts _ _ (standing _ _ _ _) _ _ _ _ (c .before .before .before .before .before .before .before .before .before .before .before .before .before .class-of .ensures) (c .before .before .before .before .before .before .before .before .before .before .before .before .payload-of .ensures) (c .before .before .before .before .before .before .before .before .before .before .before .entry-of .ensures) (c .before .before .before .before .before .before .before .before .before .entry .given .1) (c .before .before .before .before .before .before .before .orders-of .ensures) (behind-settled _ _ _ _ (c .before .before .if1 .left) (c .before .settle .ensures _) ∙ c .before .before .before .before .act .ensures .0 _) (c .before .before .before .before .act .ensures .1 _) in going-less _ _ _ _ (c .before .before .before .before .before .before .before .before .before .before .before .before .before .before .before .before .before .loop .inv) (c .before .before .before .before .before .before .before .before .before .before .before .before .before .before .before .before .loop-test .taken) (e .steps) (e .leaves) (settled-done _ _ _ (c .before .settle .ensures []))
+loop-less c =
+    let at-settle = c .before in
+    let at-if1 = at-settle .before in
+    let at-act = at-if1 .before .before in
+    let at-orders-of = at-act .before .before .before in
+    let at-entry = at-orders-of .before .before in
+    let at-entry-of = at-entry .before .before in
+    let at-payload-of = at-entry-of .before in
+    let at-class-of = at-payload-of .before in
+    let at-loop-test = at-class-of .before .before .before in
+    let at-loop = at-loop-test .before in
+    let e = next-acts _ _ (standing _ _ _ _) _ _ _ _ (at-class-of .class-of .ensures) (at-payload-of .payload-of .ensures) (at-entry-of .entry-of .ensures) (at-entry .entry .given .1) (at-orders-of .orders-of .ensures) (behind-settled _ _ _ _ (at-if1 .if1 .left) (at-settle .settle .ensures _) ∙ at-act .act .ensures .0 _) (at-act .act .ensures .1 _) in
+    going-less _ _ _ _ (at-loop .loop .inv) (at-loop-test .loop-test .taken) (e .steps) (e .leaves) (settled-done _ _ _ (at-settle .settle .ensures []))
 
 loop-again : tie.Need-loop-again Inv-loop μ-loop
-loop-again c = let e = next-acts _ _ (standing _ _ _ _) _ _ _ _ (c .before .before .before .before .before .before .before .before .before .before .before .before .before .class-of .ensures) (c .before .before .before .before .before .before .before .before .before .before .before .before .payload-of .ensures) (c .before .before .before .before .before .before .before .before .before .before .before .entry-of .ensures) (c .before .before .before .before .before .before .before .before .before .entry .given .1) (c .before .before .before .before .before .before .before .orders-of .ensures) (behind-settled _ _ _ _ (c .before .before .if1 .left) (c .before .settle .ensures _) ∙ c .before .before .before .before .act .ensures .0 _) (c .before .before .before .before .act .ensures .1 _) in going-step _ _ _ _ (c .before .before .before .before .before .before .before .before .before .before .before .before .before .before .before .before .before .loop .inv) (c .before .before .before .before .before .before .before .before .before .before .before .before .before .before .before .before .loop-test .taken) (e .steps) (e .leaves) (settled-done _ _ _ (c .before .settle .ensures []))
+loop-again c =
+    let at-settle = c .before in
+    let at-if1 = at-settle .before in
+    let at-act = at-if1 .before .before in
+    let at-orders-of = at-act .before .before .before in
+    let at-entry = at-orders-of .before .before in
+    let at-entry-of = at-entry .before .before in
+    let at-payload-of = at-entry-of .before in
+    let at-class-of = at-payload-of .before in
+    let at-loop-test = at-class-of .before .before .before in
+    let at-loop = at-loop-test .before in
+    let e = next-acts _ _ (standing _ _ _ _) _ _ _ _ (at-class-of .class-of .ensures) (at-payload-of .payload-of .ensures) (at-entry-of .entry-of .ensures) (at-entry .entry .given .1) (at-orders-of .orders-of .ensures) (behind-settled _ _ _ _ (at-if1 .if1 .left) (at-settle .settle .ensures _) ∙ at-act .act .ensures .0 _) (at-act .act .ensures .1 _) in
+    going-step _ _ _ _ (at-loop .loop .inv) (at-loop-test .loop-test .taken) (e .steps) (e .leaves) (settled-done _ _ _ (at-settle .settle .ensures []))
 
 same-length-3 : tie.Need-same-length-3 Inv-loop μ-loop
 same-length-3 c = omega (arith, going-long _ _ _ _ (c .before .loop .inv))

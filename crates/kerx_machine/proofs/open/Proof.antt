@@ -29,11 +29,20 @@ enum-told-2 c = search needs
 
 returns-2 : tie.Need-returns-2
 unfolding opened
-returns-2 c = rw (sym (c .before .before .before .before .before .before .read-u32 .ensures) ∙ c .before .before .before .before .coverage .given .1, sym (c .before .before .tuples-of .ensures) ∙ c .enum-told2 .given .1, opened)
+returns-2 c =
+    let at-tuples-of = c .before .before in
+    let at-coverage = at-tuples-of .before .before in
+    let at-read-u32 = at-coverage .before .before in
+    rw (sym (at-read-u32 .read-u32 .ensures) ∙ at-coverage .coverage .given .1, sym (at-tuples-of .tuples-of .ensures) ∙ c .enum-told2 .given .1, opened)
 
 returns-3 : tie.Need-returns-3
 unfolding opened
-returns-3 c = rw (sym (c .before .before .before .before .before .before .before .before .read-u32 .ensures) ∙ c .before .before .before .before .before .before .coverage .given .1, sym (c .before .before .before .before .tuples-of .ensures) ∙ c .before .before .tuples .given .1, ne-eqb _ _ (c .if1 .taken), opened)
+returns-3 c =
+    let at-tuples = c .before .before in
+    let at-tuples-of = at-tuples .before .before in
+    let at-coverage = at-tuples-of .before .before in
+    let at-read-u32 = at-coverage .before .before in
+    rw (sym (at-read-u32 .read-u32 .ensures) ∙ at-coverage .coverage .given .1, sym (at-tuples-of .tuples-of .ensures) ∙ at-tuples .tuples .given .1, ne-eqb _ _ (c .if1 .taken), opened)
 
 from-requires : tie.Need-from-requires
 from-requires c κs = search needs
@@ -49,7 +58,15 @@ enum-told-3 c = search needs
 
 returns-4 : tie.Need-returns-4
 unfolding opened
-returns-4 c = rw (sym (c .before .before .before .before .before .before .before .before .before .before .before .before .read-u32 .ensures) ∙ c .before .before .before .before .before .before .before .before .before .before .coverage .given .1, sym (c .before .before .before .before .before .before .before .before .tuples-of .ensures) ∙ c .before .before .before .before .before .before .tuples .given .1, eq-eqb _ _ (c .before .before .before .before .if1 .left), ← (c .before .before .before .from .ensures), sym (c .before .before .extended .ensures) ∙ c .enum-told3 .given .1, opened)
+returns-4 c =
+    let at-extended = c .before .before in
+    let at-from = at-extended .before in
+    let at-if1 = at-from .before in
+    let at-tuples = at-if1 .before .before in
+    let at-tuples-of = at-tuples .before .before in
+    let at-coverage = at-tuples-of .before .before in
+    let at-read-u32 = at-coverage .before .before in
+    rw (sym (at-read-u32 .read-u32 .ensures) ∙ at-coverage .coverage .given .1, sym (at-tuples-of .tuples-of .ensures) ∙ at-tuples .tuples .given .1, eq-eqb _ _ (at-if1 .if1 .left), ← (at-from .from .ensures), sym (at-extended .extended .ensures) ∙ c .enum-told3 .given .1, opened)
 
 read-u32-requires-2 : tie.Need-read-u32-requires-2
 read-u32-requires-2 c κs = search needs
@@ -62,11 +79,32 @@ enum-told-4 c = search needs
 
 returns-5 : tie.Need-returns-5
 unfolding opened
-returns-5 c = rw (sym (c .before .before .before .before .before .before .before .before .before .before .before .before .before .before .before .before .read-u32 .ensures) ∙ c .before .before .before .before .before .before .before .before .before .before .before .before .before .before .coverage .given .1, sym (c .before .before .before .before .before .before .before .before .before .before .before .before .tuples-of .ensures) ∙ c .before .before .before .before .before .before .before .before .before .before .tuples .given .1, eq-eqb _ _ (c .before .before .before .before .before .before .before .before .if1 .left), ← (c .before .before .before .before .before .before .before .from .ensures), sym (c .before .before .before .before .before .before .extended .ensures) ∙ c .before .before .before .before .states .given .1, sym (c .before .before .read-u322 .ensures) ∙ c .enum-told4 .given .1, opened)
+returns-5 c =
+    let at-read-u322 = c .before .before in
+    let at-states = at-read-u322 .before .before in
+    let at-extended = at-states .before .before in
+    let at-from = at-extended .before in
+    let at-if1 = at-from .before in
+    let at-tuples = at-if1 .before .before in
+    let at-tuples-of = at-tuples .before .before in
+    let at-coverage = at-tuples-of .before .before in
+    let at-read-u32 = at-coverage .before .before in
+    rw (sym (at-read-u32 .read-u32 .ensures) ∙ at-coverage .coverage .given .1, sym (at-tuples-of .tuples-of .ensures) ∙ at-tuples .tuples .given .1, eq-eqb _ _ (at-if1 .if1 .left), ← (at-from .from .ensures), sym (at-extended .extended .ensures) ∙ at-states .states .given .1, sym (at-read-u322 .read-u322 .ensures) ∙ c .enum-told4 .given .1, opened)
 
 returns-6 : tie.Need-returns-6
 unfolding opened
-returns-6 c = rw (sym (c .before .before .before .before .before .before .before .before .before .before .before .before .before .before .before .before .before .read-u32 .ensures) ∙ c .before .before .before .before .before .before .before .before .before .before .before .before .before .before .before .coverage .given .1, sym (c .before .before .before .before .before .before .before .before .before .before .before .before .before .tuples-of .ensures) ∙ c .before .before .before .before .before .before .before .before .before .before .before .tuples .given .1, eq-eqb _ _ (c .before .before .before .before .before .before .before .before .before .if1 .left), ← (c .before .before .before .before .before .before .before .before .from .ensures), sym (c .before .before .before .before .before .before .before .extended .ensures) ∙ c .before .before .before .before .before .states .given .1, sym (c .before .before .before .read-u322 .ensures) ∙ c .before .values .given .1, opened)
+returns-6 c =
+    let at-values = c .before in
+    let at-read-u322 = at-values .before .before in
+    let at-states = at-read-u322 .before .before in
+    let at-extended = at-states .before .before in
+    let at-from = at-extended .before in
+    let at-if1 = at-from .before in
+    let at-tuples = at-if1 .before .before in
+    let at-tuples-of = at-tuples .before .before in
+    let at-coverage = at-tuples-of .before .before in
+    let at-read-u32 = at-coverage .before .before in
+    rw (sym (at-read-u32 .read-u32 .ensures) ∙ at-coverage .coverage .given .1, sym (at-tuples-of .tuples-of .ensures) ∙ at-tuples .tuples .given .1, eq-eqb _ _ (at-if1 .if1 .left), ← (at-from .from .ensures), sym (at-extended .extended .ensures) ∙ at-states .states .given .1, sym (at-read-u322 .read-u322 .ensures) ∙ at-values .values .given .1, opened)
 
 pub open-spec : {M : Type 1} → statement M
 open-spec =

@@ -24,25 +24,73 @@ returns-2 : tie.Need-returns-2
 returns-2 c = sym (past-table _ _ _ _ _ _ (c .before .before .before .before .refuse-table .ensures) (c .before .before .enum-told .given .1) ∙ rw (sym (c .before .is-roomy .ensures) ∙ not-true _ (c .if1 .taken)))
 
 returns-3 : tie.Need-returns-3
-returns-3 c = sym (past-table _ _ _ _ _ _ (c .before .before .before .before .before .refuse-table .ensures) (c .before .before .before .enum-told .given .1) ∙ rw (sym (c .before .before .is-roomy .ensures) ∙ not-false _ (c .before .if1 .left), lt-ltb _ _ (c .if2 .taken)))
+returns-3 c =
+    let at-if1 = c .before in
+    let at-is-roomy = at-if1 .before in
+    let at-enum-told = at-is-roomy .before in
+    let at-refuse-table = at-enum-told .before .before in
+    sym (past-table _ _ _ _ _ _ (at-refuse-table .refuse-table .ensures) (at-enum-told .enum-told .given .1) ∙ rw (sym (at-is-roomy .is-roomy .ensures) ∙ not-false _ (at-if1 .if1 .left), lt-ltb _ _ (c .if2 .taken)))
 
 returns-4 : tie.Need-returns-4
-returns-4 c = sym (past-table _ _ _ _ _ _ (c .before .before .before .before .before .before .refuse-table .ensures) (c .before .before .before .before .enum-told .given .1) ∙ rw (sym (c .before .before .before .is-roomy .ensures) ∙ not-false _ (c .before .before .if1 .left), le-ltb _ _ (c .before .if2 .left), lt-ltb _ _ (c .if3 .taken)))
+returns-4 c =
+    let at-if2 = c .before in
+    let at-if1 = at-if2 .before in
+    let at-is-roomy = at-if1 .before in
+    let at-enum-told = at-is-roomy .before in
+    let at-refuse-table = at-enum-told .before .before in
+    sym (past-table _ _ _ _ _ _ (at-refuse-table .refuse-table .ensures) (at-enum-told .enum-told .given .1) ∙ rw (sym (at-is-roomy .is-roomy .ensures) ∙ not-false _ (at-if1 .if1 .left), le-ltb _ _ (at-if2 .if2 .left), lt-ltb _ _ (c .if3 .taken)))
 
 are-within-requires : tie.Need-are-within-requires
 are-within-requires c κs = search needs
 
 returns-5 : tie.Need-returns-5
-returns-5 c = sym (past-table _ _ _ _ _ _ (c .before .before .before .before .before .before .before .before .before .refuse-table .ensures) (c .before .before .before .before .before .before .before .enum-told .given .1) ∙ rw (sym (c .before .before .before .before .before .before .is-roomy .ensures) ∙ not-false _ (c .before .before .before .before .before .if1 .left), le-ltb _ _ (c .before .before .before .before .if2 .left), le-ltb _ _ (c .before .before .before .if3 .left), sym (c .before .are-within .ensures) ∙ not-true _ (c .if4 .taken)))
+returns-5 c =
+    let at-are-within = c .before in
+    let at-if3 = at-are-within .before .before in
+    let at-if2 = at-if3 .before in
+    let at-if1 = at-if2 .before in
+    let at-is-roomy = at-if1 .before in
+    let at-enum-told = at-is-roomy .before in
+    let at-refuse-table = at-enum-told .before .before in
+    sym (past-table _ _ _ _ _ _ (at-refuse-table .refuse-table .ensures) (at-enum-told .enum-told .given .1) ∙ rw (sym (at-is-roomy .is-roomy .ensures) ∙ not-false _ (at-if1 .if1 .left), le-ltb _ _ (at-if2 .if2 .left), le-ltb _ _ (at-if3 .if3 .left), sym (at-are-within .are-within .ensures) ∙ not-true _ (c .if4 .taken)))
 
 returns-6 : tie.Need-returns-6
-returns-6 c = sym (past-table _ _ _ _ _ _ (c .before .before .before .before .before .before .before .before .before .before .before .refuse-table .ensures) (c .before .before .before .before .before .before .before .before .before .enum-told .given .1) ∙ rw (sym (c .before .before .before .before .before .before .before .before .is-roomy .ensures) ∙ not-false _ (c .before .before .before .before .before .before .before .if1 .left), le-ltb _ _ (c .before .before .before .before .before .before .if2 .left), le-ltb _ _ (c .before .before .before .before .before .if3 .left), sym (c .before .before .before .are-within .ensures) ∙ not-false _ (c .before .before .if4 .left), lt-ltb _ _ (c .if5 .taken)))
+returns-6 c =
+    let at-if4 = c .before .before in
+    let at-are-within = at-if4 .before in
+    let at-if3 = at-are-within .before .before in
+    let at-if2 = at-if3 .before in
+    let at-if1 = at-if2 .before in
+    let at-is-roomy = at-if1 .before in
+    let at-enum-told = at-is-roomy .before in
+    let at-refuse-table = at-enum-told .before .before in
+    sym (past-table _ _ _ _ _ _ (at-refuse-table .refuse-table .ensures) (at-enum-told .enum-told .given .1) ∙ rw (sym (at-is-roomy .is-roomy .ensures) ∙ not-false _ (at-if1 .if1 .left), le-ltb _ _ (at-if2 .if2 .left), le-ltb _ _ (at-if3 .if3 .left), sym (at-are-within .are-within .ensures) ∙ not-false _ (at-if4 .if4 .left), lt-ltb _ _ (c .if5 .taken)))
 
 returns-7 : tie.Need-returns-7
-returns-7 c = sym (past-table _ _ _ _ _ _ (c .before .before .before .before .before .before .before .before .before .before .before .before .refuse-table .ensures) (c .before .before .before .before .before .before .before .before .before .before .enum-told .given .1) ∙ rw (sym (c .before .before .before .before .before .before .before .before .before .is-roomy .ensures) ∙ not-false _ (c .before .before .before .before .before .before .before .before .if1 .left), le-ltb _ _ (c .before .before .before .before .before .before .before .if2 .left), le-ltb _ _ (c .before .before .before .before .before .before .if3 .left), sym (c .before .before .before .before .are-within .ensures) ∙ not-false _ (c .before .before .before .if4 .left), le-ltb _ _ (c .before .if5 .left), c .if6 .taken))
+returns-7 c =
+    let at-if5 = c .before in
+    let at-if4 = at-if5 .before .before in
+    let at-are-within = at-if4 .before in
+    let at-if3 = at-are-within .before .before in
+    let at-if2 = at-if3 .before in
+    let at-if1 = at-if2 .before in
+    let at-is-roomy = at-if1 .before in
+    let at-enum-told = at-is-roomy .before in
+    let at-refuse-table = at-enum-told .before .before in
+    sym (past-table _ _ _ _ _ _ (at-refuse-table .refuse-table .ensures) (at-enum-told .enum-told .given .1) ∙ rw (sym (at-is-roomy .is-roomy .ensures) ∙ not-false _ (at-if1 .if1 .left), le-ltb _ _ (at-if2 .if2 .left), le-ltb _ _ (at-if3 .if3 .left), sym (at-are-within .are-within .ensures) ∙ not-false _ (at-if4 .if4 .left), le-ltb _ _ (at-if5 .if5 .left), c .if6 .taken))
 
 returns-8 : tie.Need-returns-8
-returns-8 c = sym (past-table _ _ _ _ _ _ (c .before .before .before .before .before .before .before .before .before .before .before .before .refuse-table .ensures) (c .before .before .before .before .before .before .before .before .before .before .enum-told .given .1) ∙ rw (sym (c .before .before .before .before .before .before .before .before .before .is-roomy .ensures) ∙ not-false _ (c .before .before .before .before .before .before .before .before .if1 .left), le-ltb _ _ (c .before .before .before .before .before .before .before .if2 .left), le-ltb _ _ (c .before .before .before .before .before .before .if3 .left), sym (c .before .before .before .before .are-within .ensures) ∙ not-false _ (c .before .before .before .if4 .left), le-ltb _ _ (c .before .if5 .left), c .if6 .left))
+returns-8 c =
+    let at-if5 = c .before in
+    let at-if4 = at-if5 .before .before in
+    let at-are-within = at-if4 .before in
+    let at-if3 = at-are-within .before .before in
+    let at-if2 = at-if3 .before in
+    let at-if1 = at-if2 .before in
+    let at-is-roomy = at-if1 .before in
+    let at-enum-told = at-is-roomy .before in
+    let at-refuse-table = at-enum-told .before .before in
+    sym (past-table _ _ _ _ _ _ (at-refuse-table .refuse-table .ensures) (at-enum-told .enum-told .given .1) ∙ rw (sym (at-is-roomy .is-roomy .ensures) ∙ not-false _ (at-if1 .if1 .left), le-ltb _ _ (at-if2 .if2 .left), le-ltb _ _ (at-if3 .if3 .left), sym (at-are-within .are-within .ensures) ∙ not-false _ (at-if4 .if4 .left), le-ltb _ _ (at-if5 .if5 .left), c .if6 .left))
 
 pub refuse-spec : {M : Type 1} → statement M
 refuse-spec =

@@ -20,7 +20,12 @@ same-length : tie.Need-same-length
 same-length c = search needs
 
 returns : tie.Need-returns
-returns c = let e = step-refused _ _ _ _ _ _ _ _ (c .before .before .before .before .before .before .is-short .ensures) (c .before .before .before .before .refuse .ensures) (c .before .before .why .given .1) (c .stopped .ensures) in (e .steps, e .leaves)
+returns c =
+    let at-why = c .before .before in
+    let at-refuse = at-why .before .before in
+    let at-is-short = at-refuse .before .before in
+    let e = step-refused _ _ _ _ _ _ _ _ (at-is-short .is-short .ensures) (at-refuse .refuse .ensures) (at-why .why .given .1) (c .stopped .ensures) in
+    (e .steps, e .leaves)
 
 enum-told : tie.Need-enum-told
 enum-told c = search needs
@@ -38,16 +43,32 @@ same-length-2 : tie.Need-same-length-2
 same-length-2 c = search needs
 
 returns-2 : tie.Need-returns-2
-returns-2 c = let e = step-headless _ _ _ _ _ _ _ _ (c .before .before .before .before .before .before .before .is-short .ensures) (c .before .before .before .before .before .refuse .ensures) (c .before .before .before .enum-told .given .1) (c .before .enum-told2 .given .1) (c .stopped2 .ensures) in (e .steps, e .leaves)
+returns-2 c =
+    let at-enum-told2 = c .before in
+    let at-enum-told = at-enum-told2 .before .before in
+    let at-refuse = at-enum-told .before .before in
+    let at-is-short = at-refuse .before .before in
+    let e = step-headless _ _ _ _ _ _ _ _ (at-is-short .is-short .ensures) (at-refuse .refuse .ensures) (at-enum-told .enum-told .given .1) (at-enum-told2 .enum-told2 .given .1) (c .stopped2 .ensures) in
+    (e .steps, e .leaves)
 
 next-requires : tie.Need-next-requires
-next-requires c κs = step-ready _ _ _ _ _ _ (sym (c .before .before .before .before .before .before .before .before .refuse .ensures) ∙ c .before .before .before .before .before .before .enum-told .given .1)
+next-requires c κs =
+    let at-enum-told = c .before .before .before .before .before .before in
+    let at-refuse = at-enum-told .before .before in
+    step-ready _ _ _ _ _ _ (sym (at-refuse .refuse .ensures) ∙ at-enum-told .enum-told .given .1)
 
 same-length-3 : tie.Need-same-length-3
 same-length-3 c = search needs
 
 returns-3 : tie.Need-returns-3
-returns-3 c = let e = step-works _ _ _ _ _ _ _ _ (c .before .before .before .before .before .before .before .before .before .before .before .before .is-short .ensures) (c .before .before .before .before .before .before .before .before .before .before .refuse .ensures) (c .before .before .before .before .before .before .before .before .enum-told .given .1) (c .before .before .before .before .before .before .opened .given .1) (c .before .next .ensures .0) (c .before .next .ensures .1) in (e .steps, e .leaves)
+returns-3 c =
+    let at-next = c .before in
+    let at-opened = at-next .before .before .before .before .before in
+    let at-enum-told = at-opened .before .before in
+    let at-refuse = at-enum-told .before .before in
+    let at-is-short = at-refuse .before .before in
+    let e = step-works _ _ _ _ _ _ _ _ (at-is-short .is-short .ensures) (at-refuse .refuse .ensures) (at-enum-told .enum-told .given .1) (at-opened .opened .given .1) (at-next .next .ensures .0) (at-next .next .ensures .1) in
+    (e .steps, e .leaves)
 
 pub step-spec : {M : Type 1} → statement M
 step-spec =
