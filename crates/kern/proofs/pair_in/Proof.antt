@@ -25,10 +25,10 @@ reply-requires : tie.Need-reply-requires
 reply-requires c κs = search needs
 
 returns-2 : tie.Need-returns-2
-returns-2 c = pair-ordered _ _ _ _ (c .before .before .before .before .before .before .before .before .head-in .ensures) (c .before .before .before .before .before .before .subtable .given .1) (c .before .before .before .if1 .taken) (c .before .before .head-size .ensures .0) (c .before .ordered-kern .ensures) (c .reply .ensures)
+returns-2 c = search pair-ordered
 
 returns-3 : tie.Need-returns-3
-returns-3 c = pair-other _ _ _ _ (c .before .before .before .before .before .head-in .ensures) (c .before .before .before .subtable .given .1) (c .if1 .left)
+returns-3 c = search pair-other
 
 pub pair-in-spec : {M : Type 1} → statement M
 pair-in-spec =

@@ -37,7 +37,13 @@ same-length-2 : tie.Need-same-length-2
 same-length-2 c = search needs
 
 returns-2 : tie.Need-returns-2
-returns-2 c = let r = runs-passed _ _ (lineOf _ _ _ _) _ (c .before .before .before .before .before .before .refuse-run .ensures) (c .before .before .before .before .enum-told .given .1) (c .before .before .before .list-bytes .ensures) (lent-length _ _ (run-ready _ _ _ _ _ _ _ (c .before .before .before .before .before .before .refuse-run .ensures) (c .before .before .before .before .enum-told .given .1) .long)) (c .before .run-part .ensures .0) (c .before .run-part .ensures .1 .0) (c .before .run-part .ensures .1 .1) in (r .answers, (r .counts, r .leaves))
+returns-2 c =
+    let at-run-part = c .before in
+    let at-list-bytes = at-run-part .before .before in
+    let at-enum-told = at-list-bytes .before in
+    let at-refuse-run = at-enum-told .before .before in
+    let r = runs-passed _ _ (lineOf _ _ _ _) _ (at-refuse-run .refuse-run .ensures) (at-enum-told .enum-told .given .1) (at-list-bytes .list-bytes .ensures) (lent-length _ _ (run-ready _ _ _ _ _ _ _ (at-refuse-run .refuse-run .ensures) (at-enum-told .enum-told .given .1) .long)) (at-run-part .run-part .ensures .0) (at-run-part .run-part .ensures .1 .0) (at-run-part .run-part .ensures .1 .1) in
+    (r .answers, (r .counts, r .leaves))
 
 pub run-spec : {M : Type 1} → statement M
 run-spec =

@@ -35,16 +35,27 @@ returns : tie.Need-returns Inv-loop μ-loop
 returns c = let e = running-cut _ _ _ _ _ _ (c .before .before .before .before .loop .inv) (sym (c .before .before .head-at .ensures) ∙ c .enum-told .given .1) in (e .answers, (e .counts, e .leaves))
 
 same-length-2 : tie.Need-same-length-2 Inv-loop μ-loop
-same-length-2 c = c .before .before .before .before .before .before .loop .inv .long
+same-length-2 c = search needs
 
 returns-2 : tie.Need-returns-2 Inv-loop μ-loop
-returns-2 c = let e = running-limit _ _ _ _ _ _ (c .before .before .before .before .before .before .loop .inv) (c .before .before .before .before .before .loop-test .taken) (sym (c .before .before .before .before .head-at .ensures) ∙ c .before .before .subtable .given .1) (limit-reached (c .if1 .taken)) in (e .answers, (e .counts, e .leaves))
+returns-2 c =
+    let at-subtable = c .before .before in
+    let at-head-at = at-subtable .before .before in
+    let at-loop-test = at-head-at .before in
+    let at-loop = at-loop-test .before in
+    let e = running-limit _ _ _ _ _ _ (at-loop .loop .inv) (at-loop-test .loop-test .taken) (sym (at-head-at .head-at .ensures) ∙ at-subtable .subtable .given .1) (limit-reached (c .if1 .taken)) in
+    (e .answers, (e .counts, e .leaves))
 
 visit-requires : tie.Need-visit-requires Inv-loop μ-loop
-visit-requires c κs = (c .before .before .before .before .before .before .before .before .before .before .pre .0, omega (arith, c .before .before .before .before .before .before .before .loop .inv .long, c .before .before .before .before .before .before .before .before .before .before .pre .1), c .before .before .before .before .before .before .before .before .before .before .pre .2, run-small (c .before .before .before .before .before .before .before .loop .inv .within) (c .before .before .before .before .before .before .before .loop .inv .small), head-plain _ _ _ (sym (c .before .before .before .before .before .head-at .ensures) ∙ c .before .before .before .subtable .given .1))
+visit-requires c κs =
+    let at-subtable = c .before .before .before in
+    let at-head-at = at-subtable .before .before in
+    let at-loop = at-head-at .before .before in
+    let start = at-loop .before .before .before in
+    (start .pre .0, omega arith, start .pre .2, run-small (at-loop .loop .inv .within) (at-loop .loop .inv .small), head-plain _ _ _ (sym (at-head-at .head-at .ensures) ∙ at-subtable .subtable .given .1))
 
 add-heads : tie.Need-add-heads Inv-loop μ-loop
-add-heads c = omega (arith, limit-small, c .before .before .before .before .before .before .before .before .before .loop .inv .within)
+add-heads c = omega (arith, limit-small)
 
 sub-left : tie.Need-sub-left Inv-loop μ-loop
 sub-left c = omega arith
@@ -53,7 +64,15 @@ loop-less : tie.Need-loop-less Inv-loop μ-loop
 loop-less c = omega arith
 
 loop-again : tie.Need-loop-again Inv-loop μ-loop
-loop-again c = running-next _ _ _ _ _ _ (c .before .before .before .before .before .before .before .before .before .loop .inv) (c .before .before .before .before .before .before .before .before .loop-test .taken) (sym (c .before .before .before .before .before .before .before .head-at .ensures) ∙ c .before .before .before .before .before .subtable .given .1) (limit-ahead (c .before .before .before .before .before .before .before .before .before .loop .inv .within) (c .before .before .before .if1 .left)) (c .before .visit .ensures) (contribution-little _ _ _ (λ s gs b along w. worked-little _ _ _ _ _ b along (c .before .before .before .before .before .before .before .before .before .before .before .before .pre .2) w) _ _ (omega (arith, c .before .before .before .before .before .before .before .before .before .loop .inv .long, c .before .before .before .before .before .before .before .before .before .before .before .before .pre .1)) (c .before .before .before .before .before .before .before .before .before .loop .inv .small))
+loop-again c =
+    let at-visit = c .before in
+    let at-if1 = at-visit .before .before in
+    let at-subtable = at-if1 .before .before in
+    let at-head-at = at-subtable .before .before in
+    let at-loop-test = at-head-at .before in
+    let at-loop = at-loop-test .before in
+    let start = at-loop .before .before .before in
+    running-next _ _ _ _ _ _ (at-loop .loop .inv) (at-loop-test .loop-test .taken) (sym (at-head-at .head-at .ensures) ∙ at-subtable .subtable .given .1) (limit-ahead (at-loop .loop .inv .within) (at-if1 .if1 .left)) (at-visit .visit .ensures) (contribution-little _ _ _ (λ s gs b along w. worked-little _ _ _ _ _ b along (start .pre .2) w) _ _ (omega arith) (at-loop .loop .inv .small))
 
 same-length-3 : tie.Need-same-length-3 Inv-loop μ-loop
 same-length-3 c = c .before .loop .inv .long

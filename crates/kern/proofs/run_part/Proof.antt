@@ -14,13 +14,21 @@ list-of-requires : tie.Need-list-of-requires
 list-of-requires c κs = search needs
 
 run-list-requires : tie.Need-run-list-requires
-run-list-requires c κs = zeroed-ready (c .before .before .before .zero .ensures) (c .before .before .before .before .before .before .before .pre .0) (c .before .before .before .before .before .before .before .pre .1)
+run-list-requires c κs =
+    let at-zero = c .before .before .before in
+    let start = at-zero .before .before .before .before in
+    zeroed-ready (at-zero .zero .ensures) (start .pre .0) (start .pre .1)
 
 same-length : tie.Need-same-length
 same-length c = search needs
 
 returns : tie.Need-returns
-returns c = let p = part-is _ _ _ (c .before .before .before .before .before .zero .ensures) (ap length (c .before .before .before .before .before .zero .ensures) ∙ length-zeros _) (c .before .before .before .list-of .ensures) (c .before .run-list .ensures .0) (c .before .run-list .ensures .1 .0) (c .before .run-list .ensures .1 .1) in (p .answers, (p .counts, p .leaves))
+returns c =
+    let at-run-list = c .before in
+    let at-list-of = at-run-list .before .before in
+    let at-zero = at-list-of .before .before in
+    let p = part-is _ _ _ (at-zero .zero .ensures) (ap length (at-zero .zero .ensures) ∙ length-zeros _) (at-list-of .list-of .ensures) (at-run-list .run-list .ensures .0) (at-run-list .run-list .ensures .1 .0) (at-run-list .run-list .ensures .1 .1) in
+    (p .answers, (p .counts, p .leaves))
 
 pub run-part-spec : {M : Type 1} → statement M
 run-part-spec =

@@ -16,7 +16,7 @@ same-length : tie.Need-same-length
 same-length c = search needs
 
 returns-2 : tie.Need-returns-2
-returns-2 c = visits _ _ _ _ _ _ (c .before .before .before .before .if1 .left) (c .before .before .before .before .before .before .before .pre .4) (c .before .before .before .from .ensures) (c .before .work .ensures .1)
+returns-2 c = search visits
 
 pub visit-spec : {M : Type 1} → statement M
 visit-spec = tie.close (tie.spec returns from-requires work-requires same-length returns-2)

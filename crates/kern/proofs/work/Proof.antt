@@ -16,7 +16,13 @@ same-length : tie.Need-same-length
 same-length c = search needs
 
 returns : tie.Need-returns
-returns c = let w = works-pairs _ _ _ _ _ _ (c .before .before .before .before .before .if1 .taken) (c .before .before .before .before .head-size .ensures .0) (c .before .before .before .ordered-kern .ensures) (c .before .work .ensures .0) (c .before .work .ensures .1) in (w .answers, w .leaves)
+returns c =
+    let at-work = c .before in
+    let at-ordered-kern = at-work .before .before in
+    let at-head-size = at-ordered-kern .before in
+    let at-if1 = at-head-size .before in
+    let w = works-pairs _ _ _ _ _ _ (at-if1 .if1 .taken) (at-head-size .head-size .ensures .0) (at-ordered-kern .ordered-kern .ensures) (at-work .work .ensures .0) (at-work .work .ensures .1) in
+    (w .answers, w .leaves)
 
 work-requires-2 : tie.Need-work-requires-2
 work-requires-2 c κs = search needs

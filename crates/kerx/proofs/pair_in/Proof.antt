@@ -22,7 +22,7 @@ reply-requires : tie.Need-reply-requires
 reply-requires c κs = search needs
 
 returns-2 : tie.Need-returns-2
-returns-2 c = pair-ordered _ _ _ _ (c .before .before .before .before .before .before .before .head-in .ensures) (c .before .before .before .before .before .subtable .given .1) (c .before .before .if1 .taken) (c .before .ordered-kerx .ensures) (c .reply .ensures)
+returns-2 c = search pair-ordered
 
 classes-kerx-requires : tie.Need-classes-kerx-requires
 classes-kerx-requires c κs = search needs
@@ -31,10 +31,10 @@ reply-requires-2 : tie.Need-reply-requires-2
 reply-requires-2 c κs = search needs
 
 returns-3 : tie.Need-returns-3
-returns-3 c = pair-classes _ _ _ _ (c .before .before .before .before .before .before .before .before .before .head-in .ensures) (c .before .before .before .before .before .before .before .subtable .given .1) (c .before .before .before .before .if1 .left) (c .before .before .if2 .taken) (c .before .classes-kerx .ensures) (c .reply2 .ensures)
+returns-3 c = search pair-classes
 
 returns-4 : tie.Need-returns-4
-returns-4 c = pair-other _ _ _ _ (c .before .before .before .before .before .before .before .head-in .ensures) (c .before .before .before .before .before .subtable .given .1) (c .before .before .if1 .left) (c .if2 .left)
+returns-4 c = search pair-other
 
 pub pair-in-spec : {M : Type 1} → statement M
 pair-in-spec =

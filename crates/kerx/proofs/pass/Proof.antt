@@ -30,7 +30,13 @@ same-length-2 : tie.Need-same-length-2
 same-length-2 c = search needs
 
 returns-2 : tie.Need-returns-2
-returns-2 c = let w = pass-passed _ _ _ (lineOf _ _ _ _) _ (c .before .before .before .before .before .before .refuse-pass .ensures) (c .before .before .before .before .enum-told .given .1) (c .before .before .before .from .ensures) (c .before .pass-in .ensures .0) (c .before .pass-in .ensures .1) in (w .answers, w .leaves)
+returns-2 c =
+    let at-pass-in = c .before in
+    let at-from = at-pass-in .before .before in
+    let at-enum-told = at-from .before in
+    let at-refuse-pass = at-enum-told .before .before in
+    let w = pass-passed _ _ _ (lineOf _ _ _ _) _ (at-refuse-pass .refuse-pass .ensures) (at-enum-told .enum-told .given .1) (at-from .from .ensures) (at-pass-in .pass-in .ensures .0) (at-pass-in .pass-in .ensures .1) in
+    (w .answers, w .leaves)
 
 pub pass-spec : {M : Type 1} → statement M
 pass-spec =

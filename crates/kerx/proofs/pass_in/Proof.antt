@@ -22,7 +22,12 @@ same-length : tie.Need-same-length
 same-length c = search needs
 
 returns-2 : tie.Need-returns-2
-returns-2 c = let w = passes-by _ _ _ _ _ (c .before .before .before .before .before .before .head-in .ensures) (c .before .before .before .before .subtable .given .1) (record { answers = c .before .work .ensures .0; leaves = c .before .work .ensures .1 }) in (w .answers, w .leaves)
+returns-2 c =
+    let at-work = c .before in
+    let at-subtable = at-work .before .before .before in
+    let at-head-in = at-subtable .before .before in
+    let w = passes-by _ _ _ _ _ (at-head-in .head-in .ensures) (at-subtable .subtable .given .1) (record { answers = at-work .work .ensures .0; leaves = at-work .work .ensures .1 }) in
+    (w .answers, w .leaves)
 
 pub pass-in-spec : {M : Type 1} → statement M
 pass-in-spec =

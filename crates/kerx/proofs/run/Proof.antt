@@ -31,13 +31,22 @@ list-bytes-requires : tie.Need-list-bytes-requires
 list-bytes-requires c κs = search needs
 
 slice-relend-prefix-run-part : tie.Need-slice-relend-prefix-run-part
-slice-relend-prefix-run-part c = run-ready _ _ _ _ _ _ _ (c .before .before .before .before .before .refuse-run .ensures) (c .before .before .before .enum-told .given .1) .long
+slice-relend-prefix-run-part c =
+    let at-enum-told = c .before .before .before in
+    let at-refuse-run = at-enum-told .before .before in
+    run-ready _ _ _ _ _ _ _ (at-refuse-run .refuse-run .ensures) (at-enum-told .enum-told .given .1) .long
 
 slice-aggregate-run-part : tie.Need-slice-aggregate-run-part
-slice-aggregate-run-part c = sym (lent-length _ _ (run-ready _ _ _ _ _ _ _ (c .before .before .before .before .before .before .refuse-run .ensures) (c .before .before .before .before .enum-told .given .1) .long))
+slice-aggregate-run-part c =
+    let at-enum-told = c .before .before .before .before in
+    let at-refuse-run = at-enum-told .before .before in
+    sym (lent-length _ _ (run-ready _ _ _ _ _ _ _ (at-refuse-run .refuse-run .ensures) (at-enum-told .enum-told .given .1) .long))
 
 run-part-requires : tie.Need-run-part-requires
-run-part-requires c κs = lent-ready-line _ _ _ _ (run-ready _ _ _ _ _ _ _ (c .before .before .before .before .before .before .refuse-run .ensures) (c .before .before .before .before .enum-told .given .1))
+run-part-requires c κs =
+    let at-enum-told = c .before .before .before .before in
+    let at-refuse-run = at-enum-told .before .before in
+    lent-ready-line _ _ _ _ (run-ready _ _ _ _ _ _ _ (at-refuse-run .refuse-run .ensures) (at-enum-told .enum-told .given .1))
 
 same-length-4 : tie.Need-same-length-4
 same-length-4 c = search needs
@@ -49,7 +58,13 @@ same-length-6 : tie.Need-same-length-6
 same-length-6 c = search needs
 
 returns-2 : tie.Need-returns-2
-returns-2 c = let r = runs-passed _ _ _ (lineOf _ _ _ _) _ (c .before .before .before .before .before .before .before .before .before .before .before .before .refuse-run .ensures) (c .before .before .before .before .before .before .before .before .before .before .enum-told .given .1) (c .before .before .before .before .before .before .before .before .before .list-bytes .ensures) (lent-length _ _ (run-ready _ _ _ _ _ _ _ (c .before .before .before .before .before .before .before .before .before .before .before .before .refuse-run .ensures) (c .before .before .before .before .before .before .before .before .before .before .enum-told .given .1) .long)) (c .before .before .before .before .before .run-part .ensures .0) (c .before .before .before .before .before .run-part .ensures .1 .0) (c .before .before .before .before .before .run-part .ensures .1 .1 .1 .1) in (r .answers, (r .counts, (c .before .before .before .before .before .run-part .ensures .1 .1 .0, (c .before .before .before .before .before .run-part .ensures .1 .1 .1 .0, r .leaves))))
+returns-2 c =
+    let at-run-part = c .before .before .before .before .before in
+    let at-list-bytes = at-run-part .before .before .before .before in
+    let at-enum-told = at-list-bytes .before in
+    let at-refuse-run = at-enum-told .before .before in
+    let r = runs-passed _ _ _ (lineOf _ _ _ _) _ (at-refuse-run .refuse-run .ensures) (at-enum-told .enum-told .given .1) (at-list-bytes .list-bytes .ensures) (lent-length _ _ (run-ready _ _ _ _ _ _ _ (at-refuse-run .refuse-run .ensures) (at-enum-told .enum-told .given .1) .long)) (at-run-part .run-part .ensures .0) (at-run-part .run-part .ensures .1 .0) (at-run-part .run-part .ensures .1 .1 .1 .1) in
+    (r .answers, (r .counts, (at-run-part .run-part .ensures .1 .1 .0, (at-run-part .run-part .ensures .1 .1 .1 .0, r .leaves))))
 
 pub run-spec : {M : Type 1} → statement M
 run-spec =

@@ -38,22 +38,35 @@ returns : tie.Need-returns Inv-loop μ-loop
 returns c = let e = running-cut _ _ _ _ _ _ (c .before .before .before .before .loop .inv .running) (sym (c .before .before .head-at .ensures) ∙ c .enum-told .given .1) in (e .answers, (e .counts, (c .before .before .before .before .loop .inv .sameGlyphs, (c .before .before .before .before .loop .inv .sameTags, e .leaves))))
 
 same-length-4 : tie.Need-same-length-4 Inv-loop μ-loop
-same-length-4 c = ap length (c .before .before .before .before .before .before .loop .inv .sameGlyphs)
+same-length-4 c =
+    let at-loop = c .before .before .before .before .before .before in
+    ap length (at-loop .loop .inv .sameGlyphs)
 
 same-length-5 : tie.Need-same-length-5 Inv-loop μ-loop
-same-length-5 c = ap length (c .before .before .before .before .before .before .loop .inv .sameTags)
+same-length-5 c =
+    let at-loop = c .before .before .before .before .before .before in
+    ap length (at-loop .loop .inv .sameTags)
 
 same-length-6 : tie.Need-same-length-6 Inv-loop μ-loop
-same-length-6 c = c .before .before .before .before .before .before .loop .inv .running .long
+same-length-6 c = search needs
 
 returns-2 : tie.Need-returns-2 Inv-loop μ-loop
-returns-2 c = let e = running-limit _ _ _ _ _ _ (c .before .before .before .before .before .before .loop .inv .running) (c .before .before .before .before .before .loop-test .taken) (sym (c .before .before .before .before .head-at .ensures) ∙ c .before .before .subtable .given .1) (limit-reached (c .if1 .taken)) in (e .answers, (e .counts, (c .before .before .before .before .before .before .loop .inv .sameGlyphs, (c .before .before .before .before .before .before .loop .inv .sameTags, e .leaves))))
+returns-2 c =
+    let at-subtable = c .before .before in
+    let at-head-at = at-subtable .before .before in
+    let at-loop-test = at-head-at .before in
+    let at-loop = at-loop-test .before in
+    let e = running-limit _ _ _ _ _ _ (at-loop .loop .inv .running) (at-loop-test .loop-test .taken) (sym (at-head-at .head-at .ensures) ∙ at-subtable .subtable .given .1) (limit-reached (c .if1 .taken)) in
+    (e .answers, (e .counts, (at-loop .loop .inv .sameGlyphs, (at-loop .loop .inv .sameTags, e .leaves))))
 
 visit-requires : tie.Need-visit-requires Inv-loop μ-loop
-visit-requires c κs = (omega (arith, ap length (c .before .before .before .before .before .before .before .before .before .loop .inv .sameGlyphs), c .before .before .before .before .before .before .before .before .before .before .before .before .before .pre .0), omega (arith, ap length (c .before .before .before .before .before .before .before .before .before .loop .inv .sameTags), c .before .before .before .before .before .before .before .before .before .before .before .before .before .pre .1), omega (arith, c .before .before .before .before .before .before .before .before .before .loop .inv .running .long, c .before .before .before .before .before .before .before .before .before .before .before .before .before .pre .2), c .before .before .before .before .before .before .before .before .before .before .before .before .before .pre .3, run-small (c .before .before .before .before .before .before .before .before .before .loop .inv .running .within) (c .before .before .before .before .before .before .before .before .before .loop .inv .running .small))
+visit-requires c κs =
+    let at-loop = c .before .before .before .before .before .before .before .before .before in
+    let start = at-loop .before .before .before .before in
+    (omega (arith, ap length (at-loop .loop .inv .sameGlyphs)), omega (arith, ap length (at-loop .loop .inv .sameTags)), omega arith, start .pre .3, run-small (at-loop .loop .inv .running .within) (at-loop .loop .inv .running .small))
 
 add-heads : tie.Need-add-heads Inv-loop μ-loop
-add-heads c = omega (arith, limit-small, c .before .before .before .before .before .before .before .before .before .before .before .before .before .before .before .loop .inv .running .within)
+add-heads c = omega (arith, limit-small)
 
 sub-left : tie.Need-sub-left Inv-loop μ-loop
 sub-left c = omega arith
@@ -62,7 +75,15 @@ loop-less : tie.Need-loop-less Inv-loop μ-loop
 loop-less c = omega arith
 
 loop-again : tie.Need-loop-again Inv-loop μ-loop
-loop-again c = going-next _ _ _ _ _ _ _ (c .before .before .before .before .before .before .before .before .before .before .before .before .before .before .before .loop .inv) (c .before .before .before .before .before .before .before .before .before .before .before .before .before .before .before .before .before .before .before .pre .3) (c .before .before .before .before .before .before .before .before .before .before .before .before .before .before .before .before .before .before .before .pre .2) (c .before .before .before .before .before .before .before .before .before .before .before .before .before .before .loop-test .taken) (sym (c .before .before .before .before .before .before .before .before .before .before .before .before .before .head-at .ensures) ∙ c .before .before .before .before .before .before .before .before .before .before .before .subtable .given .1) (limit-ahead (c .before .before .before .before .before .before .before .before .before .before .before .before .before .before .before .loop .inv .running .within) (c .before .before .before .before .before .before .before .before .before .if1 .left)) (c .before .before .before .before .before .visit .ensures .0) (c .before .before .before .before .before .visit .ensures .1 .0) (c .before .before .before .before .before .visit .ensures .1 .1)
+loop-again c =
+    let at-visit = c .before .before .before .before .before in
+    let at-if1 = at-visit .before .before .before .before in
+    let at-subtable = at-if1 .before .before in
+    let at-head-at = at-subtable .before .before in
+    let at-loop-test = at-head-at .before in
+    let at-loop = at-loop-test .before in
+    let start = at-loop .before .before .before .before in
+    going-next _ _ _ _ _ _ _ (at-loop .loop .inv) (start .pre .3) (start .pre .2) (at-loop-test .loop-test .taken) (sym (at-head-at .head-at .ensures) ∙ at-subtable .subtable .given .1) (limit-ahead (at-loop .loop .inv .running .within) (at-if1 .if1 .left)) (at-visit .visit .ensures .0) (at-visit .visit .ensures .1 .0) (at-visit .visit .ensures .1 .1)
 
 same-length-7 : tie.Need-same-length-7 Inv-loop μ-loop
 same-length-7 c = ap length (c .before .loop .inv .sameGlyphs)

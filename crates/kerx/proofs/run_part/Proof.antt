@@ -14,7 +14,10 @@ list-of-requires : tie.Need-list-of-requires
 list-of-requires c κs = search needs
 
 run-list-requires : tie.Need-run-list-requires
-run-list-requires c κs = zeroed-ready-line (c .before .before .before .before .before .zero .ensures) (c .before .before .before .before .before .before .before .before .before .before .pre .0) (c .before .before .before .before .before .before .before .before .before .before .pre .1) (c .before .before .before .before .before .before .before .before .before .before .pre .2)
+run-list-requires c κs =
+    let at-zero = c .before .before .before .before .before in
+    let start = at-zero .before .before .before .before .before in
+    zeroed-ready-line (at-zero .zero .ensures) (start .pre .0) (start .pre .1) (start .pre .2)
 
 same-length : tie.Need-same-length
 same-length c = search needs
@@ -26,7 +29,12 @@ same-length-3 : tie.Need-same-length-3
 same-length-3 c = search needs
 
 returns : tie.Need-returns
-returns c = let p = part-is _ _ _ _ (c .before .before .before .before .before .before .before .before .before .before .before .zero .ensures) (ap length (c .before .before .before .before .before .before .before .before .before .before .before .zero .ensures) ∙ length-zeros _) (c .before .before .before .before .before .before .before .before .before .list-of .ensures) (c .before .before .before .before .before .run-list .ensures .0) (c .before .before .before .before .before .run-list .ensures .1 .0) (c .before .before .before .before .before .run-list .ensures .1 .1 .1 .1) in (p .answers, (p .counts, (c .before .before .before .before .before .run-list .ensures .1 .1 .0, (c .before .before .before .before .before .run-list .ensures .1 .1 .1 .0, p .leaves))))
+returns c =
+    let at-run-list = c .before .before .before .before .before in
+    let at-list-of = at-run-list .before .before .before .before in
+    let at-zero = at-list-of .before .before in
+    let p = part-is _ _ _ _ (at-zero .zero .ensures) (ap length (at-zero .zero .ensures) ∙ length-zeros _) (at-list-of .list-of .ensures) (at-run-list .run-list .ensures .0) (at-run-list .run-list .ensures .1 .0) (at-run-list .run-list .ensures .1 .1 .1 .1) in
+    (p .answers, (p .counts, (at-run-list .run-list .ensures .1 .1 .0, (at-run-list .run-list .ensures .1 .1 .1 .0, p .leaves))))
 
 pub run-part-spec : {M : Type 1} → statement M
 run-part-spec =

@@ -23,7 +23,12 @@ same-length-3 : tie.Need-same-length-3
 same-length-3 c = search needs
 
 returns-2 : tie.Need-returns-2
-returns-2 c = (c .before .before .before .before .before .work-turned .ensures .0, (c .before .before .before .before .before .work-turned .ensures .1 .0, visits-turned _ _ _ _ _ _ (c .before .before .before .before .before .before .before .before .before .before .before .if1 .left) (c .before .before .before .before .before .before .before .before .before .if2 .taken) (c .before .before .before .before .before .before .before .before .before .before .from .ensures) (c .before .before .before .before .before .work-turned .ensures .1 .1)))
+returns-2 c =
+    let at-work-turned = c .before .before .before .before .before in
+    let at-if2 = at-work-turned .before .before .before .before in
+    let at-from = at-if2 .before in
+    let at-if1 = at-from .before in
+    (at-work-turned .work-turned .ensures .0, (at-work-turned .work-turned .ensures .1 .0, visits-turned _ _ _ _ _ _ (at-if1 .if1 .left) (at-if2 .if2 .taken) (at-from .from .ensures) (at-work-turned .work-turned .ensures .1 .1)))
 
 work-requires : tie.Need-work-requires
 work-requires c κs = search needs
@@ -35,7 +40,12 @@ same-length-5 : tie.Need-same-length-5
 same-length-5 c = search needs
 
 returns-3 : tie.Need-returns-3
-returns-3 c = (refl, (refl, visits _ _ _ _ _ _ (c .before .before .before .before .before .before .if1 .left) (c .before .before .before .before .if2 .left) (c .before .before .before .before .before .from .ensures) (c .before .work .ensures .1)))
+returns-3 c =
+    let at-work = c .before in
+    let at-if2 = at-work .before .before .before in
+    let at-from = at-if2 .before in
+    let at-if1 = at-from .before in
+    (refl, (refl, visits _ _ _ _ _ _ (at-if1 .if1 .left) (at-if2 .if2 .left) (at-from .from .ensures) (at-work .work .ensures .1)))
 
 pub visit-spec : {M : Type 1} → statement M
 visit-spec =

@@ -34,7 +34,14 @@ same-length-3 : tie.Need-same-length-3
 same-length-3 c = search needs
 
 returns-3 : tie.Need-returns-3
-returns-3 c = let w = works-classes _ _ _ _ _ _ (c .before .before .before .before .before .before .if1 .left) (c .before .before .before .before .before .if2 .left) (c .before .before .before .before .if3 .taken) (c .before .before .before .classes-kerx .ensures) (c .before .work3 .ensures .0) (c .before .work3 .ensures .1) in (w .answers, w .leaves)
+returns-3 c =
+    let at-work3 = c .before in
+    let at-classes-kerx = at-work3 .before .before in
+    let at-if3 = at-classes-kerx .before in
+    let at-if2 = at-if3 .before in
+    let at-if1 = at-if2 .before in
+    let w = works-classes _ _ _ _ _ _ (at-if1 .if1 .left) (at-if2 .if2 .left) (at-if3 .if3 .taken) (at-classes-kerx .classes-kerx .ensures) (at-work3 .work3 .ensures .0) (at-work3 .work3 .ensures .1) in
+    (w .answers, w .leaves)
 
 returns-4 : tie.Need-returns-4
 returns-4 c = let w = works-none _ _ _ _ _ _ (c .before .before .if1 .left) (c .before .if2 .left) (c .if3 .left) in (w .answers, w .leaves)

@@ -19,13 +19,15 @@ unfolding addAll
 returns c = rw (sym (c .before .before .number-of .ensures) ∙ c .enum-told .given .1, addAll)
 
 add-requires : tie.Need-add-requires
-add-requires c κs = (c .before .before .before .before .before .before .pre .0, c .before .before .before .before .before .before .pre .1 .each _ (c .before .before .before .before .before .before .pre .0))
+add-requires c κs =
+    let start = c .before .before .before .before .before .before in
+    (start .pre .0, start .pre .1 .each _ (start .pre .0))
 
 same-length : tie.Need-same-length
 same-length c = search needs
 
 returns-2 : tie.Need-returns-2
-returns-2 c = added-by _ _ _ _ _ _ (c .before .before .before .before .before .before .number-of .ensures) (c .before .before .before .before .number .given .1) (c .before .add .ensures)
+returns-2 c = search added-by
 
 pub add-pair-spec : {M : Type 1} → statement M
 add-pair-spec =

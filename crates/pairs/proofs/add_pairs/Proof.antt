@@ -24,19 +24,19 @@ mul-left : tie.Need-mul-left Inv-loop μ-loop
 mul-left c = search needs
 
 shared-slice-read-left : tie.Need-shared-slice-read-left Inv-loop μ-loop
-shared-slice-read-left c = omega (arith, c .before .before .before .before .before .pre .0)
+shared-slice-read-left c = omega arith
 
 mul-right : tie.Need-mul-right Inv-loop μ-loop
 mul-right c = search needs
 
 shared-slice-read-right : tie.Need-shared-slice-read-right Inv-loop μ-loop
-shared-slice-read-right c = omega (arith, c .before .before .before .before .before .before .pre .0)
+shared-slice-read-right c = omega arith
 
 sub-add-pair : tie.Need-sub-add-pair Inv-loop μ-loop
 sub-add-pair c = omega (arith, c .before .before .before .loop .inv .begun)
 
 add-pair-requires : tie.Need-add-pair-requires Inv-loop μ-loop
-add-pair-requires c κs = (omega (arith, c .before .before .before .before .loop .inv .long, c .before .before .before .before .before .before .before .pre .1), within-more (omega (arith, room-small, c .before .before .before .before .before .before .before .pre .2)) (c .before .before .before .before .loop .inv .small))
+add-pair-requires c κs = (omega (arith, c .before .before .before .before .loop .inv .long), within-more (omega (arith, room-small)) (c .before .before .before .before .loop .inv .small))
 
 add-place : tie.Need-add-place Inv-loop μ-loop
 add-place c = omega arith
@@ -45,7 +45,7 @@ loop-less : tie.Need-loop-less Inv-loop μ-loop
 loop-less c = omega arith
 
 loop-again : tie.Need-loop-again Inv-loop μ-loop
-loop-again c = pairing-next _ _ _ (c .before .before .before .before .before .before .loop .inv) (c .before .before .before .before .before .loop-test .taken) (c .before .add-pair .ensures)
+loop-again c = search pairing-next
 
 same-length : tie.Need-same-length Inv-loop μ-loop
 same-length c = c .before .loop .inv .long

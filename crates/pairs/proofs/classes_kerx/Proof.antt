@@ -28,7 +28,11 @@ enum-told-2 c = search needs
 
 returns-2 : tie.Need-returns-2
 unfolding classesKerx
-returns-2 c = rw (sym (c .before .before .before .before .before .before .read-u32 .ensures) ∙ c .before .before .before .before .rows .given .1, sym (c .before .before .read-u322 .ensures) ∙ c .enum-told2 .given .1, classesKerx)
+returns-2 c =
+    let at-read-u322 = c .before .before in
+    let at-rows = at-read-u322 .before .before in
+    let at-read-u32 = at-rows .before .before in
+    rw (sym (at-read-u32 .read-u32 .ensures) ∙ at-rows .rows .given .1, sym (at-read-u322 .read-u322 .ensures) ∙ c .enum-told2 .given .1, classesKerx)
 
 read-u32-requires-3 : tie.Need-read-u32-requires-3
 read-u32-requires-3 c κs = search needs
@@ -41,11 +45,24 @@ enum-told-3 c = search needs
 
 returns-3 : tie.Need-returns-3
 unfolding classesKerx
-returns-3 c = rw (sym (c .before .before .before .before .before .before .before .before .before .before .read-u32 .ensures) ∙ c .before .before .before .before .before .before .before .before .rows .given .1, sym (c .before .before .before .before .before .before .read-u322 .ensures) ∙ c .before .before .before .before .columns .given .1, sym (c .before .before .read-u323 .ensures) ∙ c .enum-told3 .given .1, classesKerx)
+returns-3 c =
+    let at-read-u323 = c .before .before in
+    let at-columns = at-read-u323 .before .before in
+    let at-read-u322 = at-columns .before .before in
+    let at-rows = at-read-u322 .before .before in
+    let at-read-u32 = at-rows .before .before in
+    rw (sym (at-read-u32 .read-u32 .ensures) ∙ at-rows .rows .given .1, sym (at-read-u322 .read-u322 .ensures) ∙ at-columns .columns .given .1, sym (at-read-u323 .read-u323 .ensures) ∙ c .enum-told3 .given .1, classesKerx)
 
 returns-4 : tie.Need-returns-4
 unfolding classesKerx
-returns-4 c = rw (sym (c .before .before .before .before .before .before .before .before .before .before .before .read-u32 .ensures) ∙ c .before .before .before .before .before .before .before .before .before .rows .given .1, sym (c .before .before .before .before .before .before .before .read-u322 .ensures) ∙ c .before .before .before .before .before .columns .given .1, sym (c .before .before .before .read-u323 .ensures) ∙ c .before .array .given .1, classesKerx)
+returns-4 c =
+    let at-array = c .before in
+    let at-read-u323 = at-array .before .before in
+    let at-columns = at-read-u323 .before .before in
+    let at-read-u322 = at-columns .before .before in
+    let at-rows = at-read-u322 .before .before in
+    let at-read-u32 = at-rows .before .before in
+    rw (sym (at-read-u32 .read-u32 .ensures) ∙ at-rows .rows .given .1, sym (at-read-u322 .read-u322 .ensures) ∙ at-columns .columns .given .1, sym (at-read-u323 .read-u323 .ensures) ∙ at-array .array .given .1, classesKerx)
 
 pub classes-kerx-spec : {M : Type 1} → statement M
 classes-kerx-spec =

@@ -29,7 +29,7 @@ unfolding replyOf
 returns-2 c = rw (c .before .before .before .before .opened .given .1, replyOf, sym (c .before .before .number-of .ensures) ∙ c .enum-told2 .given .1)
 
 returns-3 : tie.Need-returns-3
-returns-3 c = reply-number _ _ _ _ (c .before .before .before .before .before .opened .given .1) (c .before .before .before .number-of .ensures) (c .before .number .given .1)
+returns-3 c = search reply-number
 
 pub reply-spec : {M : Type 1} → statement M
 reply-spec =
