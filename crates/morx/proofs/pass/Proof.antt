@@ -36,7 +36,10 @@ kind-at-requires : tie.Need-kind-at-requires
 kind-at-requires c κs = search needs
 
 work-requires : tie.Need-work-requires
-work-requires c κs = taken-valid _ (lineOf _ _ _ _) (c .before .before .before .before .before .before .before .refuse-line .ensures) (c .before .before .before .before .before .enum-told .given .1)
+work-requires c κs =
+    let at-enum-told = c .before .before .before .before .before in
+    let at-refuse-line = at-enum-told .before .before in
+    taken-valid _ (lineOf _ _ _ _) (at-refuse-line .refuse-line .ensures) (at-enum-told .enum-told .given .1)
 
 same-length-4 : tie.Need-same-length-4
 same-length-4 c = search needs
@@ -49,7 +52,13 @@ same-length-6 c = search needs
 
 returns-2 : tie.Need-returns-2
 unfolding passLeaves workLeaves
-returns-2 c = to-post (passCall _ _ (lineOf _ _ _ _)) (lineOf _ _ _ _) _ _ _ _ (pass-worked _ _ (lineOf _ _ _ _) (c .before .before .before .before .before .before .before .before .before .before .before .before .before .before .refuse-line .ensures) (c .before .before .before .before .before .before .before .before .before .before .before .before .enum-told .given .1) (c .before .before .before .before .before .before .before .before .before .before .before .from .ensures) (c .before .before .before .before .before .before .before .before .before .before .kind-at .ensures) (of-post (worked _ _ (lineOf _ _ _ _)) (lineOf _ _ _ _) _ _ _ _ (c .before .before .before .before .before .before .work .ensures)))
+returns-2 c =
+    let at-work = c .before .before .before .before .before .before in
+    let at-kind-at = at-work .before .before .before .before in
+    let at-from = at-kind-at .before in
+    let at-enum-told = at-from .before in
+    let at-refuse-line = at-enum-told .before .before in
+    to-post (passCall _ _ (lineOf _ _ _ _)) (lineOf _ _ _ _) _ _ _ _ (pass-worked _ _ (lineOf _ _ _ _) (at-refuse-line .refuse-line .ensures) (at-enum-told .enum-told .given .1) (at-from .from .ensures) (at-kind-at .kind-at .ensures) (of-post (worked _ _ (lineOf _ _ _ _)) (lineOf _ _ _ _) _ _ _ _ (at-work .work .ensures)))
 
 pub pass-spec : {M : Type 1} → statement M
 pass-spec =

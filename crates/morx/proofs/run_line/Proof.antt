@@ -24,7 +24,7 @@ walk-from-requires : tie.Need-walk-from-requires Inv-loop μ-loop
 walk-from-requires c κs = c .before .before .before .before .pre .1
 
 loop-holds : tie.Need-loop-holds Inv-loop μ-loop
-loop-holds c = going-start _ _ _ _ _ _ _ (c .before .before .before .before .before .pre .0) (c .walk-from .ensures)
+loop-holds c = search going-start
 
 next-head-requires : tie.Need-next-head-requires Inv-loop μ-loop
 next-head-requires c κs = search needs
@@ -49,36 +49,51 @@ unfolding ranLeaves
 returns c = run-to-post (ran _ _ _ (lineOf _ _ _ _)) (lineOf _ _ _ _) _ _ _ _ (going-end _ _ _ _ (c .before .before .before .before .loop .inv) (sym (c .before .before .next-head .ensures) ∙ c .enum-told .given .1))
 
 visit-requires : tie.Need-visit-requires Inv-loop μ-loop
-visit-requires c κs = of-valid _ (c .before .before .before .before .before .before .before .before .loop .inv .valid)
+visit-requires c κs = search of-valid
 
 add-heads : tie.Need-add-heads Inv-loop μ-loop
-add-heads c = omega (arith, c .before .before .before .before .before .before .before .before .before .before .before .before .before .before .loop-test .taken)
+add-heads c = omega arith
 
 is-done-requires : tie.Need-is-done-requires Inv-loop μ-loop
 is-done-requires c κs = search needs
 
 same-length-4 : tie.Need-same-length-4 Inv-loop μ-loop
-same-length-4 c = omega (arith, c .before .before .before .before .before .before .before .before .visit .kept .1 .1 .1 .1 .0, c .before .before .before .before .before .before .before .before .before .before .before .before .before .before .before .before .before .loop .inv .long-glyphs)
+same-length-4 c = omega arith
 
 same-length-5 : tie.Need-same-length-5 Inv-loop μ-loop
-same-length-5 c = omega (arith, c .before .before .before .before .before .before .before .before .visit .kept .1 .1 .1 .1 .1 .0, c .before .before .before .before .before .before .before .before .before .before .before .before .before .before .before .before .before .loop .inv .long-tags)
+same-length-5 c = omega arith
 
 same-length-6 : tie.Need-same-length-6 Inv-loop μ-loop
-same-length-6 c = omega (arith, c .before .before .before .before .before .before .before .before .visit .kept .1 .1 .1 .1 .1 .1 .0, c .before .before .before .before .before .before .before .before .before .before .before .before .before .before .before .before .before .loop .inv .long-homes)
+same-length-6 c = omega arith
 
 returns-2 : tie.Need-returns-2 Inv-loop μ-loop
 unfolding ranLeaves visitLeaves headLimit
-returns-2 c = run-to-post (ran _ _ _ (lineOf _ _ _ _)) (lineOf _ _ _ _) _ _ _ _ (going-stop _ _ _ _ (c .before .before .before .before .before .before .before .before .before .before .before .before .before .before .before .before .before .loop .inv) (c .before .before .before .before .before .before .before .before .before .before .before .before .before .before .before .before .loop-test .taken) (sym (c .before .before .before .before .before .before .before .before .before .before .before .before .before .before .before .next-head .ensures) ∙ c .before .before .before .before .before .before .before .before .before .before .before .before .before .head .given .1) (of-post (visit _ _ _ _ (lineOf _ _ _ _)) (lineOf _ _ _ _) _ _ _ _ (c .before .before .before .before .before .before .before .before .visit .ensures)) (sym (c .before .is-done .ensures) ∙ not-true _ (c .if1 .taken)))
+returns-2 c =
+    let at-is-done = c .before in
+    let at-visit = at-is-done .before .before .before .before .before .before .before in
+    let at-head = at-visit .before .before .before .before .before in
+    let at-next-head = at-head .before .before in
+    let at-loop-test = at-next-head .before in
+    let at-loop = at-loop-test .before in
+    run-to-post (ran _ _ _ (lineOf _ _ _ _)) (lineOf _ _ _ _) _ _ _ _ (going-stop _ _ _ _ (at-loop .loop .inv) (at-loop-test .loop-test .taken) (sym (at-next-head .next-head .ensures) ∙ at-head .head .given .1) (of-post (visit _ _ _ _ (lineOf _ _ _ _)) (lineOf _ _ _ _) _ _ _ _ (at-visit .visit .ensures)) (sym (at-is-done .is-done .ensures) ∙ not-true _ (c .if1 .taken)))
 
 flags-after-requires : tie.Need-flags-after-requires Inv-loop μ-loop
 flags-after-requires c κs = search needs
 
 loop-less : tie.Need-loop-less Inv-loop μ-loop
-loop-less c = omega (arith, c .before .before .before .before .before .before .before .before .before .before .before .before .before .before .before .before .before .loop-test .taken)
+loop-less c = omega arith
 
 loop-again : tie.Need-loop-again Inv-loop μ-loop
 unfolding visitLeaves headLimit
-loop-again c = going-step _ _ _ _ (c .before .before .before .before .before .before .before .before .before .before .before .before .before .before .before .before .before .before .loop .inv) (c .before .before .before .before .before .before .before .before .before .before .before .before .before .before .before .before .before .loop-test .taken) (sym (c .before .before .before .before .before .before .before .before .before .before .before .before .before .before .before .before .next-head .ensures) ∙ c .before .before .before .before .before .before .before .before .before .before .before .before .before .before .head .given .1) (of-post (visit _ _ _ _ (lineOf _ _ _ _)) (lineOf _ _ _ _) _ _ _ _ (c .before .before .before .before .before .before .before .before .before .visit .ensures)) (sym (c .before .before .is-done .ensures) ∙ not-false _ (c .before .if1 .left)) (c .flags-after .ensures) (c .before .before .before .before .before .before .before .before .before .visit .kept .1 .1 .1 .1 .0) (c .before .before .before .before .before .before .before .before .before .visit .kept .1 .1 .1 .1 .1 .0) (c .before .before .before .before .before .before .before .before .before .visit .kept .1 .1 .1 .1 .1 .1 .0)
+loop-again c =
+    let at-if1 = c .before in
+    let at-is-done = at-if1 .before in
+    let at-visit = at-is-done .before .before .before .before .before .before .before in
+    let at-head = at-visit .before .before .before .before .before in
+    let at-next-head = at-head .before .before in
+    let at-loop-test = at-next-head .before in
+    let at-loop = at-loop-test .before in
+    going-step _ _ _ _ (at-loop .loop .inv) (at-loop-test .loop-test .taken) (sym (at-next-head .next-head .ensures) ∙ at-head .head .given .1) (of-post (visit _ _ _ _ (lineOf _ _ _ _)) (lineOf _ _ _ _) _ _ _ _ (at-visit .visit .ensures)) (sym (at-is-done .is-done .ensures) ∙ not-false _ (at-if1 .if1 .left)) (c .flags-after .ensures) (at-visit .visit .kept .1 .1 .1 .1 .0) (at-visit .visit .kept .1 .1 .1 .1 .1 .0) (at-visit .visit .kept .1 .1 .1 .1 .1 .1 .0)
 
 next-head-requires-2 : tie.Need-next-head-requires-2 Inv-loop μ-loop
 next-head-requires-2 c κs = search needs

@@ -17,7 +17,7 @@ unfolding visitLeaves
 returns c = to-post (visit _ _ _ _ (lineOf _ _ _ _)) (lineOf _ _ _ _) _ _ _ _ (visit-chain _ _ _ (lineOf _ _ _ _) _ (c .enum-told .given .1))
 
 visit-subtable-requires : tie.Need-visit-subtable-requires
-visit-subtable-requires c κs = c .before .before .before .before .before .before .before .before .before .before .pre
+visit-subtable-requires c κs = search needs
 
 same-length : tie.Need-same-length
 same-length c = search needs
@@ -30,7 +30,10 @@ same-length-3 c = search needs
 
 returns-2 : tie.Need-returns-2
 unfolding visitLeaves subtableLeaves
-returns-2 c = to-post (visit _ _ _ _ (lineOf _ _ _ _)) (lineOf _ _ _ _) _ _ _ _ (visit-sub _ _ _ (lineOf _ _ _ _) _ (c .before .before .before .before .before .before .before .before .before .before .before .head .given .1) (of-post (visitSubtable _ _ _ _ (lineOf _ _ _ _)) (lineOf _ _ _ _) _ _ _ _ (c .before .before .before .before .before .before .visit-subtable .ensures)))
+returns-2 c =
+    let at-visit-subtable = c .before .before .before .before .before .before in
+    let at-head = at-visit-subtable .before .before .before .before .before in
+    to-post (visit _ _ _ _ (lineOf _ _ _ _)) (lineOf _ _ _ _) _ _ _ _ (visit-sub _ _ _ (lineOf _ _ _ _) _ (at-head .head .given .1) (of-post (visitSubtable _ _ _ _ (lineOf _ _ _ _)) (lineOf _ _ _ _) _ _ _ _ (at-visit-subtable .visit-subtable .ensures)))
 
 pub visit-spec : {M : Type 1} → statement M
 visit-spec =

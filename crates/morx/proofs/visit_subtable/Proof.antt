@@ -23,7 +23,7 @@ kind-of-requires : tie.Need-kind-of-requires
 kind-of-requires c κs = search needs
 
 turn-and-work-requires : tie.Need-turn-and-work-requires
-turn-and-work-requires c κs = c .before .before .before .before .before .before .before .before .before .before .before .before .pre
+turn-and-work-requires c κs = search needs
 
 settle-requires : tie.Need-settle-requires
 settle-requires c κs = search needs
@@ -39,7 +39,14 @@ same-length-3 c = search needs
 
 returns-2 : tie.Need-returns-2
 unfolding subtableLeaves turnedLeaves
-returns-2 c = to-post (visitSubtable _ _ _ _ (lineOf _ _ _ _)) (lineOf _ _ _ _) _ _ _ _ (visit-worked _ _ _ _ (lineOf _ _ _ _) (c .before .before .before .before .before .before .before .before .before .before .before .before .before .before .before .from .ensures) (c .before .before .before .before .before .before .before .before .before .before .before .before .before .before .passes-over .ensures) (c .before .before .before .before .before .before .before .before .before .before .before .before .before .if1 .left) (c .before .before .before .before .before .before .before .before .before .before .before .before .should-reverse .ensures) (c .before .before .before .before .before .before .before .before .before .before .before .kind-of .ensures) (of-post (turnedWork _ _ _ (lineOf _ _ _ _)) (lineOf _ _ _ _) _ _ _ _ (c .before .before .before .before .before .before .before .turn-and-work .ensures)) (c .settle .ensures))
+returns-2 c =
+    let at-turn-and-work = c .before .before .before .before .before .before .before in
+    let at-kind-of = at-turn-and-work .before .before .before .before in
+    let at-should-reverse = at-kind-of .before in
+    let at-if1 = at-should-reverse .before in
+    let at-passes-over = at-if1 .before in
+    let at-from = at-passes-over .before in
+    to-post (visitSubtable _ _ _ _ (lineOf _ _ _ _)) (lineOf _ _ _ _) _ _ _ _ (visit-worked _ _ _ _ (lineOf _ _ _ _) (at-from .from .ensures) (at-passes-over .passes-over .ensures) (at-if1 .if1 .left) (at-should-reverse .should-reverse .ensures) (at-kind-of .kind-of .ensures) (of-post (turnedWork _ _ _ (lineOf _ _ _ _)) (lineOf _ _ _ _) _ _ _ _ (at-turn-and-work .turn-and-work .ensures)) (c .settle .ensures))
 
 pub visit-subtable-spec : {M : Type 1} → statement M
 visit-subtable-spec =

@@ -11,7 +11,10 @@ enum-told : tie.Need-enum-told
 enum-told c = search needs
 
 work-requires : tie.Need-work-requires
-work-requires c κs = let v = valid-line (c .before .before .before .before .before .before .before .before .before .pre) in (v .within, fits-tags v, omega (arith, v .within, v .limited))
+work-requires c κs =
+    let start = c .before .before .before .before .before .before .before .before .before in
+    let v = valid-line (start .pre) in
+    (v .within, fits-tags v, omega (arith, v .within, v .limited))
 
 same-length : tie.Need-same-length
 same-length c = search needs
@@ -24,13 +27,18 @@ same-length-3 c = search needs
 
 returns : tie.Need-returns
 unfolding workLeaves
-returns c = to-post (worked _ _ (lineOf _ _ _ _)) (lineOf _ _ _ _) _ _ _ _ (by-rearrangement _ _ _ _ _ _ (c .before .before .before .before .before .before .before .before .enum-told .given .1) (c .before .before .before .before .work .ensures .0) (c .before .before .before .before .work .ensures .1 .0) (c .before .before .before .before .work .ensures .1 .1))
+returns c =
+    let at-work = c .before .before .before .before in
+    let at-enum-told = at-work .before .before .before .before in
+    to-post (worked _ _ (lineOf _ _ _ _)) (lineOf _ _ _ _) _ _ _ _ (by-rearrangement _ _ _ _ _ _ (at-enum-told .enum-told .given .1) (at-work .work .ensures .0) (at-work .work .ensures .1 .0) (at-work .work .ensures .1 .1))
 
 enum-told-2 : tie.Need-enum-told-2
 enum-told-2 c = search needs
 
 work-requires-2 : tie.Need-work-requires-2
-work-requires-2 c κs = valid-line (c .before .before .before .before .before .before .before .before .before .pre) .within
+work-requires-2 c κs =
+    let start = c .before .before .before .before .before .before .before .before .before in
+    valid-line (start .pre) .within
 
 same-length-4 : tie.Need-same-length-4
 same-length-4 c = search needs
@@ -43,13 +51,19 @@ same-length-6 c = search needs
 
 returns-2 : tie.Need-returns-2
 unfolding workLeaves
-returns-2 c = to-post (worked _ _ (lineOf _ _ _ _)) (lineOf _ _ _ _) _ _ _ _ (by-contextual _ _ _ _ _ _ (c .before .before .before .before .before .before .enum-told2 .given .1) (c .before .before .work2 .ensures .0) (c .before .before .work2 .ensures .1))
+returns-2 c =
+    let at-work2 = c .before .before in
+    let at-enum-told2 = at-work2 .before .before .before .before in
+    to-post (worked _ _ (lineOf _ _ _ _)) (lineOf _ _ _ _) _ _ _ _ (by-contextual _ _ _ _ _ _ (at-enum-told2 .enum-told2 .given .1) (at-work2 .work2 .ensures .0) (at-work2 .work2 .ensures .1))
 
 enum-told-3 : tie.Need-enum-told-3
 enum-told-3 c = search needs
 
 work-requires-3 : tie.Need-work-requires-3
-work-requires-3 c κs = let v = valid-line (c .before .before .before .before .before .before .before .before .before .pre) in (v .within, fits-tags v)
+work-requires-3 c κs =
+    let start = c .before .before .before .before .before .before .before .before .before in
+    let v = valid-line (start .pre) in
+    (v .within, fits-tags v)
 
 same-length-7 : tie.Need-same-length-7
 same-length-7 c = search needs
@@ -62,13 +76,18 @@ same-length-9 c = search needs
 
 returns-3 : tie.Need-returns-3
 unfolding workLeaves
-returns-3 c = to-post (worked _ _ (lineOf _ _ _ _)) (lineOf _ _ _ _) _ _ _ _ (by-ligature _ _ _ _ _ _ (c .before .before .before .before .before .before .before .before .enum-told3 .given .1) (c .before .before .before .before .work3 .ensures .0) (c .before .before .before .before .work3 .ensures .1 .0) (c .before .before .before .before .work3 .ensures .1 .1))
+returns-3 c =
+    let at-work3 = c .before .before .before .before in
+    let at-enum-told3 = at-work3 .before .before .before .before in
+    to-post (worked _ _ (lineOf _ _ _ _)) (lineOf _ _ _ _) _ _ _ _ (by-ligature _ _ _ _ _ _ (at-enum-told3 .enum-told3 .given .1) (at-work3 .work3 .ensures .0) (at-work3 .work3 .ensures .1 .0) (at-work3 .work3 .ensures .1 .1))
 
 enum-told-4 : tie.Need-enum-told-4
 enum-told-4 c = search needs
 
 work-requires-4 : tie.Need-work-requires-4
-work-requires-4 c κs = valid-line (c .before .before .before .before .before .before .before .before .before .pre) .within
+work-requires-4 c κs =
+    let start = c .before .before .before .before .before .before .before .before .before in
+    valid-line (start .pre) .within
 
 same-length-10 : tie.Need-same-length-10
 same-length-10 c = search needs
@@ -81,13 +100,19 @@ same-length-12 c = search needs
 
 returns-4 : tie.Need-returns-4
 unfolding workLeaves
-returns-4 c = to-post (worked _ _ (lineOf _ _ _ _)) (lineOf _ _ _ _) _ _ _ _ (by-noncontextual _ _ _ _ _ _ (c .before .before .before .before .before .before .enum-told4 .given .1) (c .before .before .work4 .ensures .0) (c .before .before .work4 .ensures .1))
+returns-4 c =
+    let at-work4 = c .before .before in
+    let at-enum-told4 = at-work4 .before .before .before .before in
+    to-post (worked _ _ (lineOf _ _ _ _)) (lineOf _ _ _ _) _ _ _ _ (by-noncontextual _ _ _ _ _ _ (at-enum-told4 .enum-told4 .given .1) (at-work4 .work4 .ensures .0) (at-work4 .work4 .ensures .1))
 
 enum-told-5 : tie.Need-enum-told-5
 enum-told-5 c = search needs
 
 work-requires-5 : tie.Need-work-requires-5
-work-requires-5 c κs = let v = valid-line (c .before .before .before .before .before .before .before .before .before .pre) in (v .within, v .paired, v .limited)
+work-requires-5 c κs =
+    let start = c .before .before .before .before .before .before .before .before .before in
+    let v = valid-line (start .pre) in
+    (v .within, v .paired, v .limited)
 
 same-length-13 : tie.Need-same-length-13
 same-length-13 c = search needs
@@ -100,7 +125,10 @@ same-length-15 c = search needs
 
 returns-5 : tie.Need-returns-5
 unfolding workLeaves
-returns-5 c = to-post (worked _ _ (lineOf _ _ _ _)) (lineOf _ _ _ _) _ _ _ _ (by-insertion _ _ _ _ _ _ (c .before .before .before .before .before .before .before .before .enum-told5 .given .1) (c .before .before .before .before .work5 .ensures .0) (c .before .before .before .before .work5 .ensures .1 .0) (c .before .before .before .before .work5 .ensures .1 .1 .0) (c .before .before .before .before .work5 .ensures .1 .1 .1))
+returns-5 c =
+    let at-work5 = c .before .before .before .before in
+    let at-enum-told5 = at-work5 .before .before .before .before in
+    to-post (worked _ _ (lineOf _ _ _ _)) (lineOf _ _ _ _) _ _ _ _ (by-insertion _ _ _ _ _ _ (at-enum-told5 .enum-told5 .given .1) (at-work5 .work5 .ensures .0) (at-work5 .work5 .ensures .1 .0) (at-work5 .work5 .ensures .1 .1 .0) (at-work5 .work5 .ensures .1 .1 .1))
 
 enum-told-6 : tie.Need-enum-told-6
 enum-told-6 c = search needs

@@ -39,14 +39,25 @@ enum-told-2 c = search needs
 
 returns-3 : tie.Need-returns-3
 unfolding inputOf shaperTable shaperRoom
-returns-3 c = rw (sym (c .before .before .before .before .before .before .before .read-u32 .ensures) ∙ c .before .before .before .before .before .size .given .1, le-ltb _ _ (c .before .before .before .if1 .left), sym (c .before .before .read-u16 .ensures) ∙ c .enum-told2 .given .1, inputOf)
+returns-3 c =
+    let at-read-u16 = c .before .before in
+    let at-if1 = at-read-u16 .before in
+    let at-size = at-if1 .before .before in
+    let at-read-u32 = at-size .before .before in
+    rw (sym (at-read-u32 .read-u32 .ensures) ∙ at-size .size .given .1, le-ltb _ _ (at-if1 .if1 .left), sym (at-read-u16 .read-u16 .ensures) ∙ c .enum-told2 .given .1, inputOf)
 
 cast-if2 : tie.Need-cast-if2
 cast-if2 c = search needs
 
 returns-4 : tie.Need-returns-4
 unfolding inputOf shaperTable shaperRoom
-returns-4 c = rw (sym (c .before .before .before .before .before .before .before .before .before .read-u32 .ensures) ∙ c .before .before .before .before .before .before .before .size .given .1, le-ltb _ _ (c .before .before .before .before .before .if1 .left), sym (c .before .before .before .before .read-u16 .ensures) ∙ c .before .before .count .given .1, lt-ltb _ _ (c .if2 .taken), inputOf)
+returns-4 c =
+    let at-count = c .before .before in
+    let at-read-u16 = at-count .before .before in
+    let at-if1 = at-read-u16 .before in
+    let at-size = at-if1 .before .before in
+    let at-read-u32 = at-size .before .before in
+    rw (sym (at-read-u32 .read-u32 .ensures) ∙ at-size .size .given .1, le-ltb _ _ (at-if1 .if1 .left), sym (at-read-u16 .read-u16 .ensures) ∙ at-count .count .given .1, lt-ltb _ _ (c .if2 .taken), inputOf)
 
 add-if3 : tie.Need-add-if3
 add-if3 c = search needs
@@ -62,11 +73,25 @@ add-if3-2 c = search needs
 
 returns-5 : tie.Need-returns-5
 unfolding inputOf shaperTable shaperRoom
-returns-5 c = rw (sym (c .before .before .before .before .before .before .before .before .before .before .read-u32 .ensures) ∙ c .before .before .before .before .before .before .before .before .size .given .1, le-ltb _ _ (c .before .before .before .before .before .before .if1 .left), sym (c .before .before .before .before .before .read-u16 .ensures) ∙ c .before .before .before .count .given .1, le-ltb _ _ (c .before .if2 .left), ne-eqb _ _ (c .if3 .taken), inputOf)
+returns-5 c =
+    let at-if2 = c .before in
+    let at-count = at-if2 .before .before in
+    let at-read-u16 = at-count .before .before in
+    let at-if1 = at-read-u16 .before in
+    let at-size = at-if1 .before .before in
+    let at-read-u32 = at-size .before .before in
+    rw (sym (at-read-u32 .read-u32 .ensures) ∙ at-size .size .given .1, le-ltb _ _ (at-if1 .if1 .left), sym (at-read-u16 .read-u16 .ensures) ∙ at-count .count .given .1, le-ltb _ _ (at-if2 .if2 .left), ne-eqb _ _ (c .if3 .taken), inputOf)
 
 returns-6 : tie.Need-returns-6
 unfolding inputOf shaperTable shaperRoom
-returns-6 c = rw (sym (c .before .before .before .before .before .before .before .before .before .before .read-u32 .ensures) ∙ c .before .before .before .before .before .before .before .before .size .given .1, le-ltb _ _ (c .before .before .before .before .before .before .if1 .left), sym (c .before .before .before .before .before .read-u16 .ensures) ∙ c .before .before .before .count .given .1, le-ltb _ _ (c .before .if2 .left), eq-eqb _ _ (c .if3 .left), inputOf)
+returns-6 c =
+    let at-if2 = c .before in
+    let at-count = at-if2 .before .before in
+    let at-read-u16 = at-count .before .before in
+    let at-if1 = at-read-u16 .before in
+    let at-size = at-if1 .before .before in
+    let at-read-u32 = at-size .before .before in
+    rw (sym (at-read-u32 .read-u32 .ensures) ∙ at-size .size .given .1, le-ltb _ _ (at-if1 .if1 .left), sym (at-read-u16 .read-u16 .ensures) ∙ at-count .count .given .1, le-ltb _ _ (at-if2 .if2 .left), eq-eqb _ _ (c .if3 .left), inputOf)
 
 pub read-input-spec : {M : Type 1} → statement M
 read-input-spec =

@@ -19,10 +19,16 @@ enum-known-end c = search needs
 
 shape-input-requires : tie.Need-shape-input-requires
 unfolding shaperRoom
-shape-input-requires c κs = (sym (c .before .before .before .before .before .before .read-input .ensures) ∙ c .before .before .before .before .end .given .1, search needs, search needs, search needs)
+shape-input-requires c κs =
+    let at-end = c .before .before .before .before in
+    let at-read-input = at-end .before .before in
+    (sym (at-read-input .read-input .ensures) ∙ at-end .end .given .1, search needs, search needs, search needs)
 
 returns-2 : tie.Need-returns-2
-returns-2 c = shape-taken _ _ _ _ (c .before .before .before .before .before .before .before .read-input .ensures) (c .before .before .before .before .before .end .given .1) (c .shape-input .ensures)
+returns-2 c =
+    let at-end = c .before .before .before .before .before in
+    let at-read-input = at-end .before .before in
+    shape-taken _ _ _ _ (at-read-input .read-input .ensures) (at-end .end .given .1) (c .shape-input .ensures)
 
 pub shape-spec : {M : Type 1} → statement M
 shape-spec =

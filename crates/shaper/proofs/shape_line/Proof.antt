@@ -9,7 +9,7 @@ insert-requires : tie.Need-insert-requires
 insert-requires c κs = search needs
 
 number-requires : tie.Need-number-requires
-number-requires c κs = (omega arith, omega (arith, room-small, c .before .before .before .before .before .before .before .before .before .before .before .before .before .pre))
+number-requires c κs = (omega arith, omega (arith, room-small))
 
 run-requires : tie.Need-run-requires
 run-requires c κs = search needs
@@ -24,7 +24,12 @@ same-length-3 : tie.Need-same-length-3
 same-length-3 c = search needs
 
 returns : tie.Need-returns
-returns c = started _ _ _ _ (c .before .before .before .before .before .before .before .before .before .before .before .before .before .before .before .before .before .before .before .before .before .before .before .before .before .before .pre .0) (c .before .before .before .before .before .before .before .before .before .before .before .before .before .before .before .before .before .before .insert .ensures .0) (c .before .before .before .before .before .before .before .before .before .before .before .before .before .before .before .before .before .before .insert .ensures .1 .0) (c .before .before .before .before .before .before .before .before .before .before .before .before .number .ensures) _ _ _ _ _ (c .before .before .before .before .before .before .run .ensures)
+returns c =
+    let at-run = c .before .before .before .before .before .before in
+    let at-number = at-run .before .before .before .before .before .before in
+    let at-insert = at-number .before .before .before .before .before .before in
+    let start = at-insert .before .before .before .before .before .before .before .before in
+    started _ _ _ _ (start .pre .0) (at-insert .insert .ensures .0) (at-insert .insert .ensures .1 .0) (at-number .number .ensures) _ _ _ _ _ (at-run .run .ensures)
 
 pub shape-line-spec : {M : Type 1} → statement M
 shape-line-spec =
