@@ -22,7 +22,10 @@ same-length-2 : tie.Need-same-length-2
 same-length-2 c = search needs
 
 returns : tie.Need-returns
-returns c = (rw (sym (c .before .before .before .before .before .before .before .fresh .ensures .0) ∙ c .before .reply .given .1), (c .before .before .before .before .before .before .before .fresh .ensures .1 .0, (c .before .before .before .before .before .before .before .fresh .ensures .1 .1, rw (sym (c .before .before .before .before .before .before .before .fresh .ensures .0) ∙ c .before .reply .given .1))))
+returns c =
+    let at-reply = c .before in
+    let at-fresh = at-reply .before .before .before .before .before .before in
+    (rw (sym (at-fresh .fresh .ensures .0) ∙ at-reply .reply .given .1), (at-fresh .fresh .ensures .1 .0, (at-fresh .fresh .ensures .1 .1, rw (sym (at-fresh .fresh .ensures .0) ∙ at-reply .reply .given .1))))
 
 same-length-3 : tie.Need-same-length-3
 same-length-3 c = search needs
@@ -31,7 +34,10 @@ same-length-4 : tie.Need-same-length-4
 same-length-4 c = search needs
 
 returns-2 : tie.Need-returns-2
-returns-2 c = (rw (sym (c .before .before .before .before .before .before .before .before .fresh .ensures .0) ∙ c .before .before .reply2 .given .1) (c .refusal-number .ensures), (c .before .before .before .before .before .before .before .before .fresh .ensures .1 .0, (c .before .before .before .before .before .before .before .before .fresh .ensures .1 .1, rw (sym (c .before .before .before .before .before .before .before .before .fresh .ensures .0) ∙ c .before .before .reply2 .given .1))))
+returns-2 c =
+    let at-reply2 = c .before .before in
+    let at-fresh = at-reply2 .before .before .before .before .before .before in
+    (rw (sym (at-fresh .fresh .ensures .0) ∙ at-reply2 .reply2 .given .1) (c .refusal-number .ensures), (at-fresh .fresh .ensures .1 .0, (at-fresh .fresh .ensures .1 .1, rw (sym (at-fresh .fresh .ensures .0) ∙ at-reply2 .reply2 .given .1))))
 
 pub aat-fresh-spec : {M : Type 1} → statement M
 aat-fresh-spec =

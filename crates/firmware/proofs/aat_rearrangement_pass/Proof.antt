@@ -17,7 +17,9 @@ same-length-2 : tie.Need-same-length-2
 same-length-2 c = search needs
 
 returns : tie.Need-returns
-returns c = (c .number .ensures ∙ ap numberOf (c .before .before .before .before .before .pass .ensures .0), c .before .before .before .before .before .pass .ensures .1)
+returns c =
+    let at-pass = c .before .before .before .before .before in
+    (c .number .ensures ∙ ap numberOf (at-pass .pass .ensures .0), at-pass .pass .ensures .1)
 
 pub aat-rearrangement-pass-spec : {M : Type 1} → statement M
 aat-rearrangement-pass-spec =

@@ -17,7 +17,9 @@ same-length-2 : tie.Need-same-length-2
 same-length-2 c = search needs
 
 returns : tie.Need-returns
-returns c = (c .number .ensures ∙ ap numberOf (c .before .before .before .before .before .lone-verb .ensures .0), c .before .before .before .before .before .lone-verb .ensures .1)
+returns c =
+    let at-lone-verb = c .before .before .before .before .before in
+    (c .number .ensures ∙ ap numberOf (at-lone-verb .lone-verb .ensures .0), at-lone-verb .lone-verb .ensures .1)
 
 pub aat-verb-spec : {M : Type 1} → statement M
 aat-verb-spec =

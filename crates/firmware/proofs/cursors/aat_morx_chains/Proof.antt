@@ -19,7 +19,10 @@ refusal-number-requires : tie.Need-refusal-number-requires
 refusal-number-requires c κs = search needs
 
 returns : tie.Need-returns
-returns c = rw (sym (c .before .before .before .before .before .chains .ensures) ∙ c .before .before .before .first .given .1) (refl, c .put-cursor .ensures)
+returns c =
+    let at-first = c .before .before .before in
+    let at-chains = at-first .before .before in
+    rw (sym (at-chains .chains .ensures) ∙ at-first .first .given .1) (refl, c .put-cursor .ensures)
 
 returns-2 : tie.Need-returns-2
 returns-2 c = rw (sym (c .before .before .before .before .chains .ensures) ∙ c .before .before .why .given .1) (c .refusal-number .ensures, refl)

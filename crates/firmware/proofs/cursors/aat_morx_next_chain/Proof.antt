@@ -26,11 +26,19 @@ refusal-number-requires : tie.Need-refusal-number-requires
 refusal-number-requires c κs = search needs
 
 returns : tie.Need-returns
-returns c = let e = chain-after _ _ (c .before .before .before .before .before .before .before .cursor-from .ensures) (c .before .before .before .before .before .before .next-chain .ensures) (c .before .before .before .before .next .given .1) in
+returns c =
+    let at-next = c .before .before .before .before in
+    let at-next-chain = at-next .before .before in
+    let at-cursor-from = at-next-chain .before in
+    let e = chain-after _ _ (at-cursor-from .cursor-from .ensures) (at-next-chain .next-chain .ensures) (at-next .next .given .1) in
     (numbered chainAnswer e refl, (leaves chainCursor _ e (c .put-chain .ensures .0), leaves chainFields _ e (c .put-chain .ensures .1)))
 
 returns-2 : tie.Need-returns-2
-returns-2 c = let e = chain-after _ _ (c .before .before .before .before .before .cursor-from .ensures) (c .before .before .before .before .next-chain .ensures) (c .before .before .why .given .1) in
+returns-2 c =
+    let at-why = c .before .before in
+    let at-next-chain = at-why .before .before in
+    let at-cursor-from = at-next-chain .before in
+    let e = chain-after _ _ (at-cursor-from .cursor-from .ensures) (at-next-chain .next-chain .ensures) (at-why .why .given .1) in
     (numbered chainAnswer e (c .refusal-number .ensures), (leaves chainCursor _ e refl, leaves chainFields _ e refl))
 
 pub aat-morx-next-chain-spec : {M : Type 1} → statement M

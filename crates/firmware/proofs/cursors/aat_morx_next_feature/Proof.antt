@@ -26,11 +26,19 @@ refusal-number-requires : tie.Need-refusal-number-requires
 refusal-number-requires c κs = search needs
 
 returns : tie.Need-returns
-returns c = let e = feature-after _ _ (c .before .before .before .before .before .before .before .cursor-from .ensures) (c .before .before .before .before .before .before .next-feature .ensures) (c .before .before .before .before .next .given .1) in
+returns c =
+    let at-next = c .before .before .before .before in
+    let at-next-feature = at-next .before .before in
+    let at-cursor-from = at-next-feature .before in
+    let e = feature-after _ _ (at-cursor-from .cursor-from .ensures) (at-next-feature .next-feature .ensures) (at-next .next .given .1) in
     (numbered featureAnswer e refl, (leaves featureCursor _ e (c .put-feature .ensures .0), leaves featureFields _ e (c .put-feature .ensures .1)))
 
 returns-2 : tie.Need-returns-2
-returns-2 c = let e = feature-after _ _ (c .before .before .before .before .before .cursor-from .ensures) (c .before .before .before .before .next-feature .ensures) (c .before .before .why .given .1) in
+returns-2 c =
+    let at-why = c .before .before in
+    let at-next-feature = at-why .before .before in
+    let at-cursor-from = at-next-feature .before in
+    let e = feature-after _ _ (at-cursor-from .cursor-from .ensures) (at-next-feature .next-feature .ensures) (at-why .why .given .1) in
     (numbered featureAnswer e (c .refusal-number .ensures), (leaves featureCursor _ e refl, leaves featureFields _ e refl))
 
 pub aat-morx-next-feature-spec : {M : Type 1} → statement M

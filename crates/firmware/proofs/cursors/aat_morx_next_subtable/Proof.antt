@@ -26,11 +26,19 @@ refusal-number-requires : tie.Need-refusal-number-requires
 refusal-number-requires c κs = search needs
 
 returns : tie.Need-returns
-returns c = let e = subtable-after _ _ (c .before .before .before .before .before .before .before .cursor-from .ensures) (c .before .before .before .before .before .before .next-subtable .ensures) (c .before .before .before .before .next .given .1) in
+returns c =
+    let at-next = c .before .before .before .before in
+    let at-next-subtable = at-next .before .before in
+    let at-cursor-from = at-next-subtable .before in
+    let e = subtable-after _ _ (at-cursor-from .cursor-from .ensures) (at-next-subtable .next-subtable .ensures) (at-next .next .given .1) in
     (numbered subtableAnswer e refl, (leaves subtableCursor _ e (c .put-subtable .ensures .0), leaves subtableFields _ e (c .put-subtable .ensures .1)))
 
 returns-2 : tie.Need-returns-2
-returns-2 c = let e = subtable-after _ _ (c .before .before .before .before .before .cursor-from .ensures) (c .before .before .before .before .next-subtable .ensures) (c .before .before .why .given .1) in
+returns-2 c =
+    let at-why = c .before .before in
+    let at-next-subtable = at-why .before .before in
+    let at-cursor-from = at-next-subtable .before in
+    let e = subtable-after _ _ (at-cursor-from .cursor-from .ensures) (at-next-subtable .next-subtable .ensures) (at-why .why .given .1) in
     (numbered subtableAnswer e (c .refusal-number .ensures), (leaves subtableCursor _ e refl, leaves subtableFields _ e refl))
 
 pub aat-morx-next-subtable-spec : {M : Type 1} → statement M

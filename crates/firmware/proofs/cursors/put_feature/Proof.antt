@@ -28,7 +28,9 @@ put-cursor-requires : tie.Need-put-cursor-requires
 put-cursor-requires c κs = search needs
 
 returns-2 : tie.Need-returns-2
-returns-2 c = rw (c .before .before .before .before .before .before .before .before .before .next .given .1) (c .put-cursor .ensures, refl)
+returns-2 c =
+    let at-next = c .before .before .before .before .before .before .before .before .before in
+    rw (at-next .next .given .1) (c .put-cursor .ensures, refl)
 
 pub put-feature-spec : {M : Type 1} → statement M
 put-feature-spec =

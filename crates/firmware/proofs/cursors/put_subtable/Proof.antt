@@ -31,7 +31,10 @@ put-cursor-requires : tie.Need-put-cursor-requires
 put-cursor-requires c κs = search needs
 
 returns-2 : tie.Need-returns-2
-returns-2 c = rw (c .before .before .before .before .before .before .before .before .before .next .given .1) (c .put-cursor .ensures, rw (c .before .before .before .order-number .ensures))
+returns-2 c =
+    let at-order-number = c .before .before .before in
+    let at-next = at-order-number .before .before .before .before .before .before in
+    rw (at-next .next .given .1) (c .put-cursor .ensures, rw (at-order-number .order-number .ensures))
 
 pub put-subtable-spec : {M : Type 1} → statement M
 put-subtable-spec =

@@ -24,7 +24,11 @@ put-cursor-requires : tie.Need-put-cursor-requires
 put-cursor-requires c κs = search needs
 
 returns-2 : tie.Need-returns-2
-returns-2 c = rw (c .before .before .before .before .before .before .before .next .given .1) (c .put-cursor .ensures, rw (c .before .before .before .before .flag-number .ensures, c .before .before .before .flag-number2 .ensures))
+returns-2 c =
+    let at-flag-number2 = c .before .before .before in
+    let at-flag-number = at-flag-number2 .before in
+    let at-next = at-flag-number .before .before .before in
+    rw (at-next .next .given .1) (c .put-cursor .ensures, rw (at-flag-number .flag-number .ensures, at-flag-number2 .flag-number2 .ensures))
 
 pub put-subtable-spec : {M : Type 1} → statement M
 put-subtable-spec =

@@ -19,7 +19,11 @@ same-length : tie.Need-same-length
 same-length c = search needs
 
 returns : tie.Need-returns
-returns c = let e = kern-is _ _ _ _ _ _ _ _ (c .before .before .before .before .before .before .kerning-from .ensures) (c .before .before .before .before .step .ensures .0) in (answer-is e (c .put-step .ensures .0), (state-is e _ (c .put-step .ensures .1 .0), (kern-added _ _ _ _ _ _ _ _ (c .before .before .before .before .before .before .kerning-from .ensures) (c .before .before .before .before .step .ensures .1), advance-is e _ (c .put-step .ensures .1 .1))))
+returns c =
+    let at-step = c .before .before .before .before in
+    let at-kerning-from = at-step .before .before in
+    let e = kern-is _ _ _ _ _ _ _ _ (at-kerning-from .kerning-from .ensures) (at-step .step .ensures .0) in
+    (answer-is e (c .put-step .ensures .0), (state-is e _ (c .put-step .ensures .1 .0), (kern-added _ _ _ _ _ _ _ _ (at-kerning-from .kerning-from .ensures) (at-step .step .ensures .1), advance-is e _ (c .put-step .ensures .1 .1))))
 
 pub aat-kern-step-spec : {M : Type 1} → statement M
 aat-kern-step-spec =

@@ -61,7 +61,10 @@ cast-t47 c = search needs
 
 returns-3 : tie.Need-returns-3
 unfolding kerningFrom tab
-returns-3 c = rw (le-ltb _ _ (c .before .before .before .before .before .before .before .before .before .before .if1 .left), le-ltb _ _ (c .before .before .before .before .before .before .before .before .before .if2 .left), kerningFrom)
+returns-3 c =
+    let at-if2 = c .before .before .before .before .before .before .before .before .before in
+    let at-if1 = at-if2 .before in
+    rw (le-ltb _ _ (at-if1 .if1 .left), le-ltb _ _ (at-if2 .if2 .left), kerningFrom)
 
 pub kerning-from-spec : {M : Type 1} → statement M
 kerning-from-spec =

@@ -22,7 +22,13 @@ number-requires-2 : tie.Need-number-requires-2
 number-requires-2 c κs = search needs
 
 returns-2 : tie.Need-returns-2
-returns-2 c = let s = c .before .before .before .before .before .before .args .step in (c .number2 .ensures, (state-put s (c .before .before .before .before .before .is-refused .ensures) _ (c .before .before .before .before .if1 .left) (c .before .put-kerning .ensures), advance-put s (c .before .before .before .before .before .is-refused .ensures) _ (c .before .before .before .before .if1 .left)))
+returns-2 c =
+    let at-put-kerning = c .before in
+    let at-if1 = at-put-kerning .before .before .before in
+    let at-is-refused = at-if1 .before in
+    let start = at-is-refused .before in
+    let s = start .args .step in
+    (c .number2 .ensures, (state-put s (at-is-refused .is-refused .ensures) _ (at-if1 .if1 .left) (at-put-kerning .put-kerning .ensures), advance-put s (at-is-refused .is-refused .ensures) _ (at-if1 .if1 .left)))
 
 pub put-step-spec : {M : Type 1} → statement M
 put-step-spec =

@@ -27,8 +27,12 @@ same-length-3 : tie.Need-same-length-3
 same-length-3 c = search needs
 
 returns : tie.Need-returns
-returns c = let e = run-is (c .before .before .before .before .before .before .before .before .run .ensures .0) (c .before .before .before .before .before .before .before .before .run .ensures .1 .0) in
-    (numbered (λ (r : Run). r .answer) e (c .number .ensures), (c .before .before .before .before .before .before .before .before .run .ensures .1 .1 .0, (c .before .before .before .before .before .before .before .before .run .ensures .1 .1 .1 .0, (c .before .before .before .before .before .before .before .before .run .ensures .1 .1 .1 .1, kept (λ (r : Run). r .answer) e (c .before .before .is-refused .ensures) (λ (r : Run). r .heads) _ (c .before .if1 .taken)))))
+returns c =
+    let at-if1 = c .before in
+    let at-is-refused = at-if1 .before in
+    let at-run = at-is-refused .before .before .before .before .before .before in
+    let e = run-is (at-run .run .ensures .0) (at-run .run .ensures .1 .0) in
+    (numbered (λ (r : Run). r .answer) e (c .number .ensures), (at-run .run .ensures .1 .1 .0, (at-run .run .ensures .1 .1 .1 .0, (at-run .run .ensures .1 .1 .1 .1, kept (λ (r : Run). r .answer) e (at-is-refused .is-refused .ensures) (λ (r : Run). r .heads) _ (at-if1 .if1 .taken)))))
 
 number-requires-2 : tie.Need-number-requires-2
 number-requires-2 c κs = search needs
@@ -43,8 +47,12 @@ same-length-6 : tie.Need-same-length-6
 same-length-6 c = search needs
 
 returns-2 : tie.Need-returns-2
-returns-2 c = let e = run-is (c .before .before .before .before .before .before .before .before .run .ensures .0) (c .before .before .before .before .before .before .before .before .run .ensures .1 .0) in
-    (numbered (λ (r : Run). r .answer) e (c .number2 .ensures), (c .before .before .before .before .before .before .before .before .run .ensures .1 .1 .0, (c .before .before .before .before .before .before .before .before .run .ensures .1 .1 .1 .0, (c .before .before .before .before .before .before .before .before .run .ensures .1 .1 .1 .1, put (λ (r : Run). r .answer) e (c .before .before .is-refused .ensures) (λ (r : Run). r .heads) _ (c .before .if1 .left) refl))))
+returns-2 c =
+    let at-if1 = c .before in
+    let at-is-refused = at-if1 .before in
+    let at-run = at-is-refused .before .before .before .before .before .before in
+    let e = run-is (at-run .run .ensures .0) (at-run .run .ensures .1 .0) in
+    (numbered (λ (r : Run). r .answer) e (c .number2 .ensures), (at-run .run .ensures .1 .1 .0, (at-run .run .ensures .1 .1 .1 .0, (at-run .run .ensures .1 .1 .1 .1, put (λ (r : Run). r .answer) e (at-is-refused .is-refused .ensures) (λ (r : Run). r .heads) _ (at-if1 .if1 .left) refl))))
 
 pub aat-kerx-run-spec : {M : Type 1} → statement M
 aat-kerx-run-spec =

@@ -25,7 +25,9 @@ same-length-3 c = search needs
 
 returns : tie.Need-returns
 unfolding passLeaves
-returns c = let e = c .before .before .before .before .before .before .before .pass .ensures in
+returns c =
+    let at-pass = c .before .before .before .before .before .before .before in
+    let e = at-pass .pass .ensures in
     (c .number .ensures ∙ ap (λ (r : PassReply). numberOf (r .answer)) (e .0), (e .1 .0, (e .1 .1 .0, (e .1 .1 .1, ap (λ (r : PassReply). r .used) (e .0)))))
 
 pub aat-morx-pass-spec : {M : Type 1} → statement M

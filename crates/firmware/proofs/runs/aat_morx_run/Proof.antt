@@ -30,8 +30,12 @@ same-length-3 c = search needs
 
 returns : tie.Need-returns
 unfolding morxRun morxLeaves runLeaves
-returns c = let e = c .before .before .before .before .before .before .before .before .before .run .ensures in
-    (numbered (λ (r : RunReply). r .answer) (e .0) (c .number .ensures), (e .1 .0, (e .1 .1 .0, (e .1 .1 .1, (ap (λ (r : RunReply). r .used) (e .0), kept (λ (r : RunReply). r .answer) (e .0) (c .before .before .is-refused .ensures) (λ (r : RunReply). r .heads) _ (c .before .if1 .taken))))))
+returns c =
+    let at-if1 = c .before in
+    let at-is-refused = at-if1 .before in
+    let at-run = at-is-refused .before .before .before .before .before .before .before in
+    let e = at-run .run .ensures in
+    (numbered (λ (r : RunReply). r .answer) (e .0) (c .number .ensures), (e .1 .0, (e .1 .1 .0, (e .1 .1 .1, (ap (λ (r : RunReply). r .used) (e .0), kept (λ (r : RunReply). r .answer) (e .0) (at-is-refused .is-refused .ensures) (λ (r : RunReply). r .heads) _ (at-if1 .if1 .taken))))))
 
 number-requires-2 : tie.Need-number-requires-2
 number-requires-2 c κs = search needs
@@ -47,8 +51,12 @@ same-length-6 c = search needs
 
 returns-2 : tie.Need-returns-2
 unfolding morxRun morxLeaves runLeaves
-returns-2 c = let e = c .before .before .before .before .before .before .before .before .before .run .ensures in
-    (numbered (λ (r : RunReply). r .answer) (e .0) (c .number2 .ensures), (e .1 .0, (e .1 .1 .0, (e .1 .1 .1, (ap (λ (r : RunReply). r .used) (e .0), put (λ (r : RunReply). r .answer) (e .0) (c .before .before .is-refused .ensures) (λ (r : RunReply). r .heads) _ (c .before .if1 .left) refl)))))
+returns-2 c =
+    let at-if1 = c .before in
+    let at-is-refused = at-if1 .before in
+    let at-run = at-is-refused .before .before .before .before .before .before .before in
+    let e = at-run .run .ensures in
+    (numbered (λ (r : RunReply). r .answer) (e .0) (c .number2 .ensures), (e .1 .0, (e .1 .1 .0, (e .1 .1 .1, (ap (λ (r : RunReply). r .used) (e .0), put (λ (r : RunReply). r .answer) (e .0) (at-is-refused .is-refused .ensures) (λ (r : RunReply). r .heads) _ (at-if1 .if1 .left) refl)))))
 
 pub aat-morx-run-spec : {M : Type 1} → statement M
 aat-morx-run-spec =

@@ -30,8 +30,13 @@ same-length : tie.Need-same-length
 same-length c = search needs
 
 returns : tie.Need-returns
-returns c = let e = contextual-is _ _ _ (lineOf _ _ _ _) _ _ _ (c .before .before .before .before .before .before .before .contextual-from .ensures) (c .before .before .before .before .before .step .ensures .0) in
-    (numbered (λ (s : ContextualStep). s .answer) e (c .number .ensures), (kept (λ (s : ContextualStep). s .answer) e (c .before .before .is-refused .ensures) (λ (s : ContextualStep). contextualSlots (s .state)) _ (c .before .if1 .taken), (contextual-left _ _ _ (lineOf _ _ _ _) _ _ _ (c .before .before .before .before .before .before .before .contextual-from .ensures) (c .before .before .before .before .before .step .ensures .1), kept (λ (s : ContextualStep). s .answer) e (c .before .before .is-refused .ensures) (λ (s : ContextualStep). s .advance) _ (c .before .if1 .taken))))
+returns c =
+    let at-if1 = c .before in
+    let at-is-refused = at-if1 .before in
+    let at-step = at-is-refused .before .before .before in
+    let at-contextual-from = at-step .before .before in
+    let e = contextual-is _ _ _ (lineOf _ _ _ _) _ _ _ (at-contextual-from .contextual-from .ensures) (at-step .step .ensures .0) in
+    (numbered (λ (s : ContextualStep). s .answer) e (c .number .ensures), (kept (λ (s : ContextualStep). s .answer) e (at-is-refused .is-refused .ensures) (λ (s : ContextualStep). contextualSlots (s .state)) _ (at-if1 .if1 .taken), (contextual-left _ _ _ (lineOf _ _ _ _) _ _ _ (at-contextual-from .contextual-from .ensures) (at-step .step .ensures .1), kept (λ (s : ContextualStep). s .answer) e (at-is-refused .is-refused .ensures) (λ (s : ContextualStep). s .advance) _ (at-if1 .if1 .taken))))
 
 cast-t21 : tie.Need-cast-t21
 cast-t21 c = search needs
@@ -49,8 +54,14 @@ same-length-2 : tie.Need-same-length-2
 same-length-2 c = search needs
 
 returns-2 : tie.Need-returns-2
-returns-2 c = let e = contextual-is _ _ _ (lineOf _ _ _ _) _ _ _ (c .before .before .before .before .before .before .before .before .before .before .before .before .contextual-from .ensures) (c .before .before .before .before .before .before .before .before .before .before .step .ensures .0) in
-    (numbered (λ (s : ContextualStep). s .answer) e (c .number2 .ensures), (put (λ (s : ContextualStep). s .answer) e (c .before .before .before .before .before .before .before .is-refused .ensures) (λ (s : ContextualStep). contextualSlots (s .state)) _ (c .before .before .before .before .before .before .if1 .left) (rw (c .before .before .before .flag-number .ensures)), (contextual-left _ _ _ (lineOf _ _ _ _) _ _ _ (c .before .before .before .before .before .before .before .before .before .before .before .before .contextual-from .ensures) (c .before .before .before .before .before .before .before .before .before .before .step .ensures .1), put (λ (s : ContextualStep). s .answer) e (c .before .before .before .before .before .before .before .is-refused .ensures) (λ (s : ContextualStep). s .advance) _ (c .before .before .before .before .before .before .if1 .left) refl)))
+returns-2 c =
+    let at-flag-number = c .before .before .before in
+    let at-if1 = at-flag-number .before .before .before in
+    let at-is-refused = at-if1 .before in
+    let at-step = at-is-refused .before .before .before in
+    let at-contextual-from = at-step .before .before in
+    let e = contextual-is _ _ _ (lineOf _ _ _ _) _ _ _ (at-contextual-from .contextual-from .ensures) (at-step .step .ensures .0) in
+    (numbered (λ (s : ContextualStep). s .answer) e (c .number2 .ensures), (put (λ (s : ContextualStep). s .answer) e (at-is-refused .is-refused .ensures) (λ (s : ContextualStep). contextualSlots (s .state)) _ (at-if1 .if1 .left) (rw (at-flag-number .flag-number .ensures)), (contextual-left _ _ _ (lineOf _ _ _ _) _ _ _ (at-contextual-from .contextual-from .ensures) (at-step .step .ensures .1), put (λ (s : ContextualStep). s .answer) e (at-is-refused .is-refused .ensures) (λ (s : ContextualStep). s .advance) _ (at-if1 .if1 .left) refl)))
 
 pub aat-contextual-step-spec : {M : Type 1} → statement M
 aat-contextual-step-spec =

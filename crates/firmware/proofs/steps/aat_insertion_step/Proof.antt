@@ -40,8 +40,14 @@ number-requires-2 : tie.Need-number-requires-2
 number-requires-2 c κs = search needs
 
 returns-2 : tie.Need-returns-2
-returns-2 c = let e = inserted-is _ _ _ _ _ _ _ _ (c .before .before .before .before .before .before .before .before .before .before .insertion-from .ensures) (c .before .before .before .before .before .before .before .before .before .step .ensures) in
-    (numbered (λ (s : InsertionStep). s .answer) e (c .number2 .ensures), (put (λ (s : InsertionStep). s .answer) e (c .before .before .before .before .before .before .before .before .is-refused .ensures) (λ (s : InsertionStep). insertionSlots (s .state)) _ (c .before .before .before .before .before .before .before .if1 .left) refl, (put (λ (s : InsertionStep). s .answer) e (c .before .before .before .before .before .before .before .before .is-refused .ensures) (λ (s : InsertionStep). s .advance) _ (c .before .before .before .before .before .before .before .if1 .left) refl, put (λ (s : InsertionStep). s .answer) e (c .before .before .before .before .before .before .before .before .is-refused .ensures) (λ (s : InsertionStep). editSlots (s .marked) (s .current)) _ (c .before .before .before .before .before .before .before .if1 .left) (c .before .put-insertions .ensures))))
+returns-2 c =
+    let at-put-insertions = c .before in
+    let at-if1 = at-put-insertions .before .before .before .before .before .before in
+    let at-is-refused = at-if1 .before in
+    let at-step = at-is-refused .before in
+    let at-insertion-from = at-step .before in
+    let e = inserted-is _ _ _ _ _ _ _ _ (at-insertion-from .insertion-from .ensures) (at-step .step .ensures) in
+    (numbered (λ (s : InsertionStep). s .answer) e (c .number2 .ensures), (put (λ (s : InsertionStep). s .answer) e (at-is-refused .is-refused .ensures) (λ (s : InsertionStep). insertionSlots (s .state)) _ (at-if1 .if1 .left) refl, (put (λ (s : InsertionStep). s .answer) e (at-is-refused .is-refused .ensures) (λ (s : InsertionStep). s .advance) _ (at-if1 .if1 .left) refl, put (λ (s : InsertionStep). s .answer) e (at-is-refused .is-refused .ensures) (λ (s : InsertionStep). editSlots (s .marked) (s .current)) _ (at-if1 .if1 .left) (at-put-insertions .put-insertions .ensures))))
 
 pub aat-insertion-step-spec : {M : Type 1} → statement M
 aat-insertion-step-spec =

@@ -34,8 +34,13 @@ same-length-2 : tie.Need-same-length-2
 same-length-2 c = search needs
 
 returns : tie.Need-returns
-returns c = let e = ligated-is _ _ _ (lineOf _ _ _ _) _ _ _ (c .before .before .before .before .before .before .before .before .before .before .ligature-from .ensures) (c .before .before .before .before .before .before .before .step .ensures .0) in
-    (numbered (λ (s : LigatureStep). s .answer) e (c .number .ensures), (kept-ligature e (c .before .before .is-refused .ensures) _ (c .before .if1 .taken), (ligated-left _ _ _ (lineOf _ _ _ _) _ _ _ (c .before .before .before .before .before .before .before .before .before .before .ligature-from .ensures) (λ (l : Line). l .glyphs) (c .before .before .before .before .before .before .before .step .ensures .1 .0), (ligated-left _ _ _ (lineOf _ _ _ _) _ _ _ (c .before .before .before .before .before .before .before .before .before .before .ligature-from .ensures) (λ (l : Line). l .homes) (c .before .before .before .before .before .before .before .step .ensures .1 .1), kept (λ (s : LigatureStep). s .answer) e (c .before .before .is-refused .ensures) (λ (s : LigatureStep). s .advance) _ (c .before .if1 .taken)))))
+returns c =
+    let at-if1 = c .before in
+    let at-is-refused = at-if1 .before in
+    let at-step = at-is-refused .before .before .before .before .before in
+    let at-ligature-from = at-step .before .before .before in
+    let e = ligated-is _ _ _ (lineOf _ _ _ _) _ _ _ (at-ligature-from .ligature-from .ensures) (at-step .step .ensures .0) in
+    (numbered (λ (s : LigatureStep). s .answer) e (c .number .ensures), (kept-ligature e (at-is-refused .is-refused .ensures) _ (at-if1 .if1 .taken), (ligated-left _ _ _ (lineOf _ _ _ _) _ _ _ (at-ligature-from .ligature-from .ensures) (λ (l : Line). l .glyphs) (at-step .step .ensures .1 .0), (ligated-left _ _ _ (lineOf _ _ _ _) _ _ _ (at-ligature-from .ligature-from .ensures) (λ (l : Line). l .homes) (at-step .step .ensures .1 .1), kept (λ (s : LigatureStep). s .answer) e (at-is-refused .is-refused .ensures) (λ (s : LigatureStep). s .advance) _ (at-if1 .if1 .taken)))))
 
 put-ligature-requires : tie.Need-put-ligature-requires
 put-ligature-requires c κs = search needs
@@ -50,8 +55,14 @@ same-length-4 : tie.Need-same-length-4
 same-length-4 c = search needs
 
 returns-2 : tie.Need-returns-2
-returns-2 c = let e = ligated-is _ _ _ (lineOf _ _ _ _) _ _ _ (c .before .before .before .before .before .before .before .before .before .before .before .before .before .ligature-from .ensures) (c .before .before .before .before .before .before .before .before .before .before .step .ensures .0) in
-    (numbered (λ (s : LigatureStep). s .answer) e (c .number2 .ensures), (put-ligature e (c .before .before .before .before .before .is-refused .ensures) _ (c .before .before .before .before .if1 .left) (c .before .put-ligature .ensures), (ligated-left _ _ _ (lineOf _ _ _ _) _ _ _ (c .before .before .before .before .before .before .before .before .before .before .before .before .before .ligature-from .ensures) (λ (l : Line). l .glyphs) (c .before .before .before .before .before .before .before .before .before .before .step .ensures .1 .0), (ligated-left _ _ _ (lineOf _ _ _ _) _ _ _ (c .before .before .before .before .before .before .before .before .before .before .before .before .before .ligature-from .ensures) (λ (l : Line). l .homes) (c .before .before .before .before .before .before .before .before .before .before .step .ensures .1 .1), put (λ (s : LigatureStep). s .answer) e (c .before .before .before .before .before .is-refused .ensures) (λ (s : LigatureStep). s .advance) _ (c .before .before .before .before .if1 .left) refl))))
+returns-2 c =
+    let at-put-ligature = c .before in
+    let at-if1 = at-put-ligature .before .before .before in
+    let at-is-refused = at-if1 .before in
+    let at-step = at-is-refused .before .before .before .before .before in
+    let at-ligature-from = at-step .before .before .before in
+    let e = ligated-is _ _ _ (lineOf _ _ _ _) _ _ _ (at-ligature-from .ligature-from .ensures) (at-step .step .ensures .0) in
+    (numbered (λ (s : LigatureStep). s .answer) e (c .number2 .ensures), (put-ligature e (at-is-refused .is-refused .ensures) _ (at-if1 .if1 .left) (at-put-ligature .put-ligature .ensures), (ligated-left _ _ _ (lineOf _ _ _ _) _ _ _ (at-ligature-from .ligature-from .ensures) (λ (l : Line). l .glyphs) (at-step .step .ensures .1 .0), (ligated-left _ _ _ (lineOf _ _ _ _) _ _ _ (at-ligature-from .ligature-from .ensures) (λ (l : Line). l .homes) (at-step .step .ensures .1 .1), put (λ (s : LigatureStep). s .answer) e (at-is-refused .is-refused .ensures) (λ (s : LigatureStep). s .advance) _ (at-if1 .if1 .left) refl))))
 
 pub aat-ligature-step-spec : {M : Type 1} → statement M
 aat-ligature-step-spec =

@@ -40,8 +40,14 @@ number-requires-2 : tie.Need-number-requires-2
 number-requires-2 c κs = search needs
 
 returns-2 : tie.Need-returns-2
-returns-2 c = let e = rearranged-is _ _ _ _ _ _ _ (c .before .before .before .before .before .before .before .before .before .before .rearrangement-from .ensures) (c .before .before .before .before .before .before .before .before .before .step .ensures) in
-    (numbered (λ (s : RearrangementStep). s .answer) e (c .number2 .ensures), (put (λ (s : RearrangementStep). s .answer) e (c .before .before .before .before .before .before .before .before .is-refused .ensures) (λ (s : RearrangementStep). rearrangementSlots (s .state)) _ (c .before .before .before .before .before .before .before .if1 .left) refl, (put (λ (s : RearrangementStep). s .answer) e (c .before .before .before .before .before .before .before .before .is-refused .ensures) (λ (s : RearrangementStep). s .advance) _ (c .before .before .before .before .before .before .before .if1 .left) refl, put (λ (s : RearrangementStep). s .answer) e (c .before .before .before .before .before .before .before .before .is-refused .ensures) (λ (s : RearrangementStep). windowSlots (s .edit)) _ (c .before .before .before .before .before .before .before .if1 .left) (c .before .put-window .ensures))))
+returns-2 c =
+    let at-put-window = c .before in
+    let at-if1 = at-put-window .before .before .before .before .before .before in
+    let at-is-refused = at-if1 .before in
+    let at-step = at-is-refused .before in
+    let at-rearrangement-from = at-step .before in
+    let e = rearranged-is _ _ _ _ _ _ _ (at-rearrangement-from .rearrangement-from .ensures) (at-step .step .ensures) in
+    (numbered (λ (s : RearrangementStep). s .answer) e (c .number2 .ensures), (put (λ (s : RearrangementStep). s .answer) e (at-is-refused .is-refused .ensures) (λ (s : RearrangementStep). rearrangementSlots (s .state)) _ (at-if1 .if1 .left) refl, (put (λ (s : RearrangementStep). s .answer) e (at-is-refused .is-refused .ensures) (λ (s : RearrangementStep). s .advance) _ (at-if1 .if1 .left) refl, put (λ (s : RearrangementStep). s .answer) e (at-is-refused .is-refused .ensures) (λ (s : RearrangementStep). windowSlots (s .edit)) _ (at-if1 .if1 .left) (at-put-window .put-window .ensures))))
 
 pub aat-rearrangement-step-spec : {M : Type 1} → statement M
 aat-rearrangement-step-spec =

@@ -43,7 +43,13 @@ element-copy-out-t5 c = search needs
 
 returns-3 : tie.Need-returns-3
 unfolding ligatureFrom
-returns-3 c = rw (c .before .before .places-from .ensures, c .before .glyphs-from .ensures, le-ltb _ _ (c .before .before .before .before .before .if1 .left), sym (c .before .before .before .before .are-glyphs .ensures) ∙ not-false _ (c .before .before .before .if2 .left), ligatureFrom)
+returns-3 c =
+    let at-glyphs-from = c .before in
+    let at-places-from = at-glyphs-from .before in
+    let at-if2 = at-places-from .before in
+    let at-are-glyphs = at-if2 .before in
+    let at-if1 = at-are-glyphs .before in
+    rw (at-places-from .places-from .ensures, at-glyphs-from .glyphs-from .ensures, le-ltb _ _ (at-if1 .if1 .left), sym (at-are-glyphs .are-glyphs .ensures) ∙ not-false _ (at-if2 .if2 .left), ligatureFrom)
 
 pub ligature-from-spec : {M : Type 1} → statement M
 ligature-from-spec =

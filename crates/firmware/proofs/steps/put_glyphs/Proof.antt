@@ -25,7 +25,7 @@ wide-requires : tie.Need-wide-requires Inv-loop μ-loop
 wide-requires c κs = search needs
 
 add-slots : tie.Need-add-slots Inv-loop μ-loop
-add-slots c = omega (arith, c .before .before .before .before .before .before .pre .0)
+add-slots c = omega arith
 
 mul-slots : tie.Need-mul-slots Inv-loop μ-loop
 mul-slots c = omega arith
@@ -40,7 +40,7 @@ loop-less : tie.Need-loop-less Inv-loop μ-loop
 loop-less c = omega arith
 
 loop-again : tie.Need-loop-again Inv-loop μ-loop
-loop-again c = put-more _ _ _ (c .before .before .before .before .before .before .pre .0) (c .before .before .before .before .before .before .pre .1) (c .before .before .before .loop .inv) (c .before .before .loop-test .taken) (c .wide .ensures)
+loop-again c = search put-more
 
 same-length : tie.Need-same-length Inv-loop μ-loop
 same-length c = c .before .loop .inv .long

@@ -29,7 +29,10 @@ put-insertion-requires-2 : tie.Need-put-insertion-requires-2
 put-insertion-requires-2 c κs = search needs
 
 returns-2 : tie.Need-returns-2
-returns-2 c = c .put-insertion2 .ensures ∙ marked-alone _ (c .before .before .before .before .before .marked .given .1) (c .before .before .enum-told2 .given .1)
+returns-2 c =
+    let at-enum-told2 = c .before .before in
+    let at-marked = at-enum-told2 .before .before .before in
+    c .put-insertion2 .ensures ∙ marked-alone _ (at-marked .marked .given .1) (at-enum-told2 .enum-told2 .given .1)
 
 cast-t15 : tie.Need-cast-t15
 cast-t15 c = search needs
@@ -39,7 +42,10 @@ cast-t18 c = search needs
 
 returns-3 : tie.Need-returns-3
 unfolding editSlots
-returns-3 c = rw (c .before .before .before .before .before .marked .given .1, c .before .before .current .given .1, c .slots .given)
+returns-3 c =
+    let at-current = c .before .before in
+    let at-marked = at-current .before .before .before in
+    rw (at-marked .marked .given .1, at-current .current .given .1, c .slots .given)
 
 pub put-insertions-spec : {M : Type 1} → statement M
 put-insertions-spec =
