@@ -4,7 +4,7 @@ use crate::hex::bytes;
 use crate::kerning::{Kerning, ALONE_AT};
 use crate::kerning_tables::{Edition, Entry, Parts, NONE, PUSH, RESET, STAY};
 use crate::lookup_tables::words;
-use crate::oracle::Answer::{self, Done, Ended};
+use crate::oracle::Answer::{self, Done, Ended, Head};
 
 /// A whole table, a line, and what the pass by its first subtable and the run from left to right give.
 pub struct Documented {
@@ -142,6 +142,17 @@ pub fn documented() -> Vec<Documented> {
         ),
         // kerx adds the number that puts kern's cross-stream back; a run does not come to it.
         Documented::new(Kerx, pushes_and_takes_across(&[-32_768]), &[5, 6], Done(()), &[-32_768, 0]).run(&[0, 0]),
+        // kern's format 2 is left out.
+        Documented::new(
+            Kern,
+            bytes("00010000000000010000001e00020000000200100016001c00050001001c000600010000000a"),
+            &[5, 6],
+            Head,
+            &[0, 0],
+        ),
+        // A head of which the table has only what is read.
+        Documented::new(Kern, bytes("0001000000000001000000160000"), &[5, 6], Head, &[0, 0]),
+        Documented::new(Kerx, bytes("00020000000000010000001400000000"), &[5, 6], Head, &[0, 0]),
         // kern does not look at variations.
         Documented::new(
             Kern,

@@ -39,6 +39,7 @@ impl Watched<'_> {
         for _ in 0..count.min(MOST_HEADS) {
             match self.listed(met.table, version, at) {
                 Some((subtable, size)) => {
+                    met.row(48, met.table.len() < subtable.body);
                     if !self.passes_over(&subtable) {
                         self.watch_subtable(met, &subtable);
                     }
@@ -100,6 +101,7 @@ impl Watched<'_> {
             glyphs.reverse();
         }
         let is_kern = self.kerning == Kerning::Kern;
+        met.row(47, if is_kern { matches!(subtable.format, 2 | 3) } else { subtable.format == 6 });
         match Subtable::alone(self.kerning, &alone) {
             Ok(Some(Subtable::KernMachine(_) | Subtable::KerxMachine(_))) => {
                 self.watch_machine(met, subtable, &alone, &glyphs)
@@ -258,4 +260,5 @@ fn is_class_array_empty(table: &[u8], body: usize) -> Option<bool> {
 }
 
 /// The rows that are looked at in these runs, with those of their lookups and state tables.
-pub const ROWS: [u32; 25] = [1, 2, 3, 4, 5, 6, 7, 8, 9, 15, 25, 26, 27, 28, 29, 30, 31, 32, 33, 34, 35, 36, 37, 43, 44];
+pub const ROWS: [u32; 27] =
+    [1, 2, 3, 4, 5, 6, 7, 8, 9, 15, 25, 26, 27, 28, 29, 30, 31, 32, 33, 34, 35, 36, 37, 43, 44, 47, 48];

@@ -1,3 +1,4 @@
 -- Laws of the heads of a morx table.
 mod Starts
 pub mod Manual
+pub mod ManualWalk

@@ -3,4 +3,5 @@ pub mod Orders
 pub mod Lists
 pub mod Entries
 pub mod Walk
+pub mod Followed
 pub mod Manual

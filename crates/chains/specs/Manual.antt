@@ -1,27 +1,58 @@
--- Apple's manual on the lists of a morx table: where chain i, its feature j and its subtable k begin, and what their fields are. The
--- manual was not at hand: docs/DIFFERENCES.md says what these lines rest on.
-use Prim.Native.Nat.{ℕ, zero, suc, _+_, _*_, _-_, _≤_, _<_}
-use mathlib.Core.Path.{_≡_}
-use mathlib.Core.List.{List}
+-- Apple's manual on morx tables: where chain i, its feature j and its subtable k begin, what their fields are, what a coverage says, and the heads of
+-- a table one after the other. The manual was not at hand: docs/DIFFERENCES.md says what these lines rest on.
+use Prim.Native.Nat.{ℕ, zero, suc, _+_, _*_, _-_, _%_, _≤_, _<_}
+use mathlib.Core.Bool.{Bool, true, false, not}
+use mathlib.Core.List.{List, [], _∷_, _++_}
 use lib.ListN.{length}
+use Rattle.laws.specs.Bits.{isSet}
+use Rattle.laws.specs.Choose.{ifLt}
+use Rattle.laws.specs.Lists.{both}
 use Rattle.parse.specs.Reads.{u16At, u32At}
-use Rattle.chains.specs.Orders.{kindNumber, orderOf, isVertical}
-use Rattle.chains.specs.Lists.{cursor, nextChain, nextFeature, nextSubtable}
 use Rattle.chains.specs.declared.Cursor.{Cursor}
 use Rattle.chains.specs.declared.Chain.{Chain}
 use Rattle.chains.specs.declared.Feature.{Feature}
 use Rattle.chains.specs.declared.Subtable.{Subtable}
-use Rattle.chains.specs.declared.NextChain.{NextChain}
-use Rattle.chains.specs.declared.NextChain.the-variants as Chain′
-use Rattle.chains.specs.declared.NextFeature.{NextFeature}
-use Rattle.chains.specs.declared.NextFeature.the-variants as Feature′
-use Rattle.chains.specs.declared.NextSubtable.{NextSubtable}
-use Rattle.chains.specs.declared.NextSubtable.the-variants as Subtable′
+use Rattle.chains.specs.declared.Order.{Order}
+use Rattle.chains.specs.declared.Order.the-variants.{Layout, ReverseLayout, Logical, ReverseLogical}
+use Rattle.chains.specs.declared.Head.{Head}
+use Rattle.chains.specs.declared.Head.the-variants as Head′
+
+-- A coverage: the kind is its low byte.
+abbrev pub manualKind : (coverage : ℕ) → ℕ
+manualKind coverage = coverage % 256
+
+-- 0x80000000 is for vertical text alone, unless 0x20000000 says both directions
+abbrev pub onlyVertical : (coverage : ℕ) → Bool
+onlyVertical coverage = both (isSet coverage 0x80000000) (not (isSet coverage 0x20000000))
+
+-- the manual's table: the order in which glyphs are wanted, by 0x40000000, descending, and 0x10000000, logical
+abbrev pub orderIn : (descending logical : Bool) → Order
+orderIn false false = Layout
+orderIn true false = ReverseLayout
+orderIn false true = Logical
+orderIn true true = ReverseLogical
+
+abbrev pub manualOrder : (coverage : ℕ) → Order
+manualOrder coverage = orderIn (isSet coverage 0x40000000) (isSet coverage 0x10000000)
+
+-- its last column: whether glyphs in logical order are reversed for it, by the direction of the text
+abbrev pub reversedIn : (descending logical rightToLeft : Bool) → Bool
+reversedIn false false rightToLeft = rightToLeft
+reversedIn true false rightToLeft = not rightToLeft
+reversedIn false true rightToLeft = false
+reversedIn true true rightToLeft = true
+
+abbrev pub manualReversed : (coverage : ℕ) → (rightToLeft : Bool) → Bool
+manualReversed coverage rightToLeft = reversedIn (isSet coverage 0x40000000) (isSet coverage 0x10000000) rightToLeft
 
 -- element i of a list, where each has a size of its own and the next one follows it
 unfoldable pub placeFrom : (size : ℕ → ℕ) → (first i : ℕ) → ℕ
 placeFrom size first zero = first
 placeFrom size first (suc i) = placeFrom size first i + size (placeFrom size first i)
+
+-- a list goes on at a place, with so many elements
+abbrev pub goesOn : (place left : ℕ) → Cursor
+goesOn place left = record { place = place; left = left }
 
 module _ (table : List ℕ) where
   -- the table: the number of chains is at 4, and they begin at 8; a chain's length is at 4
@@ -48,70 +79,68 @@ module _ (table : List ℕ) where
   abbrev pub subtableSize : (subtable : ℕ) → ℕ
   subtableSize subtable = u32At table subtable
 
-  abbrev pub subtablePlace : (chain k : ℕ) → ℕ
-  subtablePlace chain k = placeFrom subtableSize (chain + 16 + featureTotal chain * 12) k
+  abbrev pub firstSubtable : (chain : ℕ) → ℕ
+  firstSubtable chain = chain + 16 + featureTotal chain * 12
 
-  -- the fields of chain i, of its feature j and of its subtable k, and where the lists go on
-  abbrev pub manualChain : (start i : ℕ) → Chain
-  manualChain start i =
-      let chain : ℕ = chainPlace start i in
+  abbrev pub subtablePlace : (chain k : ℕ) → ℕ
+  subtablePlace chain k = placeFrom subtableSize (firstSubtable chain) k
+
+  -- the fields of the chain, the feature and the subtable at a place, and where their lists go on, with so many elements left
+  abbrev pub manualChain : (chain left : ℕ) → Chain
+  manualChain chain left =
       record {
         flags = u32At table chain;
-        features = cursor (featurePlace chain 0) (featureTotal chain);
-        subtables = cursor (subtablePlace chain 0) (subtableTotal chain);
-        next = cursor (chainPlace start (suc i)) (chainTotal start - suc i);
+        features = goesOn (chain + 16) (featureTotal chain);
+        subtables = goesOn (firstSubtable chain) (subtableTotal chain);
+        next = goesOn (chain + chainSize chain) left;
       }
 
-  abbrev pub manualFeature : (chain j : ℕ) → Feature
-  manualFeature chain j =
-      let feature : ℕ = featurePlace chain j in
+  abbrev pub manualFeature : (feature left : ℕ) → Feature
+  manualFeature feature left =
       record {
         selector = u16At table feature;
         setting = u16At table (feature + 2);
         enable = u32At table (feature + 4);
         disable = u32At table (feature + 8);
-        next = cursor (featurePlace chain (suc j)) (featureTotal chain - suc j);
+        next = goesOn (feature + 12) left;
       }
 
-  abbrev pub manualSubtable : (chain k : ℕ) → Subtable
-  manualSubtable chain k =
-      let subtable : ℕ = subtablePlace chain k in
+  abbrev pub manualSubtable : (subtable left : ℕ) → Subtable
+  manualSubtable subtable left =
       record {
         place = subtable;
         coverage = u32At table (subtable + 4);
-        kind = kindNumber (u32At table (subtable + 4));
-        order = orderOf (u32At table (subtable + 4));
-        vertical = isVertical (u32At table (subtable + 4));
+        kind = manualKind (u32At table (subtable + 4));
+        order = manualOrder (u32At table (subtable + 4));
+        vertical = onlyVertical (u32At table (subtable + 4));
         flags = u32At table (subtable + 8);
-        next = cursor (subtablePlace chain (suc k)) (subtableTotal chain - suc k);
+        next = goesOn (subtable + subtableSize subtable) left;
       }
 
-  -- the cursor behind an element; at the end of a list it stays
-  abbrev pub behindChain : NextChain → Cursor → Cursor
-  behindChain (Chain′.At chain) c = chain .next
-  behindChain Chain′.End c = c
+  -- The heads of the subtables from a place on, so many of them counted: the list ends at its count, or at the first head that does not lie in the table.
+  unfoldable pub subtableHeads : (place count : ℕ) → List Head
+  subtableHeads place zero = []
+  subtableHeads place (suc left) =
+      ifLt (length table) (place + 12) []
+      (Head′.Subtable (manualSubtable place left) ∷ subtableHeads (place + subtableSize place) left)
 
-  abbrev pub behindFeature : NextFeature → Cursor → Cursor
-  behindFeature (Feature′.At feature) c = feature .next
-  behindFeature Feature′.End c = c
+  -- so do those of the chains, each with the heads of its subtables behind it
+  unfoldable pub chainHeads : (place count : ℕ) → List Head
+  chainHeads place zero = []
+  chainHeads place (suc left) =
+      ifLt (length table) (place + 16) []
+      (Head′.Chain (manualChain place left) ∷ subtableHeads (firstSubtable place) (subtableTotal place) ++ chainHeads (place + chainSize place) left)
 
-  abbrev pub behindSubtable : NextSubtable → Cursor → Cursor
-  behindSubtable (Subtable′.At subtable) c = subtable .next
-  behindSubtable Subtable′.End c = c
-
-  -- the cursor behind the first so many elements
-  unfoldable pub afterChains : ℕ → Cursor → Cursor
-  afterChains zero c = c
-  afterChains (suc n) c = behindChain (nextChain table (afterChains n c)) (afterChains n c)
-
-  unfoldable pub afterFeatures : ℕ → Cursor → Cursor
-  afterFeatures zero c = c
-  afterFeatures (suc n) c = behindFeature (nextFeature table (afterFeatures n c)) (afterFeatures n c)
-
-  unfoldable pub afterSubtables : ℕ → Cursor → Cursor
-  afterSubtables zero c = c
-  afterSubtables (suc n) c = behindSubtable (nextSubtable table (afterSubtables n c)) (afterSubtables n c)
+  -- all heads of the table at a start, of which 8 bytes are to lie there
+  unfoldable pub manualHeads : (start : ℕ) → List Head
+  manualHeads start = ifLt (length table) (start + 8) [] (chainHeads (start + 8) (chainTotal start))
 
 -- the heads of the first n elements lie in the table, each of so many bytes
 abbrev pub Lie : List ℕ → (bytes : ℕ) → (places : ℕ → ℕ) → (n : ℕ) → Type 0
 Lie table bytes places n = (i : ℕ) → i < n → places i + bytes ≤ length table
+
+-- a list of so many elements ends behind the first n: these are all, or the next one's head does not lie in the table
+pub record EndsAt (table : List ℕ) (bytes : ℕ) (places : ℕ → ℕ) (total n : ℕ) : Type 0 where
+  pub counted : n ≤ total
+  pub lie : Lie table bytes places n
+  pub cut : n < total → places n + bytes ≤ length table → ⊥

@@ -1,13 +1,15 @@
--- The crate's reading of kern format 1's lists is the manual's.
+-- The crate's reading of kern format 1's lists is the manual's, along the stream and across it.
 use Prim.Native.Nat.{ℕ, zero, suc, _+_, _*_, _-_, _%_, _≤_, _<_}
 use mathlib.Core.Path.{_≡_, refl, sym, _∙_, ap, subst}
-use mathlib.Core.Bool.{Bool, true, false}
+use mathlib.Core.Bool.{Bool, true, false, cond}
 use mathlib.Core.List.{List, [], _++_, append-assoc, append-nil}
 use mathlib.Core.Logic.{⊎-elim}
 use native.Mathlib.Omega.{arith}
-use lib.IntN.{ℤ}
+use lib.Dec.{eqb}
+use lib.IntN.{ℤ, pos}
 use lib.ListN.{length, getD}
 use borrow.Author.Tests.{eq-eqb, ne-eqb}
+use Rattle.laws.specs.Lists.{both}
 use Rattle.laws.specs.Signed.{signed16}
 use Rattle.laws.proofs.Numbers.{lt-or-ge, eq-or-ne}
 use Rattle.parse.specs.Reads.{u16At, readU16}
@@ -21,25 +23,25 @@ use Rattle.kerning_machine.specs.Machine.{kernStart, followed}
 use Rattle.kerning_machine.specs.declared.Reading.the-variants.{Kern}
 use Rattle.kerning_machine.specs.declared.Start.{Start}
 use Rattle.kerning_machine.specs.declared.Start.the-variants as Start′
-use Rattle.kern_machine.specs.Manual.{numberPlace, IsLast, amountAt, AsManual, listPlace, Pops, listAdds, WholeList}
+use Rattle.kern_machine.specs.Manual.{numberPlace, IsLast, amountAt, listPlace, Pops, listAdds, WholeList}
 
-module _ (bytes : List ℕ) (place : ℕ) (h : place + 2 ≤ length bytes) where
-  read : numberAt bytes (Odd false) place ≡ ruled (Odd false) (u16At bytes place)
+module _ (bytes : List ℕ) (crossed : Bool) (place : ℕ) (h : place + 2 ≤ length bytes) where
+  read : numberAt bytes (Odd crossed) place ≡ ruled (Odd crossed) (u16At bytes place)
   unfolding numberAt
   read = rw (readU16-got bytes place h, numberAt)
 
-  odd-is : IsLast bytes place → numberAt bytes (Odd false) place ≡ Last (amountAt bytes place)
+  odd-is : IsLast bytes place → numberAt bytes (Odd crossed) place ≡ Last (amountAt bytes crossed place)
   unfolding ruled amountOf
   odd-is e =
       read ∙ rw (eq-eqb (u16At bytes place % 2) 1 e, ruled)
-      (ap (λ (n : ℕ). Last (signed16 n)) (let q : u16At bytes place - 1 ≡ u16At bytes place - u16At bytes place % 2 = omega (arith, e) in q))
+      (ap (λ (n : ℕ). Last (cond (both crossed (eqb n 0x8000)) (pos 0) (signed16 n))) (let q : u16At bytes place - 1 ≡ u16At bytes place - u16At bytes place % 2 = omega (arith, e) in q))
 
-  even-is : (IsLast bytes place → ⊥) → numberAt bytes (Odd false) place ≡ More (amountAt bytes place)
+  even-is : (IsLast bytes place → ⊥) → numberAt bytes (Odd crossed) place ≡ More (amountAt bytes crossed place)
   unfolding ruled amountOf
   even-is e =
       let z : u16At bytes place % 2 ≡ 0 = zero-of (u16At bytes place) e in
       read ∙ rw (ne-eqb (u16At bytes place % 2) 1 e, ruled)
-      (ap (λ (n : ℕ). More (signed16 n)) (let q : u16At bytes place ≡ u16At bytes place - u16At bytes place % 2 = omega (arith, z) in q))
+      (ap (λ (n : ℕ). More (cond (both crossed (eqb n 0x8000)) (pos 0) (signed16 n))) (let q : u16At bytes place ≡ u16At bytes place - u16At bytes place % 2 = omega (arith, z) in q))
     where
       zero-of : (n : ℕ) → (n % 2 ≡ 1 → ⊥) → n % 2 ≡ 0
       zero-of n f = rest (n % 2) (omega arith) f
@@ -47,24 +49,16 @@ module _ (bytes : List ℕ) (place : ℕ) (h : place + 2 ≤ length bytes) where
           rest : (m : ℕ) → m < 2 → (m ≡ 1 → ⊥) → m ≡ 0
           rest m k g = omega (arith, g)
 
-pub lists-as-manual : (bytes : List ℕ) (list k : ℕ) → AsManual bytes list k
-lists-as-manual bytes list k =
-    record {
-      last = λ h e. odd-is bytes (numberPlace list k) h e;
-      more = λ h e. even-is bytes (numberPlace list k) h e;
-      follows = omega arith;
-    }
-
 not-both : {A : Type 0} {b : Bool} → b ≡ true → b ≡ false → A
 not-both e f = let z : _≡_ {A = ℕ} 0 1 = cc in absurd (omega arith)
 
 -- the whole list
-module _ (bytes : List ℕ) (list : ℕ) (stack : List ℕ) (depth used : ℕ) where
+module _ (bytes : List ℕ) (crossed : Bool) (list : ℕ) (stack : List ℕ) (depth used : ℕ) where
   unfoldable walked : (left place : ℕ) → Walk
-  walked left place = walk bytes (Odd false) 2 stack used left place
+  walked left place = walk bytes (Odd crossed) 2 stack used left place
 
   abbrev adds : (count : ℕ) → List Addition
-  adds count = listAdds bytes list stack depth used count
+  adds count = listAdds bytes crossed list stack depth used count
 
   abbrev place : (k : ℕ) → ℕ
   place k = numberPlace list k
@@ -76,15 +70,15 @@ module _ (bytes : List ℕ) (list : ℕ) (stack : List ℕ) (depth used : ℕ) w
 
     walked-last : IsLast bytes (place k) → before (adds k) (walked (suc left) (place k)) ≡ leaves false 0 (adds (suc k))
     unfolding walked walk listAdds
-    walked-last l = rw (odd-is bytes (place k) h l, walk, top)
+    walked-last l = rw (odd-is bytes crossed (place k) h l, walk, top)
 
     walked-more : (IsLast bytes (place k) → ⊥) → before (adds k) (walked (suc left) (place k)) ≡ before (adds (suc k)) (walked left (place (suc k)))
     unfolding walked walk listAdds
     walked-more l =
         let next : place k + 2 ≡ place (suc k) = omega arith in
-        rw (even-is bytes (place k) h l, walk, top, next)
-        (ap (λ (xs : List Addition). record { left = walk bytes (Odd false) 2 stack used left (place (suc k)) .left; additions = xs })
-        (sym (append-assoc (adds k) (additionsAt used (getD stack left 0) (amountAt bytes (place k))) (walk bytes (Odd false) 2 stack used left (place (suc k)) .additions))))
+        rw (even-is bytes crossed (place k) h l, walk, top, next)
+        (ap (λ (xs : List Addition). record { left = walk bytes (Odd crossed) 2 stack used left (place (suc k)) .left; additions = xs })
+        (sym (append-assoc (adds k) (additionsAt used (getD stack left 0) (amountAt bytes crossed (place k))) (walk bytes (Odd crossed) 2 stack used left (place (suc k)) .additions))))
 
   -- the list's numbers that pop a place, from number k on
   from-number : (count : ℕ) → Pops bytes list depth count → (left k : ℕ) → left + k ≡ depth → k ≤ count → (k ≡ count → count ≡ depth)
@@ -171,14 +165,14 @@ module _ (bytes : List ℕ) (list : ℕ) (stack : List ℕ) (depth used : ℕ) w
       find-count depth 0 (omega arith) (λ j h. absurd (omega arith)) (λ j h. absurd (omega arith))
       (subst (λ (p : ℕ). walked depth p .left .ended ≡ false) (let e : list ≡ place 0 = omega arith in e) f)
 
-pub list-as-manual : (bytes : List ℕ) (flags : ℕ) (stack : List ℕ) (depth used : ℕ) → WholeList bytes flags stack depth used
+pub list-as-manual : (bytes : List ℕ) (crossed : Bool) (flags : ℕ) (stack : List ℕ) (depth used : ℕ) → WholeList bytes crossed flags stack depth used
 unfolding followed kernStart walked
-list-as-manual bytes flags stack depth used =
+list-as-manual bytes crossed flags stack depth used =
     record {
       none = λ e. rw (eq-eqb (listPlace flags) 0 e, kernStart, followed);
-      there = λ h count pops. rw (ne-eqb (listPlace flags) 0 (λ e. omega (arith, e, h)), kernStart, followed) (all-numbers bytes (listPlace flags) stack depth used count pops);
+      there = λ h count pops. rw (ne-eqb (listPlace flags) 0 (λ e. omega (arith, e, h)), kernStart, followed) (all-numbers bytes crossed (listPlace flags) stack depth used count pops);
       found = λ h f.
-          count-found bytes (listPlace flags) stack depth used
+          count-found bytes crossed (listPlace flags) stack depth used
           (let e : kernStart flags ≡ Start′.At (listPlace flags) = rw (ne-eqb (listPlace flags) 0 (λ e. omega (arith, e, h)), kernStart) in
-          subst (λ (s : Start). followed bytes (Kern false) s stack depth used .left .ended ≡ false) e f);
+          subst (λ (s : Start). followed bytes (Kern crossed) s stack depth used .left .ended ≡ false) e f);
     }

@@ -1,16 +1,18 @@
--- kern format 1's lists of numbers, as Apple's manual has them, and what the crate's reading of them is.
+-- kern format 1's lists of numbers, as Apple's manual has them, and what the crate's reading of them is. The manual was not at hand: docs/DIFFERENCES.md
+-- says what these lines rest on.
 use Prim.Native.Nat.{ℕ, zero, suc, _+_, _*_, _-_, _%_, _<_, _≤_}
 use mathlib.Core.Path.{_≡_}
-use mathlib.Core.Bool.{Bool, false}
+use mathlib.Core.Bool.{Bool, false, cond}
 use mathlib.Core.List.{List, [], _++_}
-use lib.IntN.{ℤ}
+use lib.Dec.{eqb}
+use lib.IntN.{ℤ, pos}
 use lib.ListN.{length, getD}
+use Rattle.laws.specs.Lists.{both}
 use Rattle.laws.specs.Signed.{signed16}
 use Rattle.parse.specs.Reads.{u16At}
 use Rattle.kerning.specs.Additions.{Addition, additionsAt}
-use Rattle.kerning.specs.Lists.{Walk, leaves, numberAt}
-use Rattle.kerning.specs.declared.lists.Number.the-variants.{Last, More}
-use Rattle.kerning_machine.specs.Machine.{ruleOf, strideOf, kernStart, followed}
+use Rattle.kerning.specs.Lists.{Walk, leaves}
+use Rattle.kerning_machine.specs.Machine.{kernStart, followed}
 use Rattle.kerning_machine.specs.declared.Reading.the-variants.{Kern}
 
 -- a list begins at a byte offset from the state table on, and its numbers, of 16 bits, follow one another
@@ -21,17 +23,13 @@ numberPlace list k = list + k * 2
 abbrev pub IsLast : List ℕ → (place : ℕ) → Type 0
 IsLast bytes place = u16At bytes place % 2 ≡ 1
 
--- its lowest bit is taken as 0
-abbrev pub amountAt : List ℕ → (place : ℕ) → ℤ
-amountAt bytes place = signed16 (u16At bytes place - u16At bytes place % 2)
+-- a number's lowest bit is taken as 0
+abbrev pub evenAt : List ℕ → (place : ℕ) → ℕ
+evenAt bytes place = u16At bytes place - u16At bytes place % 2
 
--- number k of a list, wholly in the table, is read so, in a subtable along the stream; and the next one is number k + 1
-pub record AsManual (bytes : List ℕ) (list k : ℕ) : Type 0 where
-  pub last : numberPlace list k + 2 ≤ length bytes → IsLast bytes (numberPlace list k)
-      → numberAt bytes (ruleOf (Kern false)) (numberPlace list k) ≡ Last (amountAt bytes (numberPlace list k))
-  pub more : numberPlace list k + 2 ≤ length bytes → (IsLast bytes (numberPlace list k) → ⊥)
-      → numberAt bytes (ruleOf (Kern false)) (numberPlace list k) ≡ More (amountAt bytes (numberPlace list k))
-  pub follows : numberPlace list k + strideOf (Kern false) ≡ numberPlace list (suc k)
+-- what it adds: in a subtable across the stream 0x8000 puts the stream back, and adds nothing
+abbrev pub amountAt : List ℕ → (crossed : Bool) → (place : ℕ) → ℤ
+amountAt bytes crossed place = cond (both crossed (eqb (evenAt bytes place) 0x8000)) (pos 0) (signed16 (evenAt bytes place))
 
 -- The whole list of an entry. Its place is in the flags but the highest two; 0 is none
 abbrev pub listPlace : (flags : ℕ) → ℕ
@@ -50,19 +48,20 @@ abbrev pub poppedPlace : (stack : List ℕ) → (depth k : ℕ) → ℕ
 poppedPlace stack depth k = getD stack (depth - suc k) 0
 
 -- what so many numbers add, each to the place that it pops
-unfoldable pub listAdds : List ℕ → (list : ℕ) → (stack : List ℕ) → (depth used count : ℕ) → List Addition
-listAdds bytes list stack depth used zero = []
-listAdds bytes list stack depth used (suc k) =
-    listAdds bytes list stack depth used k ++ additionsAt used (poppedPlace stack depth k) (amountAt bytes (numberPlace list k))
+unfoldable pub listAdds : List ℕ → (crossed : Bool) → (list : ℕ) → (stack : List ℕ) → (depth used count : ℕ) → List Addition
+listAdds bytes crossed list stack depth used zero = []
+listAdds bytes crossed list stack depth used (suc k) =
+    listAdds bytes crossed list stack depth used k ++ additionsAt used (poppedPlace stack depth k) (amountAt bytes crossed (numberPlace list k))
 
--- what the crate's machine makes of an entry's list, in a subtable along the stream
-abbrev pub listed : List ℕ → (flags : ℕ) → (stack : List ℕ) → (depth used : ℕ) → Walk
-listed bytes flags stack depth used = followed bytes (Kern false) (kernStart flags) stack depth used
+-- what the crate's machine makes of an entry's list, in a subtable along the stream or across it
+abbrev pub listed : List ℕ → (crossed : Bool) → (flags : ℕ) → (stack : List ℕ) → (depth used : ℕ) → Walk
+listed bytes crossed flags stack depth used = followed bytes (Kern crossed) (kernStart flags) stack depth used
 
 -- it adds just what the manual's list does, and the step ends early exactly when a number that is to pop a place does not lie in the table. Behind a
 -- list the crate drops what is left of the stack, which the manual doesn't
-pub record WholeList (bytes : List ℕ) (flags : ℕ) (stack : List ℕ) (depth used : ℕ) : Type 0 where
-  pub none : listPlace flags ≡ 0 → listed bytes flags stack depth used ≡ leaves false depth []
+pub record WholeList (bytes : List ℕ) (crossed : Bool) (flags : ℕ) (stack : List ℕ) (depth used : ℕ) : Type 0 where
+  pub none : listPlace flags ≡ 0 → listed bytes crossed flags stack depth used ≡ leaves false depth []
   pub there : 0 < listPlace flags → (count : ℕ) → Pops bytes (listPlace flags) depth count
-      → listed bytes flags stack depth used ≡ leaves false 0 (listAdds bytes (listPlace flags) stack depth used count)
-  pub found : 0 < listPlace flags → listed bytes flags stack depth used .left .ended ≡ false → (count : ℕ) × Pops bytes (listPlace flags) depth count
+      → listed bytes crossed flags stack depth used ≡ leaves false 0 (listAdds bytes crossed (listPlace flags) stack depth used count)
+  pub found : 0 < listPlace flags → listed bytes crossed flags stack depth used .left .ended ≡ false
+      → (count : ℕ) × Pops bytes (listPlace flags) depth count

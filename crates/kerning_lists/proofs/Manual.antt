@@ -1,14 +1,22 @@
--- A walk's subtables are the manual's, if each head that lies in the table, and no other, is read as the manual has it.
+-- A walk's subtables are the manual's, if each head whose bytes lie in the table, and no other, is read as the manual has it.
 use Prim.Native.Nat.{ℕ, zero, suc, _+_, _<_, _≤_}
 use mathlib.Core.Path.{_≡_, refl, sym, _∙_, ap, subst}
 use mathlib.Core.List.{List, [], _∷_}
 use native.Mathlib.Omega.{arith}
 use lib.ListN.{length, getD}
 use Rattle.kerning_lists.specs.Walk.{onHead, heads}
-use Rattle.kerning_lists.specs.Manual.{beginsAt, AsManual}
+use Rattle.kerning_lists.specs.Manual.{Told, told, beginsAt, AsManual, NoneInPart}
 use Rattle.kerning_lists.specs.declared.Subtable.{Subtable}
 use Rattle.kerning_lists.specs.declared.Head.{Head}
 use Rattle.kerning_lists.specs.declared.Head.the-variants.{At, Cut}
+
+-- the walk as the crate reads its heads
+pub record Walked
+    (HeadLies : ℕ → Type 0) (subtableAt : ℕ → Subtable) (lengthAt : ℕ → ℕ) (first count : ℕ) (walk : List Subtable) : Type 0 where
+  pub begins : (k : ℕ) → k < length walk → (other : Subtable) → getD walk k other ≡ subtableAt (beginsAt lengthAt first k)
+  pub counted : (k : ℕ) → k < length walk → k < count
+  pub lies : (k : ℕ) → k < length walk → HeadLies (beginsAt lengthAt first k)
+  pub there : (k : ℕ) → k < count → ((j : ℕ) → j ≤ k → HeadLies (beginsAt lengthAt first j)) → k < length walk
 
 -- a head is read or it is not
 pub no-head : {A : Type 0} {h : Head} {s : Subtable} → h ≡ At s → h ≡ Cut → A
@@ -66,6 +74,18 @@ module _ (headAt : ℕ → Head) (HeadLies : ℕ → Type 0) (subtableAt : ℕ �
       let more = there′ left (at + lengthAt at) k (omega (arith, h)) (λ j le. all (suc j) (omega (arith, le))) in
       omega (arith, n, more)
 
-  pub walk-as-manual : (first count : ℕ) → AsManual HeadLies subtableAt lengthAt first count (heads headAt count first)
-  walk-as-manual first count =
+  pub walk-read : (first count : ℕ) → Walked HeadLies subtableAt lengthAt first count (heads headAt count first)
+  walk-read first count =
       record { begins = begins′ count first; counted = counted′ count first; lies = lies′ count first; there = there′ count first }
+
+-- a head of more bytes than the crate reads
+pub walk-as-manual : (bytes : List ℕ) (few head : ℕ) {subtableAt : ℕ → Subtable} (manualAt : ℕ → Told) {lengthAt : ℕ → ℕ} {first count : ℕ} {walk : List Subtable}
+    → few ≤ head → ((at : ℕ) → told (subtableAt at) ≡ manualAt at) → NoneInPart bytes few head lengthAt first count
+    → Walked (λ at. at + few ≤ length bytes) subtableAt lengthAt first count walk → AsManual bytes head manualAt lengthAt first count walk
+walk-as-manual bytes few head manualAt {lengthAt} {first} fewer same whole w =
+    record {
+      begins = λ k h other. ap told (w .begins k h other) ∙ same (beginsAt lengthAt first k);
+      counted = w .counted;
+      lies = λ k h. whole k (w .counted k h) (w .lies k h);
+      there = λ k h all. w .there k h (λ j le. omega (arith, all j le, fewer));
+    }

@@ -18,22 +18,29 @@ use Rattle.parse.proofs.Laws.{readU16-got, readU32-got, readU32-short, u32-from
 use Rattle.tables.specs.ManualLookup.{Layout}
 use Rattle.pairs.specs.Pairs.{orderedKerx, classesKerx}
 use Rattle.pairs.specs.Reply.{replyOf}
-use Rattle.pairs.specs.Manual.{Rising, OrderedValue, ClassValue, Legible}
+use Rattle.pairs.specs.Manual.{Rising, OrderedValue, ClassValue, Legible, Covered}
 use Rattle.pairs.specs.Manual as Pairs′
 use Rattle.pairs.specs.declared.PairReply.{PairReply}
 use Rattle.pairs.specs.declared.PairTable.the-variants.{Ordered, Classes}
 use Rattle.pairs.specs.declared.Opened.the-variants.{Ready}
 use Rattle.pairs.proofs.Manual.{ordered-as-manual, class-as-manual}
 use Rattle.kerning_lists.specs.Walk.{heads}
-use Rattle.kerning_lists.specs.Manual.{AsManual}
+use Rattle.kerning_lists.specs.Manual.{told, NoneInPart, AsManual}
 use Rattle.kerning_lists.specs.declared.Subtable.{Subtable}
 use Rattle.kerning_lists.specs.declared.Head.the-variants.{At, Cut}
-use Rattle.kerning_lists.proofs.Manual.{no-head, walk-as-manual}
+use Rattle.kerning_lists.proofs.Manual.{no-head, walk-read, walk-as-manual}
 use Rattle.kerx.specs.Heads.{subtableOf, headIn, headAt, listOf, walkOf}
 use Rattle.kerx.specs.Kerx.{pairIn}
-use Rattle.kerx.specs.Manual.{versionOf, countOf, lengthAt, subtableAt, HeadLies, HasPairs, HasClasses, tupleCount, pairCount, rowsOf, columnsOf, arrayOf}
+use Rattle.kerx.specs.Manual.{versionOf, countOf, lengthAt, headBytes, subtableAt, HasPairs, HasClasses, tupleCount, pairCount, rowsOf, columnsOf, arrayOf}
 
--- a head that lies in the table, and no other, is read as the manual has it
+-- how many bytes of a head are read
+abbrev fewOf : (version : ℕ) → ℕ
+fewOf version = ifLt version 4 8 12
+
+abbrev readAt : (rtl : Bool) → List ℕ → (at : ℕ) → Subtable
+readAt rtl bytes at = subtableOf rtl at (lengthAt bytes at) (u32At bytes (at + 4))
+
+-- a head of which these lie in the table, and no other, is read
 module _ (rtl : Bool) (bytes : List ℕ) (version at : ℕ) where
   u32-there : (i : ℕ) → at + i + 4 ≤ length bytes → readU32 (drop at bytes) i ≡ U32.Got (u32At bytes (at + i))
   u32-there i h = readU32-got (drop at bytes) i (omega (arith, h, length-drop at bytes)) ∙ ap U32.Got (u32-from bytes at i)
@@ -44,11 +51,11 @@ module _ (rtl : Bool) (bytes : List ℕ) (version at : ℕ) where
   u32-cut : (i : ℕ) → length bytes < at + i + 4 → readU32 (drop at bytes) i ≡ U32.Short
   u32-cut i h = readU32-short (drop at bytes) i (omega (arith, h, length-drop at bytes))
 
-  head-reads : HeadLies bytes version at → headAt rtl bytes version at ≡ At (subtableAt rtl bytes at)
+  head-reads : at + fewOf version ≤ length bytes → headAt rtl bytes version at ≡ At (readAt rtl bytes at)
   unfolding headIn
   head-reads h = go (ltb version 4) refl
     where
-      go : (t : Bool) → ltb version 4 ≡ t → headAt rtl bytes version at ≡ At (subtableAt rtl bytes at)
+      go : (t : Bool) → ltb version 4 ≡ t → headAt rtl bytes version at ≡ At (readAt rtl bytes at)
       go true p =
           let k : at + 8 ≤ length bytes = rw p at h in
           rw (size-there (omega (arith, k)), u32-there 4 (omega (arith, k)), p, headIn)
@@ -56,7 +63,7 @@ module _ (rtl : Bool) (bytes : List ℕ) (version at : ℕ) where
           let k : at + 12 ≤ length bytes = rw p at h in
           rw (size-there (omega (arith, k)), u32-there 4 (omega (arith, k)), p, u32-there 8 (omega (arith, k)), headIn)
 
-  head-cut : length bytes < at + ifLt version 4 8 12 → headAt rtl bytes version at ≡ Cut
+  head-cut : length bytes < at + fewOf version → headAt rtl bytes version at ≡ Cut
   unfolding headIn
   head-cut h = go (ltb version 4) (readU32 (drop at bytes) 0) (readU32 (drop at bytes) 4) refl refl refl
     where
@@ -71,25 +78,39 @@ module _ (rtl : Bool) (bytes : List ℕ) (version at : ℕ) where
           let k : length bytes < at + 12 = rw p at h in
           rw (e, f, p, u32-cut 8 (omega (arith, k)), headIn)
 
-  head-only : (s : Subtable) → headAt rtl bytes version at ≡ At s → HeadLies bytes version at
+  head-only : (s : Subtable) → headAt rtl bytes version at ≡ At s → at + fewOf version ≤ length bytes
   head-only s e =
-      ⊎-elim (λ (h : length bytes < at + ifLt version 4 8 12). no-head e (head-cut h)) (λ (h : at + ifLt version 4 8 12 ≤ length bytes). h)
-      (lt-or-ge (length bytes) (at + ifLt version 4 8 12))
+      ⊎-elim (λ (h : length bytes < at + fewOf version). no-head e (head-cut h)) (λ (h : at + fewOf version ≤ length bytes). h)
+      (lt-or-ge (length bytes) (at + fewOf version))
 
-  behind : subtableAt rtl bytes at .next ≡ at + lengthAt bytes at
+  behind : readAt rtl bytes at .next ≡ at + lengthAt bytes at
   unfolding subtableOf
   behind = refl
 
+  told-same : told (readAt rtl bytes at) ≡ subtableAt bytes at
+  unfolding subtableOf
+  told-same = refl
+
+  few-enough : fewOf version ≤ headBytes
+  few-enough = go (ltb version 4) refl
+    where
+      go : (t : Bool) → ltb version 4 ≡ t → fewOf version ≤ headBytes
+      go true p = rw p (omega arith)
+      go false p = rw p (omega arith)
+
 -- where the list's own head lies in the table; else there is no subtable
 pub kerx-as-manual : (rtl : Bool) (bytes : List ℕ) → 8 ≤ length bytes
-    → AsManual (HeadLies bytes (versionOf bytes)) (subtableAt rtl bytes) (lengthAt bytes) 8 (countOf bytes) (walkOf rtl bytes)
+    → NoneInPart bytes (ifLt (versionOf bytes) 4 8 12) headBytes (lengthAt bytes) 8 (countOf bytes)
+    → AsManual bytes headBytes (subtableAt bytes) (lengthAt bytes) 8 (countOf bytes) (walkOf rtl bytes)
 unfolding walkOf listOf
-kerx-as-manual rtl bytes h =
-    subst (AsManual (HeadLies bytes (versionOf bytes)) (subtableAt rtl bytes) (lengthAt bytes) 8 (countOf bytes))
+kerx-as-manual rtl bytes h whole =
+    subst (AsManual bytes headBytes (subtableAt bytes) (lengthAt bytes) 8 (countOf bytes))
     (let e : heads (headAt rtl bytes (versionOf bytes)) (countOf bytes) 8 ≡ walkOf rtl bytes =
     rw (readU16-got bytes 0 (omega (arith, h)), readU32-got bytes 4 (omega (arith, h))) in e)
-    (walk-as-manual (headAt rtl bytes (versionOf bytes)) (HeadLies bytes (versionOf bytes)) (subtableAt rtl bytes) (lengthAt bytes)
-    (behind rtl bytes (versionOf bytes)) (head-reads rtl bytes (versionOf bytes)) (head-only rtl bytes (versionOf bytes)) 8 (countOf bytes))
+    (walk-as-manual bytes (fewOf (versionOf bytes)) headBytes (subtableAt bytes) (few-enough rtl bytes (versionOf bytes) 0)
+    (λ at. told-same rtl bytes (versionOf bytes) at) whole
+    (walk-read (headAt rtl bytes (versionOf bytes)) (λ at. at + fewOf (versionOf bytes) ≤ length bytes) (readAt rtl bytes) (lengthAt bytes)
+    (behind rtl bytes (versionOf bytes)) (head-reads rtl bytes (versionOf bytes)) (head-only rtl bytes (versionOf bytes)) 8 (countOf bytes)))
 
 pub kerx-without-list : (rtl : Bool) (bytes : List ℕ) → length bytes < 8 → walkOf rtl bytes ≡ []
 unfolding walkOf listOf heads
@@ -97,10 +118,10 @@ kerx-without-list rtl bytes h = rw (readU32-short bytes 4 (omega (arith, h)), he
 
 -- the answer for a pair
 module _ (bytes : List ℕ) (version left right : ℕ) where
-  head-is : 12 ≤ length bytes → headIn false version 0 bytes ≡ At (subtableAt false bytes 0)
+  head-is : 12 ≤ length bytes → headIn false version 0 bytes ≡ At (readAt false bytes 0)
   head-is h = head-reads false bytes version 0 (go (ltb version 4) refl)
     where
-      go : (t : Bool) → ltb version 4 ≡ t → 0 + ifLt version 4 8 12 ≤ length bytes
+      go : (t : Bool) → ltb version 4 ≡ t → 0 + fewOf version ≤ length bytes
       go true p = rw p (omega (arith, h))
       go false p = rw p (omega (arith, h))
 
@@ -123,11 +144,13 @@ module _ (bytes : List ℕ) (version left right : ℕ) where
       subst (λ (r : PairReply). Pairs′.AsManual r (OrderedValue bytes (tupleCount bytes version) 28 (pairCount bytes) left right)) (sym (pairs-are has))
       (ordered-as-manual bytes (tupleCount bytes version) 28 (pairCount bytes) left right none rising)
 
-  pub kerx-class-as-manual : HasClasses bytes → (glyphs : ℕ) (leftLayout rightLayout : Layout)
+  -- of glyphs that both tables cover
+  pub kerx-class-as-manual : HasClasses bytes → tupleCount bytes version ≡ 0 → (glyphs : ℕ) (leftLayout rightLayout : Layout)
       → Legible (drop (rowsOf bytes) bytes) glyphs left leftLayout → Legible (drop (columnsOf bytes) bytes) glyphs right rightLayout
+      → Covered (drop (rowsOf bytes) bytes) glyphs left leftLayout → Covered (drop (columnsOf bytes) bytes) glyphs right rightLayout
       → Pairs′.AsManual (pairIn bytes version left right)
       (ClassValue bytes glyphs (rowsOf bytes) (columnsOf bytes) (arrayOf bytes) left right leftLayout rightLayout)
-  kerx-class-as-manual has glyphs leftLayout rightLayout l r =
+  kerx-class-as-manual has none glyphs leftLayout rightLayout l r left-there right-there =
       subst
       (λ (x : PairReply). Pairs′.AsManual x (ClassValue bytes glyphs (rowsOf bytes) (columnsOf bytes) (arrayOf bytes) left right leftLayout rightLayout))
       (sym (classes-are has))

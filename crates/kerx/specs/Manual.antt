@@ -3,13 +3,13 @@
 -- on. The manual was not at hand: docs/DIFFERENCES.md says what these lines rest on.
 use Prim.Native.Nat.{ℕ, _+_, _%_, _≤_}
 use mathlib.Core.Path.{_≡_}
-use mathlib.Core.Bool.{Bool}
 use mathlib.Core.List.{List}
 use lib.ListN.{length}
+use Rattle.laws.specs.Bits.{isSet}
 use Rattle.laws.specs.Choose.{ifLt}
+use Rattle.laws.specs.Lists.{either}
 use Rattle.parse.specs.Reads.{u16At, u32At}
-use Rattle.kerning_lists.specs.declared.Subtable.{Subtable}
-use Rattle.kerx.specs.Heads.{subtableOf}
+use Rattle.kerning_lists.specs.Manual.{Told}
 
 abbrev pub versionOf : List ℕ → ℕ
 versionOf bytes = u16At bytes 0
@@ -20,13 +20,20 @@ countOf bytes = u32At bytes 4
 abbrev pub lengthAt : List ℕ → (at : ℕ) → ℕ
 lengthAt bytes at = u32At bytes at
 
--- the subtable whose head is at a place, in a run in one direction or the other
-abbrev pub subtableAt : (rtl : Bool) → List ℕ → (at : ℕ) → Subtable
-subtableAt rtl bytes at = subtableOf rtl at (lengthAt bytes at) (u32At bytes (at + 4))
+-- what the head at a place tells, of 12 bytes in every version; a run skips what is vertical (0x80000000), across the stream (0x40000000) or has variations
+-- (0x20000000). Which way it is worked through is a difference (docs/DIFFERENCES.md, row 35)
+abbrev pub headBytes : ℕ
+headBytes = 12
 
--- length and coverage lie in the table, and from version 4 on the tuple count
-abbrev pub HeadLies : List ℕ → (version at : ℕ) → Type 0
-HeadLies bytes version at = at + ifLt version 4 8 12 ≤ length bytes
+abbrev pub subtableAt : List ℕ → (at : ℕ) → Told
+subtableAt bytes at =
+    record {
+      place = at;
+      format = u32At bytes (at + 4) % 256;
+      skipped =
+          either (isSet (u32At bytes (at + 4)) 0x80000000)
+          (either (isSet (u32At bytes (at + 4)) 0x40000000) (isSet (u32At bytes (at + 4)) 0x20000000));
+    }
 
 -- a subtable of this format, with so many bytes before what it is made of
 pub record HasFormat (bytes : List ℕ) (format size : ℕ) : Type 0 where

@@ -19,11 +19,16 @@ use Rattle.parse.specs.declared.ReadU32.{ReadU32}
 use Rattle.parse.specs.declared.ReadU32.the-variants as U32
 use Rattle.parse.proofs.Laws.{inside-yes, inside-past, inside-cut, readU16-got, readU16-short, readU32-got, u32-value}
 use Rattle.ltag.specs.Ltag.{equal, compared, lookAt, seek, sought, indexOf, languageIndex}
-use Rattle.ltag.specs.Manual.{tagCount, rangePlace, tagPlace, tagSize, tagOf, Good, First, GoodUpTo, AsManual}
+use Rattle.ltag.specs.Manual.{tagCount, rangePlace, tagPlace, tagSize, tagOf, Lies, First, EmptyAtEnd, AsManual}
 use Rattle.ltag.specs.declared.Look.{Look}
 use Rattle.ltag.specs.declared.Look.the-variants.{Same, Other, Bad}
 use Rattle.ltag.proofs.Equal.{equal-same, equal-self}
 use Rattle.ltag.proofs.Seeking.{seek-same, seek-other, seek-bad, seek-none}
+
+-- the range of tag i is good to the crate: it lies in the table, and its bytes do and begin before the table's end
+pub record Good (bytes : List ℕ) (i : ℕ) : Type 0 where
+  pub lies : Lies bytes i
+  pub begins : tagPlace bytes i < length bytes
 
 -- the first number from i on, of as many as told, at which a look finds the name
 pub record Hit (look : ℕ → Look) (i left n : ℕ) : Type 0 where
@@ -88,9 +93,9 @@ module _ (bytes name : List ℕ) (i : ℕ) where
   unfolding lookAt
   good-look g =
       rw (
-        readU16-got bytes (12 + i * 4) (omega (arith, g .range)),
-        readU16-got bytes (12 + i * 4 + 2) (omega (arith, g .range)),
-        inside-yes bytes (tagPlace bytes i) (tagSize bytes i) (g .begins) (omega (arith, g .ends)),
+        readU16-got bytes (12 + i * 4) (omega (arith, g .lies .range)),
+        readU16-got bytes (12 + i * 4 + 2) (omega (arith, g .lies .range)),
+        inside-yes bytes (tagPlace bytes i) (tagSize bytes i) (g .begins) (omega (arith, g .lies .ends)),
         lookAt,
       )
 
@@ -108,7 +113,7 @@ module _ (bytes name : List ℕ) (i : ℕ) where
       ⊎-elim
       (λ (l : length bytes < tagPlace bytes i + tagSize bytes i).
       inr (rw (offset, size, inside-cut bytes (tagPlace bytes i) (tagSize bytes i) (omega arith), lookAt)))
-      (λ (l : tagPlace bytes i + tagSize bytes i ≤ length bytes). inl (record { range = h; begins = k; ends = l }))
+      (λ (l : tagPlace bytes i + tagSize bytes i ≤ length bytes). inl (record { lies = record { range = h; ends = l }; begins = k }))
       (lt-or-ge (length bytes) (tagPlace bytes i + tagSize bytes i)))
       (λ (k : length bytes ≤ tagPlace bytes i). inr (rw (offset, size, inside-past bytes (tagPlace bytes i) (tagSize bytes i) k, lookAt)))
       (lt-or-ge (tagPlace bytes i) (length bytes)))
@@ -146,40 +151,48 @@ module _ (bytes name : List ℕ) (i : ℕ) where
 module _ (bytes name : List ℕ) where
   count-read : (i : ℕ) → Good bytes i → indexOf bytes name ≡ seek (lookAt bytes name) (tagCount bytes) 0
   unfolding indexOf sought
-  count-read i g = rw (readU32-got bytes 8 (omega (arith, g .range)), indexOf)
+  count-read i g = rw (readU32-got bytes 8 (omega (arith, g .lies .range)), indexOf)
 
-  index-found : (i : ℕ) → indexOf bytes name ≡ Value i → First bytes name i × GoodUpTo bytes i
+  index-found : (i : ℕ) → indexOf bytes name ≡ Value i → First bytes name i
   unfolding indexOf sought
   index-found i e = go (readU32 bytes 8) refl
     where
-      go : (r : ReadU32) → readU32 bytes 8 ≡ r → First bytes name i × GoodUpTo bytes i
+      go : (r : ReadU32) → readU32 bytes 8 ≡ r → First bytes name i
       go U32.Short p = let z : _≡_ {A = ℕ} 0 1 = cc in absurd (omega arith)
       go (U32.Got count) p =
           let f : seek (lookAt bytes name) count 0 ≡ Value i = cc in
           let h = seek-hit (lookAt bytes name) count 0 i f in
-          let here = same-tag bytes name i (h .here) in (
-            record {
-              counted = omega (arith, h .counted, u32-value bytes 8 p .1);
-              same = here .1;
-              before = λ k l. other-tag bytes name k (h .before k (omega arith) l) .1;
-            },
-            λ k l.
-                ⊎-elim
-                (λ (b : k < i). other-tag bytes name k (h .before k (omega arith) b) .0)
-                (λ (b : i ≤ k). let same : i ≡ k = omega arith in rw same at (here .0))
-                (lt-or-ge k i),
-          )
+          let here = same-tag bytes name i (h .here) in
+          record {
+            counted = omega (arith, h .counted, u32-value bytes 8 p .1);
+            lies = here .0 .lies;
+            same = here .1;
+            before = λ k l m. other-tag bytes name k (h .before k (omega arith) l) .1;
+          }
 
-  index-there : (i : ℕ) → First bytes name i → GoodUpTo bytes i → indexOf bytes name ≡ Value i
-  index-there i f good =
+  index-there : (i : ℕ) → First bytes name i → ((k : ℕ) → k ≤ i → Lies bytes k) → ((k : ℕ) → k ≤ i → EmptyAtEnd bytes k → ⊥)
+      → indexOf bytes name ≡ Value i
+  index-there i f lie full =
       count-read i (good i (omega arith))
       ∙ hit-sought (lookAt bytes name) (tagCount bytes) 0 i
       (record {
         from = omega arith;
         counted = omega (arith, f .counted);
         here = look-same bytes name i (good i (omega arith)) (f .same);
-        before = λ k a b. look-other bytes name k (good k (omega arith)) (f .before k b);
+        before = λ k a b. look-other bytes name k (good k (omega arith)) (f .before k b (lie k (omega arith)));
       })
+    where
+      good : (k : ℕ) → k ≤ i → Good bytes k
+      good k h =
+          let l = lie k h in
+          record {
+            lies = l;
+            begins =
+                ⊎-elim
+                (λ (b : tagPlace bytes k < length bytes). b)
+                (λ (b : length bytes ≤ tagPlace bytes k). absurd (full k h (record { atEnd = omega (arith, l .ends); empty = omega (arith, l .ends) })))
+                (lt-or-ge (tagPlace bytes k) (length bytes));
+          }
 
   -- there is no third answer
   index-or-nothing : (indexOf bytes name ≡ Nothing) ⊎ ((i : ℕ) × (indexOf bytes name ≡ Value i))
@@ -191,11 +204,11 @@ module _ (bytes name : List ℕ) where
       go U32.Short = inl refl
       go (U32.Got count) = value-or-nothing (lookAt bytes name) count 0
 
-  index-absent : ((i : ℕ) → First bytes name i → GoodUpTo bytes i → ⊥) → indexOf bytes name ≡ Nothing
+  index-absent : ((i : ℕ) → First bytes name i → ⊥) → indexOf bytes name ≡ Nothing
   index-absent none =
       ⊎-elim
       (λ (e : indexOf bytes name ≡ Nothing). e)
-      (λ (v : (i : ℕ) × (indexOf bytes name ≡ Value i)). let f = index-found (v .0) (v .1) in absurd (none (v .0) (f .0) (f .1)))
+      (λ (v : (i : ℕ) × (indexOf bytes name ≡ Value i)). absurd (none (v .0) (index-found (v .0) (v .1))))
       index-or-nothing
 
 -- the answer for a table that is not too long

@@ -24,24 +24,26 @@ tagSize bytes i = u16At bytes (rangePlace i + 2)
 abbrev pub tagOf : List ℕ → ℕ → List ℕ
 tagOf bytes i = take (tagSize bytes i) (drop (tagPlace bytes i) bytes)
 
--- the range of tag i is good: it lies in the table, and so do the tag's bytes; for the crate they also begin before the table's end
-pub record Good (bytes : List ℕ) (i : ℕ) : Type 0 where
+-- tag i lies in the table, range and bytes
+pub record Lies (bytes : List ℕ) (i : ℕ) : Type 0 where
   pub range : rangePlace i + 4 ≤ length bytes
-  pub begins : tagPlace bytes i < length bytes
   pub ends : tagPlace bytes i + tagSize bytes i ≤ length bytes
 
--- tag i is the first whose bytes are the name
+-- the manual's answer for a name: the number of the first tag whose bytes are the name
 pub record First (bytes name : List ℕ) (i : ℕ) : Type 0 where
   pub counted : i < tagCount bytes
+  pub lies : Lies bytes i
   pub same : tagOf bytes i ≡ name
-  pub before : (k : ℕ) → k < i → tagOf bytes k ≡ name → ⊥
+  pub before : (k : ℕ) → k < i → Lies bytes k → tagOf bytes k ≡ name → ⊥
 
--- all ranges up to that of tag i are good
-abbrev pub GoodUpTo : List ℕ → ℕ → Type 0
-GoodUpTo bytes i = (k : ℕ) → k ≤ i → Good bytes k
+-- an empty tag at the table's very end, which the crate takes for a bad range
+pub record EmptyAtEnd (bytes : List ℕ) (i : ℕ) : Type 0 where
+  pub atEnd : tagPlace bytes i ≡ length bytes
+  pub empty : tagSize bytes i ≡ 0
 
--- an answer for a name is the manual's: the index of the first tag that is the name, where the ranges up to it are good, else nothing
+-- an answer is the manual's: just that number. The crate gives up at a bad range (docs/DIFFERENCES.md), so it finds the tag where all up to it lie in the
+-- table and none of them is empty at the end
 pub record AsManual (bytes name : List ℕ) (answer : Reply) : Type 0 where
-  pub found : (i : ℕ) → answer ≡ Value i → First bytes name i × GoodUpTo bytes i
-  pub there : (i : ℕ) → First bytes name i → GoodUpTo bytes i → answer ≡ Value i
-  pub absent : ((i : ℕ) → First bytes name i → GoodUpTo bytes i → ⊥) → answer ≡ Nothing
+  pub found : (i : ℕ) → answer ≡ Value i → First bytes name i
+  pub there : (i : ℕ) → First bytes name i → ((k : ℕ) → k ≤ i → Lies bytes k) → ((k : ℕ) → k ≤ i → EmptyAtEnd bytes k → ⊥) → answer ≡ Value i
+  pub absent : ((i : ℕ) → First bytes name i → ⊥) → answer ≡ Nothing

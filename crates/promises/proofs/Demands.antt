@@ -21,7 +21,8 @@ use Rattle.verbs.proofs.Laws.{from-place, place-from, placeOf-below, length-rea
 use Rattle.contextual.proofs.Manual.{by-manual, past-manual}
 use Rattle.ligature.proofs.Manual.{action-by-manual, action-past-manual, component-by-manual, component-past-manual, ligature-by-manual, ligature-past-manual}
 use Rattle.insertion.proofs.Manual.{glyphs-by-manual, list-by-manual, list-past-manual, list-at-end}
-use Rattle.chains.proofs.Manual.{chain-as-manual, chains-end, feature-as-manual, features-end, subtable-as-manual, subtables-end}
+use Rattle.chains.proofs.ManualWalk.{walk-as-manual}
+use Rattle.chains.proofs.Manual.{order-as-manual, reverse-as-manual, vertical-as-manual, chain-as-manual, chains-end, feature-as-manual, features-end, subtable-as-manual, subtables-end}
 use Rattle.kern.proofs.Cursors as KernCursor
 use Rattle.kern.proofs.Manual.{kern-as-manual, kern-pair-as-manual}
 use Rattle.kern_machine.proofs.Manual.{list-as-manual}
@@ -93,12 +94,16 @@ subtable-lists =
 chains : Chains
 chains =
     record {
+      order-as-manual = order-as-manual;
+      reverse-as-manual = reverse-as-manual;
+      vertical-as-manual = vertical-as-manual;
       chain-as-manual = chain-as-manual;
       chains-end = chains-end;
       feature-as-manual = feature-as-manual;
       features-end = features-end;
       subtable-as-manual = subtable-as-manual;
       subtables-end = subtables-end;
+      walk-as-manual = walk-as-manual;
     }
 
 kerning : Kerning

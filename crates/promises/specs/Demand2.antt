@@ -1,12 +1,13 @@
 -- Demand 2: on document 01's domain the results equal the crate's. The contracts say of every entry which definition it equals, and runs beside the
 -- crate compare them. Here are the theorems that join these definitions to Apple's manual, and to the verbs as document 01 draws them. The manual was
 -- not at hand: docs/DIFFERENCES.md says what stands in for it, and lists where the crate does otherwise, which the hypotheses here leave out.
-use Prim.Native.Nat.{ℕ, suc, _+_, _*_, _<_, _≤_}
+use Prim.Native.Nat.{ℕ, suc, _+_, _*_, _-_, _<_, _≤_}
 use mathlib.Core.Path.{_≡_}
 use mathlib.Core.Bool.{Bool}
 use mathlib.Core.List.{List}
-use lib.ListN.{length, getD, drop}
-use Rattle.answers.specs.Limits.{tableLimit}
+use lib.ListN.{length, getD, take, drop}
+use Rattle.laws.specs.Choose.{ifLt}
+use Rattle.answers.specs.Limits.{tableLimit, headLimit}
 use Rattle.parse.specs.Reads.{u8At, u16At, u32At, readU16}
 use Rattle.parse.specs.declared.ReadU16.the-variants as U16
 use Rattle.parse.specs.declared.ReadU32.the-variants as U32
@@ -37,14 +38,18 @@ use Rattle.ligature.specs.Manual.{actionNumber, componentNumber, ligatureNumber
 use Rattle.insertion.specs.Lists.{listOf, glyphsAt}
 use Rattle.insertion.specs.Manual.{glyphsFrom}
 use Rattle.insertion.specs.declared.Listed.the-variants as Listed
-use Rattle.chains.specs.Lists.{cursor, chainsFrom, nextChain, nextFeature, nextSubtable}
-use Rattle.chains.specs.Manual.{Lie, chainTotal, chainPlace, featureTotal, featurePlace, subtableTotal, subtablePlace, manualChain, manualFeature, manualSubtable, afterChains, afterFeatures, afterSubtables}
+use Rattle.chains.specs.Orders.{orderOf, isReversed, isVertical}
+use Rattle.chains.specs.Lists.{chainsFrom, nextChain, nextFeature, nextSubtable}
+use Rattle.chains.specs.Followed.{afterChains, afterFeatures, afterSubtables}
+use Rattle.chains.specs.Walk.{walkOf}
+use Rattle.chains.specs.Manual.{manualOrder, manualReversed, onlyVertical, Lie, EndsAt, chainTotal, chainPlace, featureTotal, featurePlace, subtableTotal, subtablePlace, manualChain, manualFeature, manualSubtable, manualHeads}
 use Rattle.chains.specs.declared.NextChain.the-variants as Chain
 use Rattle.chains.specs.declared.NextFeature.the-variants as Feature
 use Rattle.chains.specs.declared.NextSubtable.the-variants as Subtable
-use Rattle.pairs.specs.Manual.{Rising, OrderedValue, ClassValue, Legible}
+use Rattle.pairs.specs.Manual.{Rising, OrderedValue, ClassValue, Legible, Covered}
 use Rattle.pairs.specs.Manual as Pair
 use Rattle.kerning_lists.specs.Manual as List′
+use Rattle.kerning_lists.specs.Manual.{NoneInPart}
 use Rattle.kern.specs.Heads as KernWalk
 use Rattle.kern.specs.Kern as KernPair
 use Rattle.kern.specs.Manual as Kern
@@ -133,58 +138,69 @@ pub record SubtableLists : Type 0 where
   pub list-at-end : (bytes : List ℕ) (number count : ℕ) → (number ≡ 0xFFFF → ⊥) → 20 ≤ length bytes
       → length bytes ≤ u32At bytes 16 + number * 2 → listOf bytes number count ≡ Listed.Short
 
--- morx's chains, features and subtables, on lists whose heads lie in the table.
+-- morx's coverage, chains, features and subtables.
 pub record Chains : Type 0 where
-  -- chain i is the manual's, and the list ends behind the last
+  -- order, reversal and vertical-only are what the manual's table says of the coverage's bits
+  pub order-as-manual : (coverage : ℕ) → orderOf coverage ≡ manualOrder coverage
+  pub reverse-as-manual : (coverage : ℕ) (rightToLeft : Bool) → isReversed (orderOf coverage) rightToLeft ≡ manualReversed coverage rightToLeft
+  pub vertical-as-manual : (coverage : ℕ) → isVertical coverage ≡ onlyVertical coverage
+  -- chain i is the manual's, and the list ends where the manual's does: at its count, or at the first head that does not lie in the table
   pub chain-as-manual : (table : List ℕ) (start : ℕ) → start + 8 ≤ length table → (i : ℕ) → i < chainTotal table start
       → Lie table 16 (chainPlace table start) (suc i)
-      → nextChain table (afterChains table i (chainsFrom table start)) ≡ Chain.At (manualChain table start i)
-  pub chains-end : (table : List ℕ) (start : ℕ) → start + 8 ≤ length table → Lie table 16 (chainPlace table start) (chainTotal table start)
-      → nextChain table (afterChains table (chainTotal table start) (chainsFrom table start)) ≡ Chain.End
-  -- feature j of a chain is the manual's, and the list ends behind the last
+      → nextChain table (afterChains table i (chainsFrom table start))
+      ≡ Chain.At (manualChain table (chainPlace table start i) (chainTotal table start - suc i))
+  pub chains-end : (table : List ℕ) (start : ℕ) → start + 8 ≤ length table → (n : ℕ)
+      → EndsAt table 16 (chainPlace table start) (chainTotal table start) n
+      → nextChain table (afterChains table n (chainsFrom table start)) ≡ Chain.End
+  -- so are feature j of a chain
   pub feature-as-manual : (table : List ℕ) (chain j : ℕ) → j < featureTotal table chain → Lie table 12 (featurePlace table chain) (suc j)
-      → nextFeature table (afterFeatures table j (cursor (featurePlace table chain 0) (featureTotal table chain)))
-      ≡ Feature.At (manualFeature table chain j)
-  pub features-end : (table : List ℕ) (chain : ℕ) → Lie table 12 (featurePlace table chain) (featureTotal table chain)
-      → nextFeature table (afterFeatures table (featureTotal table chain) (cursor (featurePlace table chain 0) (featureTotal table chain)))
-      ≡ Feature.End
-  -- subtable k of a chain is the manual's, and the list ends behind the last
+      → nextFeature table (afterFeatures table j (manualChain table chain 0 .features))
+      ≡ Feature.At (manualFeature table (featurePlace table chain j) (featureTotal table chain - suc j))
+  pub features-end : (table : List ℕ) (chain n : ℕ) → EndsAt table 12 (featurePlace table chain) (featureTotal table chain) n
+      → nextFeature table (afterFeatures table n (manualChain table chain 0 .features)) ≡ Feature.End
+  -- and subtable k
   pub subtable-as-manual : (table : List ℕ) (chain k : ℕ) → k < subtableTotal table chain → Lie table 12 (subtablePlace table chain) (suc k)
-      → nextSubtable table (afterSubtables table k (cursor (subtablePlace table chain 0) (subtableTotal table chain)))
-      ≡ Subtable.At (manualSubtable table chain k)
-  pub subtables-end : (table : List ℕ) (chain : ℕ) → Lie table 12 (subtablePlace table chain) (subtableTotal table chain)
-      → nextSubtable table (afterSubtables table (subtableTotal table chain) (cursor (subtablePlace table chain 0) (subtableTotal table chain)))
-      ≡ Subtable.End
+      → nextSubtable table (afterSubtables table k (manualChain table chain 0 .subtables))
+      ≡ Subtable.At (manualSubtable table (subtablePlace table chain k) (subtableTotal table chain - suc k))
+  pub subtables-end : (table : List ℕ) (chain n : ℕ) → EndsAt table 12 (subtablePlace table chain) (subtableTotal table chain) n
+      → nextSubtable table (afterSubtables table n (manualChain table chain 0 .subtables)) ≡ Subtable.End
+  -- the heads that a run walks over are the manual's, chain 0, its subtables, chain 1, and so on: as many of them as a run may count, and one more
+  pub walk-as-manual : (table : List ℕ) (start : ℕ) → walkOf table start ≡ take (suc headLimit) (manualHeads table start)
 
 -- kern and kerx.
 pub record Kerning : Type 0 where
   -- kern's subtable k begins behind the lengths that the heads before it tell, in both editions, and is in the walk exactly when it is counted and those
-  -- heads lie in the table; so does kerx's
-  pub kern-as-manual : (bytes : List ℕ) → Kern.firstOf bytes ≤ length bytes
-      → List′.AsManual (Kern.HeadLies bytes) (Kern.subtableAt bytes (Kern.versionOf bytes)) (Kern.lengthAt bytes (Kern.versionOf bytes))
-      (Kern.firstOf bytes) (Kern.countOf bytes) (KernWalk.walkOf bytes)
+  -- heads lie in the table, of which none is to lie there in part; so does kerx's
+  pub kern-as-manual : (edition : Kern.Edition) (bytes : List ℕ) → Kern.HasVersion edition bytes → Kern.firstOf edition ≤ length bytes
+      → NoneInPart bytes 6 (Kern.headBytes edition) (Kern.lengthAt edition bytes) (Kern.firstOf edition) (Kern.countOf edition bytes)
+      → List′.AsManual bytes (Kern.headBytes edition) (Kern.subtableAt edition bytes) (Kern.lengthAt edition bytes)
+      (Kern.firstOf edition) (Kern.countOf edition bytes) (KernWalk.walkOf bytes)
   pub kerx-as-manual : (rtl : Bool) (bytes : List ℕ) → 8 ≤ length bytes
-      → List′.AsManual (Kerx.HeadLies bytes (Kerx.versionOf bytes)) (Kerx.subtableAt rtl bytes) (Kerx.lengthAt bytes) 8 (Kerx.countOf bytes)
-      (KerxWalk.walkOf rtl bytes)
+      → NoneInPart bytes (ifLt (Kerx.versionOf bytes) 4 8 12) Kerx.headBytes (Kerx.lengthAt bytes) 8 (Kerx.countOf bytes)
+      → List′.AsManual bytes Kerx.headBytes (Kerx.subtableAt bytes) (Kerx.lengthAt bytes) 8 (Kerx.countOf bytes) (KerxWalk.walkOf rtl bytes)
   -- a pair's answer is DONE with just the value that the manual has for it, and NOTHING exactly when it has none: on ordered pairs in rising order
   -- (in kerx without tuples)
-  pub kern-pair-as-manual : (bytes : List ℕ) (version left right : ℕ) → Kern.HasPairs bytes version
-      → Rising bytes (Kern.firstPair version) (Kern.pairCount bytes version)
-      → Pair.AsManual (KernPair.pairIn bytes version left right)
-      (OrderedValue bytes 0 (Kern.firstPair version) (Kern.pairCount bytes version) left right)
+  pub kern-pair-as-manual : (edition : Kern.Edition) (bytes : List ℕ) (left right : ℕ) → Kern.HasPairs edition bytes
+      → Rising bytes (Kern.firstPair edition) (Kern.pairCount edition bytes)
+      → Pair.AsManual (KernPair.pairIn bytes (Kern.versionNumber edition) left right)
+      (OrderedValue bytes 0 (Kern.firstPair edition) (Kern.pairCount edition bytes) left right)
   pub kerx-pair-as-manual : (bytes : List ℕ) (version left right : ℕ) → Kerx.HasPairs bytes → Kerx.tupleCount bytes version ≡ 0
       → Rising bytes 28 (Kerx.pairCount bytes)
       → Pair.AsManual (KerxPair.pairIn bytes version left right)
       (OrderedValue bytes (Kerx.tupleCount bytes version) 28 (Kerx.pairCount bytes) left right)
-  -- and on class pairs, where both lookups are read alike
-  pub kerx-class-as-manual : (bytes : List ℕ) (version left right : ℕ) → Kerx.HasClasses bytes → (glyphs : ℕ) (leftLayout rightLayout : Lookup.Layout)
+  -- and on class pairs without tuples, of glyphs that both lookups cover, in the reading of them that is taken for the manual's
+  pub kerx-class-as-manual : (bytes : List ℕ) (version left right : ℕ) → Kerx.HasClasses bytes → Kerx.tupleCount bytes version ≡ 0
+      → (glyphs : ℕ) (leftLayout rightLayout : Lookup.Layout)
       → Legible (drop (Kerx.rowsOf bytes) bytes) glyphs left leftLayout
       → Legible (drop (Kerx.columnsOf bytes) bytes) glyphs right rightLayout
+      → Covered (drop (Kerx.rowsOf bytes) bytes) glyphs left leftLayout
+      → Covered (drop (Kerx.columnsOf bytes) bytes) glyphs right rightLayout
       → Pair.AsManual (KerxPair.pairIn bytes version left right)
       (ClassValue bytes glyphs (Kerx.rowsOf bytes) (Kerx.columnsOf bytes) (Kerx.arrayOf bytes) left right leftLayout rightLayout)
-  -- what kern's machine adds for an entry, along the stream, is the manual's whole list: a number for each place popped, up to an odd one or the empty
-  -- stack; the step ends exactly when such a number does not lie in the table
-  pub list-as-manual : (bytes : List ℕ) (flags : ℕ) (stack : List ℕ) (depth used : ℕ) → WholeList bytes flags stack depth used
+  -- what kern's machine adds for an entry, along the stream or across it, is the manual's whole list: a number for each place popped, up to an odd one or
+  -- the empty stack; the step ends exactly when such a number does not lie in the table
+  pub list-as-manual : (bytes : List ℕ) (crossed : Bool) (flags : ℕ) (stack : List ℕ) (depth used : ℕ)
+      → WholeList bytes crossed flags stack depth used
 
 pub record Demand2 : Type 0 where
   pub lookups : Lookups
@@ -193,7 +209,8 @@ pub record Demand2 : Type 0 where
   pub subtable-lists : SubtableLists
   pub chains : Chains
   pub kerning : Kerning
-  -- the index of a language is that of the first tag whose bytes are the name, where no range up to it is bad, and it is found wherever that is so
+  -- the index of a language is that of the first tag whose bytes are the name; it is found where all tags up to it lie in the table, none of them empty at
+  -- its end
   pub index-as-manual : (table : List ℕ) (start : ℕ) (name : List ℕ) → length table ≤ tableLimit
       → Ltag.AsManual (drop start table) name (languageIndex table start name)
   -- reading from a start on is reading that much further behind

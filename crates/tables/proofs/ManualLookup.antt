@@ -17,7 +17,7 @@ use Rattle.tables.specs.Search.{searched}
 use Rattle.tables.specs.Survey.{scanned, surveyIn, surveyAt}
 use Rattle.tables.specs.Order.{Good, InOrder, Holds, TheOne, firstOf, lastOf}
 use Rattle.tables.specs.Lookup.{elementAt, elementOf, elementIn, inRecords, trimmedAt, inFormat, lookupAt}
-use Rattle.tables.specs.ManualLookup.{Layout, simpleArray, units, trimmedArray, extendedTrimmedArray, formatNumber, unitSize, unitCount, unitPlace, UnitHolds, elementPlace, Lies, Alike, AsManual}
+use Rattle.tables.specs.ManualLookup.{Units, segments, segmentArrays, singles, Layout, simpleArray, units, trimmedArray, extendedTrimmedArray, formatNumber, unitSize, unitCount, unitPlace, unitBytes, firstGlyph, lastGlyph, UnitHolds, elementPlace, Lies, Alike, AsManual}
 use Rattle.tables.specs.declared.records.Format.the-variants.{Simple, Records, Trimmed}
 use Rattle.tables.specs.declared.records.Keys.the-variants.{Glyphs}
 use Rattle.tables.specs.declared.records.Kind.{Kind}
@@ -128,47 +128,79 @@ module _ (bytes : List ℕ) (glyphs glyph head : ℕ) (layout : Layout) where
           go Short f = rw (f, trimmedAt)
           go (Got n) f = rw (f, readU16-short bytes (head + 2) (omega arith), trimmedAt)
 
--- formats 2, 4 and 6
-module _ (bytes : List ℕ) (kind : Kind) (glyph : ℕ) (sizes : unitSize bytes ≡ strideOf kind) where
-  same-place : (i : ℕ) → unitPlace bytes i ≡ recordPlace 12 kind i
-  same-place i = ap (λ (n : ℕ). 12 + i * n) sizes
+-- formats 2, 4 and 6: the manual's units are the crate's records
+kindOf : Units → Kind
+kindOf segments = Ranges
+kindOf segmentArrays = Arrays
+kindOf singles = Singles
 
-  -- a unit of the manual is a record of the crate; below 0xFFFF none is a sentinel
-  to-record : (i : ℕ) → UnitHolds bytes kind glyph i → Holds (firstOf bytes kind) (lastOf bytes kind) (unitCount bytes) glyph i
-  to-record i u =
+module _ (bytes : List ℕ) where
+  same-size : (u : Units) → unitBytes u ≡ strideOf (kindOf u)
+  unfolding kindOf
+  same-size segments = refl
+  same-size segmentArrays = refl
+  same-size singles = refl
+
+  same-first : (u : Units) (place : ℕ) → firstGlyph bytes u place ≡ firstAt bytes (kindOf u) place
+  unfolding kindOf
+  same-first segments place = refl
+  same-first segmentArrays place = refl
+  same-first singles place = refl
+
+  same-last : (u : Units) (place : ℕ) → lastGlyph bytes u place ≡ lastAt bytes place
+  same-last segments place = refl
+  same-last segmentArrays place = refl
+  same-last singles place = refl
+
+module _ (bytes : List ℕ) (u : Units) (glyph : ℕ) (sizes : unitSize bytes ≡ unitBytes u) where
+  same-place : (i : ℕ) → unitPlace bytes i ≡ recordPlace 12 (kindOf u) i
+  same-place i = ap (λ (n : ℕ). 12 + i * n) (sizes ∙ same-size bytes u)
+
+  first-is : (i : ℕ) → firstGlyph bytes u (unitPlace bytes i) ≡ firstOf bytes (kindOf u) i
+  first-is i = same-first bytes u (unitPlace bytes i) ∙ ap (firstAt bytes (kindOf u)) (same-place i)
+
+  last-is : (i : ℕ) → lastGlyph bytes u (unitPlace bytes i) ≡ lastOf bytes (kindOf u) i
+  last-is i = same-last bytes u (unitPlace bytes i) ∙ ap (lastAt bytes) (same-place i)
+
+  to-record : (i : ℕ) → UnitHolds bytes u glyph i → Holds (firstOf bytes (kindOf u)) (lastOf bytes (kindOf u)) (unitCount bytes) glyph i
+  to-record i h =
       record {
-        counted = u .counted;
-        above = subst (λ (p : ℕ). firstAt bytes kind p ≤ glyph) (same-place i) (u .above);
-        below = subst (λ (p : ℕ). glyph ≤ lastAt bytes p) (same-place i) (u .below);
+        counted = h .counted;
+        above = subst (λ (n : ℕ). n ≤ glyph) (first-is i) (h .above);
+        below = subst (λ (n : ℕ). glyph ≤ n) (last-is i) (h .below);
       }
 
-  to-unit : glyph < 65535 → (i : ℕ) → Holds (firstOf bytes kind) (lastOf bytes kind) (unitCount bytes) glyph i → UnitHolds bytes kind glyph i
+  -- below 0xFFFF none is a sentinel
+  to-unit : glyph < 65535 → (i : ℕ) → Holds (firstOf bytes (kindOf u)) (lastOf bytes (kindOf u)) (unitCount bytes) glyph i → UnitHolds bytes u glyph i
   to-unit small i r =
-      let low : firstAt bytes kind (unitPlace bytes i) ≤ glyph = subst⁻¹ (λ (p : ℕ). firstAt bytes kind p ≤ glyph) (same-place i) (r .above) in
+      let low : firstGlyph bytes u (unitPlace bytes i) ≤ glyph = subst⁻¹ (λ (n : ℕ). n ≤ glyph) (first-is i) (r .above) in
       record {
         counted = r .counted;
         above = low;
-        below = subst⁻¹ (λ (p : ℕ). glyph ≤ lastAt bytes p) (same-place i) (r .below);
+        below = subst⁻¹ (λ (n : ℕ). glyph ≤ n) (last-is i) (r .below);
         real = λ f l. omega (arith, low, f, small);
       }
 
 -- the element of a record that lies in the table is read where the manual says
-element-of : (bytes : List ℕ) (kind : Kind) (glyph i : ℕ) → Good bytes kind i
-    → elementOf bytes kind (recordPlace 12 kind i) glyph ≡ elementAt bytes (elementPlace bytes kind glyph (recordPlace 12 kind i))
-unfolding elementOf
-element-of bytes Ranges glyph i g = refl
-element-of bytes Singles glyph i g = refl
-element-of bytes Arrays glyph i g =
+element-of : (bytes : List ℕ) (u : Units) (glyph i : ℕ) → Good bytes (kindOf u) i
+    → elementOf bytes (kindOf u) (recordPlace 12 (kindOf u) i) glyph ≡ elementAt bytes (elementPlace bytes u glyph (recordPlace 12 (kindOf u) i))
+unfolding kindOf elementOf
+element-of bytes segments glyph i g = refl
+element-of bytes singles glyph i g = refl
+element-of bytes segmentArrays glyph i g =
     rw (
       readU16-got bytes (recordPlace 12 Arrays i + 2) (omega (arith, g .whole)),
       readU16-got bytes (recordPlace 12 Arrays i + 4) (omega (arith, g .whole)),
       elementOf,
     )
 
-module _ (bytes : List ℕ) (glyphs glyph : ℕ) (kind : Kind) (e : lookupAt bytes glyph ≡ inRecords bytes kind glyph)
-    (sizes : unitSize bytes ≡ strideOf kind) (small : glyph < 65535) (count : readU16 bytes 4 ≡ Got (unitCount bytes))
-    (all : InOrder bytes kind (unitCount bytes)) where
-  units-as-manual : AsManual bytes glyphs glyph (units kind)
+module _ (bytes : List ℕ) (glyphs glyph : ℕ) (u : Units) (e : lookupAt bytes glyph ≡ inRecords bytes (kindOf u) glyph)
+    (sizes : unitSize bytes ≡ unitBytes u) (small : glyph < 65535) (count : readU16 bytes 4 ≡ Got (unitCount bytes))
+    (all : InOrder bytes (kindOf u) (unitCount bytes)) where
+  abbrev kind : Kind
+  kind = kindOf u
+
+  units-as-manual : AsManual bytes glyphs glyph (units u)
   unfolding inRecords elementIn Lies
   units-as-manual = go (searched bytes 12 (Glyphs kind) (unitCount bytes) glyph) refl
     where
@@ -178,21 +210,21 @@ module _ (bytes : List ℕ) (glyphs glyph : ℕ) (kind : Kind) (e : lookupAt byt
       right : (s : Spot) → searched bytes 12 (Glyphs kind) (unitCount bytes) glyph ≡ s → TheOne (firstOf bytes kind) (lastOf bytes kind) (unitCount bytes) glyph s
       right s f = subst (TheOne (firstOf bytes kind) (lastOf bytes kind) (unitCount bytes) glyph) f (search-finds bytes kind (unitCount bytes) glyph all)
 
-      go : (s : Spot) → searched bytes 12 (Glyphs kind) (unitCount bytes) glyph ≡ s → AsManual bytes glyphs glyph (units kind)
+      go : (s : Spot) → searched bytes 12 (Glyphs kind) (unitCount bytes) glyph ≡ s → AsManual bytes glyphs glyph (units u)
       go Spot′.Cut f = absurd (right Spot′.Cut f)
       go Spot′.Absent f =
-          no-place bytes glyphs glyph (units kind) NotCovered (found-is Spot′.Absent f)
-          (λ place l h. right Spot′.Absent f (l .0) (to-record bytes kind glyph sizes (l .0) (l .1)))
+          no-place bytes glyphs glyph (units u) NotCovered (found-is Spot′.Absent f)
+          (λ place l h. right Spot′.Absent f (l .0) (to-record bytes u glyph sizes (l .0) (l .1)))
       go (Spot′.At i) f =
           let r = right (Spot′.At i) f in
-          let at = elementPlace bytes kind glyph (recordPlace 12 kind i) in
-          one-place bytes glyphs glyph (units kind) at
-          (found-is (Spot′.At i) f ∙ element-of bytes kind glyph i (all i (r .0 .counted)))
-          (i, to-unit bytes kind glyph sizes small i (r .0), ap (elementPlace bytes kind glyph) (sym (same-place bytes kind glyph sizes i)))
+          let at = elementPlace bytes u glyph (recordPlace 12 kind i) in
+          one-place bytes glyphs glyph (units u) at
+          (found-is (Spot′.At i) f ∙ element-of bytes u glyph i (all i (r .0 .counted)))
+          (i, to-unit bytes u glyph sizes small i (r .0), ap (elementPlace bytes u glyph) (sym (same-place bytes u glyph sizes i)))
           (λ place l.
           l .2
-          ∙ ap (λ (j : ℕ). elementPlace bytes kind glyph (unitPlace bytes j)) (r .1 (l .0) (to-record bytes kind glyph sizes (l .0) (l .1)))
-          ∙ ap (elementPlace bytes kind glyph) (same-place bytes kind glyph sizes i))
+          ∙ ap (λ (j : ℕ). elementPlace bytes u glyph (unitPlace bytes j)) (r .1 (l .0) (to-record bytes u glyph sizes (l .0) (l .1)))
+          ∙ ap (elementPlace bytes u glyph) (same-place bytes u glyph sizes i))
 
 -- a survey that passes has read the count, and found all records in order
 passed : (bytes : List ℕ) (kind : Kind) → surveyIn bytes (Records kind) ≡ Sorted
@@ -209,26 +241,26 @@ passed bytes kind e =
     (c, survey-sound bytes kind (unitCount bytes) (sym (rw (c, surveyIn)) ∙ e)))
     (lt-or-ge (length bytes) 6)
 
-survey-of : (bytes : List ℕ) (kind : Kind) → readU16 bytes 0 ≡ Got (formatNumber (units kind)) → surveyAt bytes ≡ surveyIn bytes (Records kind)
-unfolding surveyAt formatOf
-survey-of bytes Ranges e = rw (e, surveyAt)
-survey-of bytes Arrays e = rw (e, surveyAt)
-survey-of bytes Singles e = rw (e, surveyAt)
+survey-of : (bytes : List ℕ) (u : Units) → readU16 bytes 0 ≡ Got (formatNumber (units u)) → surveyAt bytes ≡ surveyIn bytes (Records (kindOf u))
+unfolding kindOf surveyAt formatOf
+survey-of bytes segments e = rw (e, surveyAt)
+survey-of bytes segmentArrays e = rw (e, surveyAt)
+survey-of bytes singles e = rw (e, surveyAt)
 
-records-of : (bytes : List ℕ) (kind : Kind) (glyph : ℕ) → readU16 bytes 0 ≡ Got (formatNumber (units kind)) → lookupAt bytes glyph ≡ inRecords bytes kind glyph
-unfolding lookupAt inFormat formatOf
-records-of bytes Ranges glyph e = rw (e, lookupAt)
-records-of bytes Arrays glyph e = rw (e, lookupAt)
-records-of bytes Singles glyph e = rw (e, lookupAt)
+records-of : (bytes : List ℕ) (u : Units) (glyph : ℕ) → readU16 bytes 0 ≡ Got (formatNumber (units u)) → lookupAt bytes glyph ≡ inRecords bytes (kindOf u) glyph
+unfolding kindOf lookupAt inFormat formatOf
+records-of bytes segments glyph e = rw (e, lookupAt)
+records-of bytes segmentArrays glyph e = rw (e, lookupAt)
+records-of bytes singles glyph e = rw (e, lookupAt)
 
 -- in every format, where crate and manual read alike
 pub lookup-as-manual : (layout : Layout) (bytes : List ℕ) (glyphs glyph : ℕ) → readU16 bytes 0 ≡ Got (formatNumber layout)
     → Alike bytes glyphs glyph layout → AsManual bytes glyphs glyph layout
 unfolding Alike Lies lookupAt inFormat formatOf
 lookup-as-manual simpleArray bytes glyphs glyph e a = simple-as-manual bytes glyphs glyph e a
-lookup-as-manual (units kind) bytes glyphs glyph e a =
-    let (count, all) = passed bytes kind (sym (survey-of bytes kind e) ∙ a .2) in
-    units-as-manual bytes glyphs glyph kind (records-of bytes kind glyph e) (a .0) (a .1) count all
+lookup-as-manual (units u) bytes glyphs glyph e a =
+    let (count, all) = passed bytes (kindOf u) (sym (survey-of bytes u e) ∙ a .2) in
+    units-as-manual bytes glyphs glyph u (records-of bytes u glyph e) (a .0) (a .1) count all
 lookup-as-manual trimmedArray bytes glyphs glyph e a =
     trimmed-as-manual bytes glyphs glyph 2 trimmedArray (rw (e, lookupAt)) (λ place l. l) (λ place l. l)
 lookup-as-manual extendedTrimmedArray bytes glyphs glyph e a =

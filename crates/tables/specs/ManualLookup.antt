@@ -5,26 +5,28 @@ use mathlib.Core.Path.{_≡_}
 use mathlib.Core.List.{List}
 use lib.ListN.{length}
 use Rattle.parse.specs.Reads.{u16At}
-use Rattle.tables.specs.Records.{strideOf, firstAt, lastAt}
 use Rattle.tables.specs.Survey.{surveyAt}
 use Rattle.tables.specs.Lookup.{lookupAt}
-use Rattle.tables.specs.declared.records.Kind.{Kind}
-use Rattle.tables.specs.declared.records.Kind.the-variants.{Ranges, Arrays, Singles}
 use Rattle.tables.specs.declared.survey.Surveyed.the-variants.{Sorted}
 use Rattle.tables.specs.declared.lookup.Found.the-variants.{At}
 
--- the formats by name
+-- the formats by name; three of them are sorted units behind a search header
+pub data Units : Type 0 where
+  segments : Units
+  segmentArrays : Units
+  singles : Units
+
 pub data Layout : Type 0 where
   simpleArray : Layout
-  units : Kind → Layout
+  units : Units → Layout
   trimmedArray : Layout
   extendedTrimmedArray : Layout
 
 abbrev pub formatNumber : Layout → ℕ
 formatNumber simpleArray = 0
-formatNumber (units Ranges) = 2
-formatNumber (units Arrays) = 4
-formatNumber (units Singles) = 6
+formatNumber (units segments) = 2
+formatNumber (units segmentArrays) = 4
+formatNumber (units singles) = 6
 formatNumber trimmedArray = 8
 formatNumber extendedTrimmedArray = 10
 
@@ -38,18 +40,35 @@ unitCount bytes = u16At bytes 4
 abbrev pub unitPlace : List ℕ → ℕ → ℕ
 unitPlace bytes i = 12 + i * unitSize bytes
 
--- unit i is counted, spans the glyph, and is no sentinel, whose key words are all 0xFFFF
-pub record UnitHolds (bytes : List ℕ) (kind : Kind) (glyph i : ℕ) : Type 0 where
-  pub counted : i < unitCount bytes
-  pub above : firstAt bytes kind (unitPlace bytes i) ≤ glyph
-  pub below : glyph ≤ lastAt bytes (unitPlace bytes i)
-  pub real : firstAt bytes kind (unitPlace bytes i) ≡ 65535 → lastAt bytes (unitPlace bytes i) ≡ 65535 → ⊥
+-- a unit's bytes: last glyph, first glyph and element; last glyph, first glyph and the offset of an array; glyph and element
+abbrev pub unitBytes : Units → ℕ
+unitBytes segments = 6
+unitBytes segmentArrays = 6
+unitBytes singles = 4
 
--- where the element of a glyph lies, by the unit at a place that holds it
-abbrev pub elementPlace : List ℕ → Kind → ℕ → ℕ → ℕ
-elementPlace bytes Ranges glyph place = place + 4
-elementPlace bytes Arrays glyph place = u16At bytes (place + 4) + (glyph - firstAt bytes Arrays place) * 2
-elementPlace bytes Singles glyph place = place + 2
+-- the first and the last glyph of the unit at a place
+abbrev pub firstGlyph : List ℕ → Units → ℕ → ℕ
+firstGlyph bytes segments place = u16At bytes (place + 2)
+firstGlyph bytes segmentArrays place = u16At bytes (place + 2)
+firstGlyph bytes singles place = u16At bytes place
+
+abbrev pub lastGlyph : List ℕ → Units → ℕ → ℕ
+lastGlyph bytes segments place = u16At bytes place
+lastGlyph bytes segmentArrays place = u16At bytes place
+lastGlyph bytes singles place = u16At bytes place
+
+-- unit i is counted, spans the glyph, and is no sentinel, whose key words are all 0xFFFF
+pub record UnitHolds (bytes : List ℕ) (kind : Units) (glyph i : ℕ) : Type 0 where
+  pub counted : i < unitCount bytes
+  pub above : firstGlyph bytes kind (unitPlace bytes i) ≤ glyph
+  pub below : glyph ≤ lastGlyph bytes kind (unitPlace bytes i)
+  pub real : firstGlyph bytes kind (unitPlace bytes i) ≡ 65535 → lastGlyph bytes kind (unitPlace bytes i) ≡ 65535 → ⊥
+
+-- where the element of a glyph lies, by the unit at a place that holds it; an array's offset counts from the lookup's own start
+abbrev pub elementPlace : List ℕ → Units → ℕ → ℕ → ℕ
+elementPlace bytes segments glyph place = place + 4
+elementPlace bytes segmentArrays glyph place = u16At bytes (place + 4) + (glyph - u16At bytes (place + 2)) * 2
+elementPlace bytes singles glyph place = place + 2
 
 -- a trimmed array spans the glyph
 abbrev pub Spans : ℕ → ℕ → ℕ → Type 0
@@ -69,7 +88,7 @@ Lies bytes glyphs glyph extendedTrimmedArray place =
 -- bytes, for a glyph below 0xFFFF, on a table that the survey passes; in format 10 with elements of two bytes
 unfoldable pub Alike : List ℕ → ℕ → ℕ → Layout → Type 0
 Alike bytes glyphs glyph simpleArray = glyph < glyphs
-Alike bytes glyphs glyph (units kind) = (unitSize bytes ≡ strideOf kind) × (glyph < 65535) × (surveyAt bytes ≡ Sorted)
+Alike bytes glyphs glyph (units kind) = (unitSize bytes ≡ unitBytes kind) × (glyph < 65535) × (surveyAt bytes ≡ Sorted)
 Alike bytes glyphs glyph trimmedArray = Unit {0}
 Alike bytes glyphs glyph extendedTrimmedArray = unitSize bytes ≡ 2
 
