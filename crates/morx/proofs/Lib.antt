@@ -10,3 +10,4 @@ pub mod Closed
 mod Known
 pub mod Honesty
 pub mod Demand3
+pub mod Memory

@@ -74,30 +74,30 @@ module _ {X : Type 0} (part : Line → X) (kept : (first last verb : ℕ) (l : L
   unfolding R.machine
   rearrangement-step bytes states s k i g e = kept-window (R.next bytes states s i g e .edit)
 
-  kept-rearrangement : (bytes : List ℕ) (l : Line) → Kept part (R.worked bytes l .changes)
+  pub kept-rearrangement : (bytes : List ℕ) (l : Line) → Kept part (R.worked bytes l .changes)
   unfolding R.worked R.passed
   kept-rearrangement bytes l =
       kept-machine part (Call′.opened bytes 0) (R.machine (bodyOf bytes)) (R.rest R.fresh l 0) R.fresh l (rearrangement-step (bodyOf bytes))
 
-window-homes : (first last verb : ℕ) (l : Line) → apply (Change.window first last verb) l .homes ≡ l .homes
+pub window-homes : (first last verb : ℕ) (l : Line) → apply (Change.window first last verb) l .homes ≡ l .homes
 unfolding apply
 window-homes first last verb l = refl
 
-window-used : (first last verb : ℕ) (l : Line) → apply (Change.window first last verb) l .used ≡ l .used
+pub window-used : (first last verb : ℕ) (l : Line) → apply (Change.window first last verb) l .used ≡ l .used
 unfolding apply
 window-used first last verb l = refl
 
 -- a glyph that is written leaves all but the glyphs
 module _ (at glyph : ℕ) (l : Line) where
-  write-tags : apply (Change.write at glyph) l .tags ≡ l .tags
+  pub write-tags : apply (Change.write at glyph) l .tags ≡ l .tags
   unfolding apply
   write-tags = refl
 
-  write-homes : apply (Change.write at glyph) l .homes ≡ l .homes
+  pub write-homes : apply (Change.write at glyph) l .homes ≡ l .homes
   unfolding apply
   write-homes = refl
 
-  write-used : apply (Change.write at glyph) l .used ≡ l .used
+  pub write-used : apply (Change.write at glyph) l .used ≡ l .used
   unfolding apply
   write-used = refl
 
@@ -108,11 +108,11 @@ module _ {X : Type 0} (part : Line → X) (kept : (at glyph : ℕ) (l : Line) �
   kept-writes [] = kept-none part
   kept-writes (w ∷ ws) = kept-more part (Change.write (w .at) (w .glyph)) (S.changesOf ws) (kept (w .at) (w .glyph)) (kept-writes ws)
 
-  contextual-step : (bytes : List ℕ) (states : States) (s : ContextualState) (k : Line) (i g : ℕ) (e : Bool) → Kept part (C.machine bytes states s k i g e .changes)
+  pub contextual-step : (bytes : List ℕ) (states : States) (s : ContextualState) (k : Line) (i g : ℕ) (e : Bool) → Kept part (C.machine bytes states s k i g e .changes)
   unfolding C.machine
   contextual-step bytes states s k i g e = kept-writes (C.next bytes states s i g e .writes)
 
-  kept-contextual : (bytes : List ℕ) (l : Line) → Kept part (CC.worked bytes l .changes)
+  pub kept-contextual : (bytes : List ℕ) (l : Line) → Kept part (CC.worked bytes l .changes)
   unfolding CC.worked C.passed
   kept-contextual bytes l =
       kept-machine part (CC.opened bytes) (C.machine (bodyOf bytes)) (C.rest C.fresh l 0) C.fresh l (contextual-step (bodyOf bytes))
@@ -128,7 +128,7 @@ module _ {X : Type 0} (part : Line → X) (kept : (at glyph : ℕ) (l : Line) �
   kept-below body glyphs (suc n) =
       kept-append part (N.writesBelow body glyphs n) (N.writesOf n (lookupAt body (getD glyphs n 0))) (kept-below body glyphs n) (kept-found n (lookupAt body (getD glyphs n 0)))
 
-  kept-noncontextual : (bytes : List ℕ) (l : Line) → Kept part (N.worked bytes l .changes)
+  pub kept-noncontextual : (bytes : List ℕ) (l : Line) → Kept part (N.worked bytes l .changes)
   unfolding N.worked N.passed
   kept-noncontextual bytes l = go (hasKind bytes 4)
     where
@@ -138,11 +138,11 @@ module _ {X : Type 0} (part : Line → X) (kept : (at glyph : ℕ) (l : Line) �
 
 -- ligatures leave the tags and the used length
 module _ (at glyph : ℕ) (parts : List ℕ) (l : Line) where
-  ligature-tags : apply (Change.ligature at glyph parts) l .tags ≡ l .tags
+  pub ligature-tags : apply (Change.ligature at glyph parts) l .tags ≡ l .tags
   unfolding apply
   ligature-tags = refl
 
-  ligature-used : apply (Change.ligature at glyph parts) l .used ≡ l .used
+  pub ligature-used : apply (Change.ligature at glyph parts) l .used ≡ l .used
   unfolding apply
   ligature-used = refl
 
@@ -153,17 +153,17 @@ module _ {X : Type 0} (part : Line → X) (kept : (at glyph : ℕ) (parts : List
   kept-ligations (m ∷ made) =
       kept-more part (Change.ligature (m .at) (m .glyph) (m .parts)) (L.changesOf made) (kept (m .at) (m .glyph) (m .parts)) (kept-ligations made)
 
-  ligature-step : (bytes : List ℕ) (states : States) (s : LigatureState) (k : Line) (i g : ℕ) (e : Bool) → Kept part (L.machine bytes states s k i g e .changes)
+  pub ligature-step : (bytes : List ℕ) (states : States) (s : LigatureState) (k : Line) (i g : ℕ) (e : Bool) → Kept part (L.machine bytes states s k i g e .changes)
   unfolding L.machine
   ligature-step bytes states s k i g e = kept-ligations (L.next bytes states (s .state) (L.stackIn s) i g e .made)
 
-  kept-ligature : (bytes : List ℕ) (l : Line) → Kept part (LC.worked bytes l .changes)
+  pub kept-ligature : (bytes : List ℕ) (l : Line) → Kept part (LC.worked bytes l .changes)
   unfolding LC.worked L.passed
   kept-ligature bytes l =
       kept-machine part (LC.opened bytes) (L.machine (bodyOf bytes)) (L.rest L.fresh l 0) L.fresh l (ligature-step (bodyOf bytes))
 
 -- insertions leave the homes
-insertion-homes : (at : ℕ) (new : List ℕ) (l : Line) → apply (Change.insertion at new) l .homes ≡ l .homes
+pub insertion-homes : (at : ℕ) (new : List ℕ) (l : Line) → apply (Change.insertion at new) l .homes ≡ l .homes
 unfolding apply
 insertion-homes at new l = refl
 
@@ -178,7 +178,7 @@ module _ {X : Type 0} (part : Line → X) (kept : (at : ℕ) (new : List ℕ) (l
       let step : InsertionStep = IM.next bytes states s (k .used) (length (k .glyphs)) i g e in
       kept-append part (IL.changesOf bytes (step .marked)) (IL.changesOf bytes (step .current)) (kept-inserted bytes (step .marked)) (kept-inserted bytes (step .current))
 
-  kept-insertion : (bytes : List ℕ) (l : Line) → Kept part (I.worked bytes l .changes)
+  pub kept-insertion : (bytes : List ℕ) (l : Line) → Kept part (I.worked bytes l .changes)
   unfolding I.worked IM.passed
   kept-insertion bytes l =
       kept-machine part (I.opened bytes) (IM.machine (bodyOf bytes)) (IM.rest IM.fresh l 0) IM.fresh l (insertion-step (bodyOf bytes))

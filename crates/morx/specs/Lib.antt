@@ -4,3 +4,4 @@ pub mod Run
 pub mod Heads
 pub mod Calls
 pub mod Sequence
+pub mod Memory

@@ -9,6 +9,7 @@ use Rattle.machine.proofs.Stalls.{stall-falls}
 use Rattle.morx.proofs.Heads.{heads-counted}
 use Rattle.morx.proofs.Demand3.{fresh-demand3, calls-honest}
 use Rattle.morx.proofs.Demand3 as Calls
+use Rattle.morx.proofs.Memory.{in-memory}
 use Rattle.shaper.proofs.Honesty.{shaped-runs}
 use Rattle.parse.proofs.Laws.{u8-from, u16-from, u32-from}
 use Rattle.tables.proofs.Finding.{search-finds, search-finds-pair}
@@ -141,6 +142,7 @@ demand3 =
       fresh-valid = fresh-valid;
       fresh-starts = fresh-starts;
       calls-honest = calls-honest;
+      in-memory = in-memory;
       over-changes = over-changes;
       known-edits = Edits.known;
     }

@@ -12,6 +12,7 @@ use Rattle.line.specs.Entries.{freshOf, freshTests}
 use Rattle.line.specs.History.{FromLine, FromFresh, Fits, Honest, leftBy, historyBy}
 use Rattle.line.specs.Known as Known
 use Rattle.morx.specs.Sequence.{Call, leaves, makes}
+use Rattle.morx.specs.Memory.{inMemory}
 
 pub record Demand3 : Type 0 where
   -- Demand 3 itself: from a fresh line, over any sequence of lone verbs, passes of every kind, steps that write the line and whole runs, refused
@@ -28,6 +29,8 @@ pub record Demand3 : Type 0 where
       → c < length (freshOf glyphs tags homes .homes) → Belongs (freshOf glyphs tags homes) c c
   -- on a valid line every call leaves what the changes that it states make of it, and these never exceed the room
   pub calls-honest : Honest leaves makes
+  -- the line that a call leaves is what stands in the caller's memory: the slices lent to be written as the entry's contract says, the others as they were
+  pub in-memory : (call : Call) (l : Line) → inMemory call l ≡ leaves call l
   -- any legal list of changes keeps demand 3, whoever makes it
   pub over-changes : (changes : List Change) (l : Line) → Valid l → Fits changes l → FromLine l (historyOf changes) (applyAll changes l)
   -- known cases by computation: a place pushed twice, a component twice, the ligature's own place among its components, and places off the line
