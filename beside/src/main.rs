@@ -4,6 +4,7 @@ mod classes;
 mod compare;
 mod contextual_pass;
 mod entries;
+mod entries_sample;
 mod hex;
 mod insertion_pass;
 mod kerning;
@@ -61,6 +62,7 @@ mod value;
 mod verbs;
 
 use compare::{Ask, Comparison, Count};
+use entries_sample::EntriesSample;
 use kerning::Kerning;
 use limit::Limited;
 use pipe::TheBox;
@@ -70,7 +72,7 @@ use sample::Sample;
 use std::process::ExitCode;
 
 const USAGE: &str = "usage: beside compare|trace CASES SEED SECONDS BOX-COMMAND.. | beside shape CASES SEED SECONDS \
-                     PROGRAM-COMMAND.. | beside sample FILE";
+                     PROGRAM-COMMAND.. | beside sample FILE | beside entries FILE";
 
 fn main() -> ExitCode {
     oracle::quiet_crate();
@@ -84,6 +86,7 @@ fn main() -> ExitCode {
             }
         }
         ["sample", file] => sample(file),
+        ["entries", file] => sample_entries(file),
         _ => failed(USAGE),
     }
 }
@@ -166,10 +169,24 @@ fn sample(file: &str) -> ExitCode {
     let mut sample = Sample::default();
     lookup::ask_sample(&mut sample, &mut Random::new(SAMPLE_SEED));
     shaper_sample::add_all(&mut sample, &mut Random::new(SAMPLE_SEED));
-    if let Err(error) = std::fs::write(file, &sample.bytes) {
+    write_sample(file, &sample.bytes, sample.cases)
+}
+
+/// The random cases that calls of every entry are picked from, besides all others.
+const SAMPLED_CASES: u64 = 20_000;
+
+fn sample_entries(file: &str) -> ExitCode {
+    let mut sample = EntriesSample::new(Random::new(SAMPLE_SEED));
+    ask_all(&mut sample, SAMPLED_CASES, SAMPLE_SEED, 0);
+    let (bytes, cases) = sample.finish();
+    write_sample(file, &bytes, cases as u64)
+}
+
+fn write_sample(file: &str, bytes: &[u8], cases: u64) -> ExitCode {
+    if let Err(error) = std::fs::write(file, bytes) {
         return failed(error);
     }
-    println!("{} cases in {} bytes", sample.cases, sample.bytes.len());
+    println!("{} cases in {} bytes", cases, bytes.len());
     ExitCode::SUCCESS
 }
 
