@@ -1,4 +1,5 @@
--- Where the lists of an insertion subtable lie, by the manual.
+-- Where the lists of an insertion subtable lie, by the manual, which was not at hand: docs/DIFFERENCES.md says what these
+-- lines rest on.
 use Prim.Native.Nat.{ℕ, _+_, _*_}
 use mathlib.Core.List.{List}
 use lib.ListN.{drop}

@@ -1,5 +1,5 @@
 -- Apple's manual on the subtables of a kerning table: the first begins at a place of its own, each other behind the one before, whose length its head
--- tells.
+-- tells. The manual was not at hand: docs/DIFFERENCES.md says what these lines rest on.
 use Prim.Native.Nat.{ℕ, zero, suc, _+_, _<_, _≤_}
 use mathlib.Core.Path.{_≡_}
 use mathlib.Core.Bool.{Bool}
