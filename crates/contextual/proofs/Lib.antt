@@ -5,3 +5,4 @@ mod Passes
 mod Calls
 pub mod Honesty
 pub mod Manual
+pub mod Turns

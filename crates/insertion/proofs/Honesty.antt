@@ -30,7 +30,7 @@ unfolding historyOf editsOf inserted added
 inserted-edit bytes Inserted′.None = refl
 inserted-edit bytes (Inserted′.At place count glyphs) = omega (arith, length-glyphsAt bytes glyphs count)
 
-step-fits : (bytes : List ℕ) (states : States) (s : InsertionState) (l : Line) (i g : ℕ) (e : Bool) → Valid l → Fits (machine bytes states s l i g e .changes) l
+pub step-fits : (bytes : List ℕ) (states : States) (s : InsertionState) (l : Line) (i g : ℕ) (e : Bool) → Valid l → Fits (machine bytes states s l i g e .changes) l
 unfolding machine
 step-fits bytes states s l i g e v =
     let step : InsertionStep = next bytes states s (l .used) (length (l .glyphs)) i g e in

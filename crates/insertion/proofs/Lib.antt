@@ -7,3 +7,4 @@ mod Steps
 mod Calls
 pub mod Honesty
 pub mod Manual
+pub mod Turns

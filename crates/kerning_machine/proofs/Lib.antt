@@ -5,3 +5,4 @@ pub mod Sound
 mod Passes
 mod Steps
 pub mod Calls
+pub mod Turns

@@ -25,20 +25,20 @@ use Rattle.kerning_machine.proofs.Sound.{Sound, next-sound}
 module _ (bytes : List ℕ) (kerning : Kerning) (glyphs : List ℕ) (used : ℕ) where
   -- one turn, by the answer of its step
   module _ (turns : ℕ) (s : KerningState) (i : ℕ) where
-    turn-goes : i < used → isDone (stepAt bytes kerning glyphs used s i .step .answer) ≡ true
+    pub turn-goes : i < used → isDone (stepAt bytes kerning glyphs used s i .step .answer) ≡ true
         → passFrom bytes kerning glyphs used (suc turns) s i
         ≡ after (stepAt bytes kerning glyphs used s i .additions)
         (passFrom bytes kerning glyphs used turns (stepAt bytes kerning glyphs used s i .step .state) (i + stepAt bytes kerning glyphs used s i .step .advance))
     unfolding passFrom
     turn-goes h e = rw (lt-ltb i used h, e, passFrom)
 
-    turn-stops : i < used → isDone (stepAt bytes kerning glyphs used s i .step .answer) ≡ false
+    pub turn-stops : i < used → isDone (stepAt bytes kerning glyphs used s i .step .answer) ≡ false
         → passFrom bytes kerning glyphs used (suc turns) s i
         ≡ record { answer = stepAt bytes kerning glyphs used s i .step .answer; additions = stepAt bytes kerning glyphs used s i .additions }
     unfolding passFrom
     turn-stops h e = rw (lt-ltb i used h, e, passFrom)
 
-    turn-ends : used ≤ i → passFrom bytes kerning glyphs used (suc turns) s i ≡ nothingAdded Answer′.Done
+    pub turn-ends : used ≤ i → passFrom bytes kerning glyphs used (suc turns) s i ≡ nothingAdded Answer′.Done
     unfolding passFrom
     turn-ends h = rw (le-ltb i used h, passFrom)
 

@@ -48,7 +48,7 @@ ends-bare (Action′.Adds sum) slot e = clash (sym e)
 ends-bare (Action′.Makes sum ligature last) slot e = clash (sym e)
 
 -- an empty stack stops the list
-none-left : (bytes places : List ℕ) (depth turns number sum cycles : ℕ) (stack : List ℕ) (done : List Ligation)
+pub none-left : (bytes places : List ℕ) (depth turns number sum cycles : ℕ) (stack : List ℕ) (done : List Ligation)
     → acts bytes places depth turns number 0 sum cycles stack done ≡ acted false 0 cycles stack done
 unfolding acts
 none-left bytes places depth zero number sum cycles stack done = refl
@@ -60,19 +60,19 @@ module _ (bytes places : List ℕ) (depth turns number : ℕ) where
     abbrev action : Action
     action = actionOf bytes number (getD stack slot 0) sum
 
-    turn-ends : turnOf action slot ≡ Turn′.Ended
+    pub turn-ends : turnOf action slot ≡ Turn′.Ended
         → acts bytes places depth (suc turns) number (suc slot) sum cycles stack done ≡ acted true depth cycles stack done
     unfolding acts
     turn-ends e = rw (e, acts)
 
     module _ {at total : ℕ} {last : Bool} (e : turnOf action slot ≡ Turn′.On at total last) where
-      turn-stops : either last (ltb 32 cycles) ≡ true
+      pub turn-stops : either last (ltb 32 cycles) ≡ true
           → acts bytes places depth (suc turns) number (suc slot) sum cycles stack done
           ≡ acted false at cycles (storedIn action slot stack) (done ++ ligationsOf action places slot depth)
       unfolding acts
       turn-stops f = rw (e, acts, onTurn) (rw f)
 
-      turn-goes : either last (ltb 32 cycles) ≡ false
+      pub turn-goes : either last (ltb 32 cycles) ≡ false
           → acts bytes places depth (suc turns) number (suc slot) sum cycles stack done
           ≡ acts bytes places depth turns (number + 1) at total (cycles + 1) (storedIn action slot stack) (done ++ ligationsOf action places slot depth)
       unfolding acts

@@ -9,3 +9,5 @@ mod Passes
 mod Calls
 pub mod Manual
 pub mod Honesty
+pub mod Turns
+pub mod ActionTurns

@@ -5,3 +5,4 @@ pub mod Passing
 pub mod Quiet
 pub mod Fitting
 pub mod Stalls
+pub mod Turns

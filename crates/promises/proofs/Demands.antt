@@ -1,11 +1,17 @@
 -- Each demand's theorems, from the crates below.
-use mathlib.Core.Path.{_≡_}
+use native.Mathlib.Omega.{arith}
 use Rattle.answers.proofs.Refusals.{refuse-none, refuse-here, refuse-later}
 use Rattle.line.proofs.Exact.{valid-exact, legal-exact}
 use Rattle.line.proofs.FreshLaws.{fresh-valid, fresh-starts}
 use Rattle.line.proofs.Demand3.{over-changes}
 use Rattle.line.proofs.Known as Edits
 use Rattle.machine.proofs.Stalls.{stall-falls}
+use Rattle.rearrangement.proofs.Turns.{rearrangement-turns}
+use Rattle.contextual.proofs.Turns.{contextual-turns}
+use Rattle.ligature.proofs.Turns.{ligature-turns}
+use Rattle.ligature.proofs.ActionTurns.{action-turns}
+use Rattle.insertion.proofs.Turns.{insertion-turns}
+use Rattle.kerning_machine.proofs.Turns.{kerning-turns}
 use Rattle.morx.proofs.Heads.{heads-counted}
 use Rattle.morx.proofs.Demand3.{fresh-demand3, calls-honest}
 use Rattle.morx.proofs.Demand3 as Calls
@@ -43,6 +49,13 @@ demand1 =
       valid-exact = valid-exact;
       legal-exact = legal-exact;
       stall-falls = stall-falls;
+      rearrangement-turns = rearrangement-turns;
+      contextual-turns = contextual-turns;
+      ligature-turns = ligature-turns;
+      insertion-turns = insertion-turns;
+      kerning-turns = kerning-turns;
+      action-turns = λ bytes places depth more number at sum cycles glyphs made c.
+          action-turns bytes places depth more 34 number at sum cycles glyphs made c (omega arith);
       heads-counted = heads-counted;
       kern-cursor-walks = KernCursor.cursor-walks;
       kerx-cursor-walks = KerxCursor.cursor-walks;

@@ -1,7 +1,7 @@
 -- Demand 1: any table bytes and any lent line get an answer, and the work ends; bad calls are refused by number and change nothing; a pass that ends
 -- early or runs out of room leaves exactly the edits made before that point. The contracts of the exported entries say so: none has a `requires`,
 -- each is proved to end, and each states its answer and all that was lent. Here is what shows that their definitions mean it.
-use Prim.Native.Nat.{ℕ, _<_, _≤_}
+use Prim.Native.Nat.{ℕ, _+_, _<_, _≤_}
 use mathlib.Core.Path.{_≡_}
 use mathlib.Core.Bool.{Bool, true, false}
 use mathlib.Core.List.{List, [], _∷_, map}
@@ -12,7 +12,15 @@ use Rattle.answers.specs.declared.Answer.the-variants.{Done, Full, Limit}
 use Rattle.answers.specs.declared.Check.the-variants.{Passed, Refused}
 use Rattle.line.specs.Line.{Line, Valid, Legal}
 use Rattle.line.specs.Test.{Decides, isValid, isLegal}
+use Rattle.state_tables.specs.declared.States.{States}
 use Rattle.machine.specs.Stall.{Falls, stalled}
+use Rattle.machine.specs.Pass.{passFrom}
+use Rattle.rearrangement.specs.Rearrangement as Rearrangement
+use Rattle.contextual.specs.Contextual as Contextual
+use Rattle.ligature.specs.Ligature as Ligature
+use Rattle.insertion.specs.Insertion as Insertion
+use Rattle.kerning_machine.specs.Machine as KerningMachine
+use Rattle.kerning_machine.specs.declared.Kerning.{Kerning}
 use Rattle.morx.specs.Heads.{Counted}
 use Rattle.morx.specs.Run.{ran}
 use Rattle.morx.specs.declared.Choices.{Choices}
@@ -36,6 +44,22 @@ pub record Demand1 : Type 0 where
   pub legal-exact : (tags homes : List ℕ) (used : ℕ) → Decides (Legal tags homes used) (isLegal tags homes used)
   -- the stall rule ends: a step advances within the line, or comes one nearer to the one that must
   pub stall-falls : (cycles used i : ℕ) (stays : Bool) → cycles ≤ 17 → i < used → Falls cycles used i (stalled cycles stays)
+  -- a pass is defined with a bound on its steps, which is never reached: more of them change nothing
+  pub rearrangement-turns : (bytes : List ℕ) (states : States) (l : Line) (more : ℕ)
+      → passFrom (Rearrangement.machine bytes states) (more + Rearrangement.rest Rearrangement.fresh l 0) Rearrangement.fresh l 0
+      ≡ Rearrangement.passed bytes states l
+  pub contextual-turns : (bytes : List ℕ) (states : States) (l : Line) (more : ℕ)
+      → passFrom (Contextual.machine bytes states) (more + Contextual.rest Contextual.fresh l 0) Contextual.fresh l 0 ≡ Contextual.passed bytes states l
+  pub ligature-turns : (bytes : List ℕ) (states : States) (l : Line) (more : ℕ)
+      → passFrom (Ligature.machine bytes states) (more + Ligature.rest Ligature.fresh l 0) Ligature.fresh l 0 ≡ Ligature.passed bytes states l
+  pub insertion-turns : (bytes : List ℕ) (states : States) (l : Line) (more : ℕ) → Valid l
+      → passFrom (Insertion.machine bytes states) (more + Insertion.rest Insertion.fresh l 0) Insertion.fresh l 0 ≡ Insertion.passed bytes states l
+  pub kerning-turns : (bytes : List ℕ) (kerning : Kerning) (glyphs : List ℕ) (used more : ℕ)
+      → KerningMachine.passFrom bytes kerning glyphs used (more + KerningMachine.rest used KerningMachine.fresh 0) KerningMachine.fresh 0
+      ≡ KerningMachine.passed bytes kerning glyphs used
+  -- nor is the bound on a ligature's list of actions
+  pub action-turns : (bytes places : List ℕ) (depth more number at sum cycles : ℕ) (glyphs : List ℕ) (made : List Ligature.Ligation) → cycles ≤ 33
+      → Ligature.acts bytes places depth (more + 34) number at sum cycles glyphs made ≡ Ligature.acts bytes places depth 34 number at sum cycles glyphs made
   -- a run of morx counts the heads of the walk: all of them (DONE), 65,535 of more (LIMIT), or those up to the subtable that ran full (FULL)
   pub heads-counted : (table : List ℕ) (start : ℕ) (choices : Choices) (l : Line) → Counted table start choices l (ran table start choices l)
   -- followed from a list's start, kern's cursor gives exactly the subtables of the run's walk, in the places of the whole table; so does kerx's

@@ -3,3 +3,4 @@ pub mod Passes
 pub mod Calls
 mod Steps
 pub mod Honesty
+pub mod Turns

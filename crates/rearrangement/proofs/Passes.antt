@@ -37,7 +37,7 @@ edited Window′.None glyphs tags homes used g t = rw (g, t)
 edited (Window′.At first last verb) glyphs tags homes used g t = rw (g, t)
 
 -- a step that is DONE has gone by the stall rule
-stalls : (bytes : List ℕ) (states : States) (s : RearrangementState) (index glyph : ℕ) (ends : Bool)
+pub stalls : (bytes : List ℕ) (states : States) (s : RearrangementState) (index glyph : ℕ) (ends : Bool)
     → isDone (next bytes states s index glyph ends .answer) ≡ true
     → (stays : Bool)
     × (next bytes states s index glyph ends .state .cycles ≡ stalled (s .cycles) stays .cycles)
