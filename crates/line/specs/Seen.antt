@@ -1,4 +1,5 @@
--- The tags that the LINE test has met, as bits: tag t is bit t % 64 of word t / 64.
+-- For the code alone; no entry's contract rests on it, and nobody has to believe it. The tags that the LINE test has met, as bits: tag t is bit t % 64
+-- of word t / 64.
 use Prim.Native.Nat.{ℕ, _/_, _%_, _^_}
 use mathlib.Core.Bool.{Bool}
 use mathlib.Core.List.{List}

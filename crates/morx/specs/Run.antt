@@ -52,7 +52,8 @@ turnedWork true kind bytes l =
 unfoldable pub turnedLeaves : (turned : Bool) → Kind → List ℕ → Line → Line
 turnedLeaves turned kind bytes l = applyAll (turnedWork turned kind bytes l .changes) l
 
--- what a pass's answer is to its run: FULL ends the run, and any other end is the subtable's own
+-- what a pass's answer is to its run: FULL ends the run, and any other end is the subtable's own. A pass is never NOTHING or LIMIT, and in a run never
+-- refused, since what can't be opened is passed over before: those lines are never reached
 abbrev pub settledAnswer : Answer → Answer
 settledAnswer Answer′.Full = Answer′.Full
 settledAnswer Answer′.Done = Answer′.Done
