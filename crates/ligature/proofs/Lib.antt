@@ -11,3 +11,4 @@ pub mod Manual
 pub mod Honesty
 pub mod Turns
 pub mod ActionTurns
+pub mod EntryTurns

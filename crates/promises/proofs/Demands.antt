@@ -10,6 +10,7 @@ use Rattle.rearrangement.proofs.Turns.{rearrangement-turns}
 use Rattle.contextual.proofs.Turns.{contextual-turns}
 use Rattle.ligature.proofs.Turns.{ligature-turns}
 use Rattle.ligature.proofs.ActionTurns.{action-turns}
+use Rattle.ligature.proofs.EntryTurns.{entry-turns}
 use Rattle.insertion.proofs.Turns.{insertion-turns}
 use Rattle.kerning_machine.proofs.Turns.{kerning-turns}
 use Rattle.morx.proofs.Heads.{heads-counted}
@@ -54,6 +55,8 @@ demand1 =
       ligature-turns = ligature-turns;
       insertion-turns = insertion-turns;
       kerning-turns = kerning-turns;
+      entry-turns = λ bytes states index glyph class more state stack cycles made c.
+          entry-turns bytes states index glyph class more 18 state stack cycles made c (omega arith);
       action-turns = λ bytes places depth more number at sum cycles glyphs made c.
           action-turns bytes places depth more 34 number at sum cycles glyphs made c (omega arith);
       heads-counted = heads-counted;

@@ -57,7 +57,10 @@ pub record Demand1 : Type 0 where
   pub kerning-turns : (bytes : List ℕ) (kerning : Kerning) (glyphs : List ℕ) (used more : ℕ)
       → KerningMachine.passFrom bytes kerning glyphs used (more + KerningMachine.rest used KerningMachine.fresh 0) KerningMachine.fresh 0
       ≡ KerningMachine.passed bytes kerning glyphs used
-  -- nor is the bound on a ligature's list of actions
+  -- nor are those on the entries of a ligature's step and on a list of its actions
+  pub entry-turns : (bytes : List ℕ) (states : States) (index glyph class more state : ℕ) (stack : Ligature.Stack) (cycles : ℕ) (made : List Ligature.Ligation)
+      → cycles ≤ 17
+      → Ligature.ran bytes states index glyph class (more + 18) state stack cycles made ≡ Ligature.ran bytes states index glyph class 18 state stack cycles made
   pub action-turns : (bytes places : List ℕ) (depth more number at sum cycles : ℕ) (glyphs : List ℕ) (made : List Ligature.Ligation) → cycles ≤ 33
       → Ligature.acts bytes places depth (more + 34) number at sum cycles glyphs made ≡ Ligature.acts bytes places depth 34 number at sum cycles glyphs made
   -- a run of morx counts the heads of the walk: all of them (DONE), 65,535 of more (LIMIT), or those up to the subtable that ran full (FULL)
