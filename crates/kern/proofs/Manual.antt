@@ -101,6 +101,18 @@ kern-as-manual edition bytes v h whole =
     six-or-more old = omega arith
     six-or-more new = omega arith
 
+-- where the list's own head does not lie in the table there is no subtable
+nothing-counted : (edition : Edition) (bytes : List ℕ) → HasVersion edition bytes → 2 ≤ length bytes → length bytes < firstOf edition
+    → listOf bytes .count ≡ 0
+unfolding listOf
+nothing-counted old bytes v k h = rw (readU16-got bytes 0 (omega (arith, k)), v, readU16-short bytes 2 (omega (arith, h)))
+nothing-counted new bytes v k h = rw (readU16-got bytes 0 (omega (arith, k)), v, readU32-short bytes 4 (omega (arith, h)))
+
+pub kern-without-list : (edition : Edition) (bytes : List ℕ) → HasVersion edition bytes → 2 ≤ length bytes → length bytes < firstOf edition
+    → walkOf bytes ≡ []
+unfolding walkOf heads
+kern-without-list edition bytes v k h = rw (nothing-counted edition bytes v k h, heads)
+
 -- the answer for a pair
 module _ (bytes : List ℕ) (left right : ℕ) where
   pair-is : (edition : Edition) → HasPairs edition bytes

@@ -32,10 +32,10 @@ use Rattle.insertion.proofs.Manual.{glyphs-by-manual, list-by-manual, list-past
 use Rattle.chains.proofs.ManualWalk.{walk-as-manual}
 use Rattle.chains.proofs.Manual.{order-as-manual, reverse-as-manual, vertical-as-manual, chain-as-manual, chains-end, feature-as-manual, features-end, subtable-as-manual, subtables-end}
 use Rattle.kern.proofs.Cursors as KernCursor
-use Rattle.kern.proofs.Manual.{kern-as-manual, kern-pair-as-manual}
+use Rattle.kern.proofs.Manual.{kern-as-manual, kern-without-list, kern-pair-as-manual}
 use Rattle.kern_machine.proofs.Manual.{list-as-manual}
 use Rattle.kerx.proofs.Cursors as KerxCursor
-use Rattle.kerx.proofs.Manual.{kerx-as-manual, kerx-pair-as-manual, kerx-class-as-manual}
+use Rattle.kerx.proofs.Manual.{kerx-as-manual, kerx-without-list, kerx-pair-as-manual, kerx-class-as-manual}
 use Rattle.promises.specs.Demand1.{Demand1}
 use Rattle.promises.specs.Demand2.{Lookups, StateTables, Verbs, SubtableLists, Chains, Kerning, Demand2}
 use Rattle.promises.specs.Demand3.{Demand3}
@@ -128,6 +128,8 @@ kerning =
     record {
       kern-as-manual = kern-as-manual;
       kerx-as-manual = kerx-as-manual;
+      kern-without-list = kern-without-list;
+      kerx-without-list = kerx-without-list;
       kern-pair-as-manual = kern-pair-as-manual;
       kerx-pair-as-manual = kerx-pair-as-manual;
       kerx-class-as-manual = kerx-class-as-manual;

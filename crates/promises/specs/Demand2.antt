@@ -4,7 +4,7 @@
 use Prim.Native.Nat.{ℕ, suc, _+_, _*_, _-_, _<_, _≤_}
 use mathlib.Core.Path.{_≡_}
 use mathlib.Core.Bool.{Bool}
-use mathlib.Core.List.{List}
+use mathlib.Core.List.{List, []}
 use lib.ListN.{length, getD, take, drop}
 use Rattle.laws.specs.Choose.{ifLt}
 use Rattle.answers.specs.Limits.{tableLimit, headLimit}
@@ -178,6 +178,10 @@ pub record Kerning : Type 0 where
   pub kerx-as-manual : (rtl : Bool) (bytes : List ℕ) → 8 ≤ length bytes
       → NoneInPart bytes (ifLt (Kerx.versionOf bytes) 4 8 12) Kerx.headBytes (Kerx.lengthAt bytes) 8 (Kerx.countOf bytes)
       → List′.AsManual bytes Kerx.headBytes (Kerx.subtableAt bytes) (Kerx.lengthAt bytes) 8 (Kerx.countOf bytes) (KerxWalk.walkOf rtl bytes)
+  -- where the list's own head does not lie in the table there is no subtable; of kern's head the version does
+  pub kern-without-list : (edition : Kern.Edition) (bytes : List ℕ) → Kern.HasVersion edition bytes → 2 ≤ length bytes
+      → length bytes < Kern.firstOf edition → KernWalk.walkOf bytes ≡ []
+  pub kerx-without-list : (rtl : Bool) (bytes : List ℕ) → length bytes < 8 → KerxWalk.walkOf rtl bytes ≡ []
   -- a pair's answer is DONE with just the value that the manual has for it, and NOTHING exactly when it has none: on ordered pairs in rising order
   -- (in kerx without tuples)
   pub kern-pair-as-manual : (edition : Kern.Edition) (bytes : List ℕ) (left right : ℕ) → Kern.HasPairs edition bytes
