@@ -5,8 +5,7 @@ use mathlib.Core.List.{List}
 use native.Mathlib.Omega.{arith}
 use lib.ListN.{length, take, drop}
 use Rattle.line.specs.Line.{Line, lineOf}
-use Rattle.line.specs.Changes.{Change, opened, numbersFrom, apply, applyAll}
-use Rattle.line.specs.Steps.{glyphsOf}
+use Rattle.line.specs.Changes.{Change, opened, numbersFrom, apply, applyAll, glyphsOf}
 use Rattle.line.proofs.Applied.{applied-insertion}
 use Rattle.line.proofs.Histories.{applyAll-append}
 use Rattle.insertion.specs.Lists.{countOf, glyphsAt, changesOf, bothChanges}

@@ -17,7 +17,7 @@ use Rattle.parse.specs.Use.{onU32}
 use Rattle.parse.specs.declared.ReadU32.{ReadU32}
 use Rattle.parse.specs.declared.ReadU32.the-variants as U32
 use Rattle.parse.proofs.Laws.{inside-fits}
-use Rattle.line.specs.Steps.{glyphsOf}
+use Rattle.line.specs.Changes.{glyphsOf}
 use Rattle.machine.specs.Pass.{isDone}
 use Rattle.insertion.specs.Lists.{listOf, enteredBy, insertionOf, countOf, endOf, glyphsAt}
 use Rattle.insertion.specs.Insertion.{placeOf}

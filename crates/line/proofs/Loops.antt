@@ -13,9 +13,9 @@ use Rattle.laws.specs.Choose.{ifEq}
 use Rattle.laws.proofs.Backward.{length-backward, backward-inside, backward-outside}
 use Rattle.laws.proofs.Lists.{length-tab, getD-tab, getD-first, getD-behind}
 use Rattle.laws.proofs.Numbers.{lt-or-ge, eq-or-ne}
-use Rattle.line.specs.Changes.{numbersFrom, rehomed, opened, emptied, handed, emptiedAll, handedAll}
 use Rattle.parse.specs.Reads.{u16At}
-use Rattle.line.specs.Steps.{glyphsOf, raised}
+use Rattle.line.specs.Steps.{raised}
+use Rattle.line.specs.Changes.{numbersFrom, rehomed, opened, emptied, handed, emptiedAll, handedAll, glyphsOf}
 use Rattle.line.proofs.Once.{length-numbersFrom, getD-numbersFrom}
 use Rattle.line.proofs.Joins.{length-emptied, length-handed, length-rehomed, getD-rehomed}
 

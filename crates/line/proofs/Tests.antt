@@ -12,7 +12,8 @@ use Rattle.laws.specs.Lists.{both, every}
 use Rattle.laws.proofs.Lists.{every-at, every-none, every-more}
 use Rattle.answers.specs.Limits.{room}
 use Rattle.line.specs.Line.{lineOf}
-use Rattle.line.specs.Test.{areHoused, areInOrder, isNew, isOnceEach, isLegal, isValid}
+use Rattle.line.specs.Test.{areHoused, isNew, isOnceEach, isLegal, isValid}
+use Rattle.line.specs.Seen.{areInOrder}
 
 -- a test that has held so far, and one number more
 pub every-next : (f : ℕ → Bool) (n : ℕ) {all more : Bool} → all ≡ every f n → more ≡ both (f n) all → more ≡ every f (n + 1)

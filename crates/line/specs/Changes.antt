@@ -1,5 +1,5 @@
 -- What a pass does to the line, and what each of its changes leaves of every slice.
-use Prim.Native.Nat.{ℕ, _+_, min}
+use Prim.Native.Nat.{ℕ, _+_, _*_, _/_, min}
 use mathlib.Core.Bool.{Bool, cond, not}
 use mathlib.Core.List.{List, [], _∷_, _++_, map}
 use lib.Dec.{ltb, eqb}
@@ -8,6 +8,7 @@ use lib.Seq.{slice}
 use Rattle.laws.specs.Choose.{ifLt, ifEq}
 use Rattle.laws.specs.Lists.{tab, both}
 use Rattle.laws.specs.Backward.{backward}
+use Rattle.parse.specs.Reads.{u16At}
 use Rattle.verbs.specs.Verbs.{rearranged}
 use Rattle.line.specs.Line.{Line, lineOf}
 use Rattle.line.specs.Edits.{Edit, widthOf}
@@ -36,6 +37,10 @@ historyOf (c ∷ cs) = editsOf c ++ historyOf cs
 -- a verb on the window of so many places from its first
 unfoldable pub windowed : (first width verb : ℕ) → List ℕ → List ℕ
 windowed first width verb xs = take first xs ++ rearranged verb width (drop first xs)
+
+-- the glyphs of a list of big-endian bytes, two for each
+unfoldable pub glyphsOf : List ℕ → List ℕ
+glyphsOf bytes = tab (λ k. u16At bytes (k * 2)) (length bytes / 2)
 
 -- new ones put in at a place; what stood from there to the used length moves up, and what they do not reach is as it was
 unfoldable pub opened : (at used : ℕ) → List ℕ → List ℕ → List ℕ

@@ -1,14 +1,9 @@
--- The steps of an insertion in place: what stands behind it is raised, and the new ones are put into the gap.
-use Prim.Native.Nat.{ℕ, _+_, _*_, _/_}
+-- For the code alone; no entry and no promise rests on it, and nobody has to believe it. A step of an insertion in place:
+-- what stands behind it is raised, and the new ones are then put into the gap.
+use Prim.Native.Nat.{ℕ, _+_}
 use mathlib.Core.List.{List, _++_}
-use lib.ListN.{length, take, drop}
+use lib.ListN.{take, drop}
 use lib.Seq.{slice}
-use Rattle.laws.specs.Lists.{tab}
-use Rattle.parse.specs.Reads.{u16At}
-
--- the glyphs of a list of big-endian bytes, two for each
-unfoldable pub glyphsOf : List ℕ → List ℕ
-glyphsOf bytes = tab (λ k. u16At bytes (k * 2)) (length bytes / 2)
 
 -- what stands from a place to the used length moves up so many places; the gap still holds what stood there
 unfoldable pub raised : (at used count : ℕ) → List ℕ → List ℕ

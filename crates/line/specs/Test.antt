@@ -23,10 +23,6 @@ isNew tags n tag = every (λ p. not (eqb (getD tags p 0) tag)) n
 unfoldable pub isOnceEach : List ℕ → ℕ → Bool
 isOnceEach tags n = every (λ p. both (ltb (getD tags p 0) n) (isNew tags p (getD tags p 0))) n
 
--- the first n tags count up from 0, as those of a line that was never rearranged do
-unfoldable pub areInOrder : List ℕ → ℕ → Bool
-areInOrder tags n = every (λ p. eqb (getD tags p 0) p) n
-
 -- every home is below the used length
 unfoldable pub areHoused : List ℕ → ℕ → Bool
 areHoused homes used = every (λ c. ltb (getD homes c 0) used) (length homes)

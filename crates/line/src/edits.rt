@@ -7,8 +7,8 @@ ghost use Rattle.answers.specs.Limits.{room};
 ghost use Rattle.laws.specs.Backward.{backward};
 ghost use Rattle.laws.specs.Choose.{ifEq};
 ghost use Rattle.line.specs.Edits.{widthOf};
-ghost use Rattle.line.specs.Changes.{windowed, opened, numbersFrom, written, emptied, rehomed, handed, joinedGlyphs, joinedHomes};
-ghost use Rattle.line.specs.Steps.{glyphsOf, raised};
+ghost use Rattle.line.specs.Steps.{raised};
+ghost use Rattle.line.specs.Changes.{windowed, opened, numbersFrom, written, emptied, rehomed, handed, joinedGlyphs, joinedHomes, glyphsOf};
 
 // The glyph of a place whose characters a ligature has taken.
 const DELETED: u16 = 0xFFFF;

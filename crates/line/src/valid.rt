@@ -5,8 +5,8 @@ ghost use lib.ListN.{length};
 ghost use Rattle.laws.specs.Lists.{both};
 ghost use Rattle.answers.specs.Limits.{room};
 ghost use Rattle.line.specs.Line.{lineOf};
-ghost use Rattle.line.specs.Seen.{hasSeen, withTag};
-ghost use Rattle.line.specs.Test.{isOnceEach, areInOrder, areHoused, isLegal, isValid};
+ghost use Rattle.line.specs.Test.{isOnceEach, areHoused, isLegal, isValid};
+ghost use Rattle.line.specs.Seen.{hasSeen, withTag, areInOrder};
 use answers::ROOM;
 
 // Words of 64 bits that have a bit for each tag.

@@ -5,7 +5,8 @@ use mathlib.Core.Bool.{Bool, true, false}
 use mathlib.Core.List.{List}
 use native.Mathlib.Omega.{arith}
 use lib.ListN.{length, take, drop}
-use Rattle.parse.specs.Reads.{readU16, readPart}
+use Rattle.parse.specs.Reads.{readU16}
+use Rattle.parse.specs.Parts.{readPart}
 use Rattle.parse.specs.declared.ReadU16.{ReadU16}
 use Rattle.parse.specs.declared.ReadU16.the-variants as U16
 use Rattle.parse.specs.declared.ReadPart.{ReadPart}

@@ -6,7 +6,8 @@ use mathlib.Core.List.{List}
 use native.Mathlib.Omega.{arith}
 use lib.Dec.{eqb}
 use lib.ListN.{length}
-use Rattle.parse.specs.Reads.{inside, u32At, readPart, readU32}
+use Rattle.parse.specs.Reads.{inside, u32At, readU32}
+use Rattle.parse.specs.Parts.{readPart}
 use Rattle.parse.specs.declared.ReadPart.{ReadPart}
 use Rattle.parse.specs.declared.ReadPart.the-variants as Part
 use Rattle.parse.specs.declared.ReadU32.{ReadU32}

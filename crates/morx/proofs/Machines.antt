@@ -9,7 +9,8 @@ use Rattle.answers.specs.Limits.{room}
 use Rattle.answers.specs.declared.Answer.{Answer}
 use Rattle.answers.specs.declared.Answer.the-variants as Answer′
 use Rattle.answers.specs.declared.Refusal.the-variants as Refusal′
-use Rattle.parse.specs.Reads.{readU32, u32At, readPart}
+use Rattle.parse.specs.Reads.{readU32, u32At}
+use Rattle.parse.specs.Parts.{readPart}
 use Rattle.parse.specs.declared.ReadPart.{ReadPart}
 use Rattle.parse.specs.declared.ReadPart.the-variants as Part
 use Rattle.parse.specs.declared.ReadU32.{ReadU32}

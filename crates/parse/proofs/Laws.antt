@@ -18,7 +18,8 @@ use borrow.Author.Tests.{lt-ltb, le-ltb, le-leb, lt-leb, ltb-true, leb-true}
 use Rattle.laws.specs.Lists.{both}
 use Rattle.laws.proofs.Lists.{both-left, both-right}
 use Rattle.laws.proofs.Numbers.{lt-or-ge}
-use Rattle.parse.specs.Reads.{inside, u8At, u16At, u32At, readU8, readU16, readI16, readU32, readPart}
+use Rattle.parse.specs.Reads.{inside, u8At, u16At, u32At, readU8, readU16, readI16, readU32}
+use Rattle.parse.specs.Parts.{readPart}
 use Rattle.parse.specs.declared.ReadU8.the-variants as U8
 use Rattle.parse.specs.declared.ReadI16.the-variants as I16
 use Rattle.parse.specs.declared.ReadU16.{ReadU16}

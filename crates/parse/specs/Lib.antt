@@ -2,3 +2,4 @@
 pub mod Bytes
 pub mod Reads
 pub mod Use
+pub mod Parts

@@ -14,8 +14,6 @@ use Rattle.parse.specs.declared.ReadI16.{ReadI16}
 use Rattle.parse.specs.declared.ReadI16.the-variants as I16
 use Rattle.parse.specs.declared.ReadU32.{ReadU32}
 use Rattle.parse.specs.declared.ReadU32.the-variants as U32
-use Rattle.parse.specs.declared.ReadPart.{ReadPart}
-use Rattle.parse.specs.declared.ReadPart.the-variants as Part
 
 -- the place is below the table's end, and `size` bytes from it on lie in the table
 unfoldable pub inside : List ℕ → ℕ → ℕ → Bool
@@ -42,7 +40,3 @@ readI16 table at = cond (inside table at 2) (I16.Got (signed16 (u16At table at))
 
 unfoldable pub readU32 : List ℕ → ℕ → ReadU32
 readU32 table at = cond (inside table at 4) (U32.Got (u32At table at)) U32.Short
-
--- a list of `size` bytes, by the place where it ends
-unfoldable pub readPart : List ℕ → ℕ → ℕ → ReadPart
-readPart table at size = cond (inside table at size) (Part.Until (at + size)) Part.Short

@@ -5,7 +5,8 @@ ghost use Prim.Native.Nat.{_+_, _<_, _≤_};
 ghost use lib.ListN.{length, drop};
 ghost use Rattle.laws.specs.Bits.{isSet};
 ghost use Rattle.laws.specs.Signed.{signed16};
-ghost use Rattle.parse.specs.Reads.{u16At, readU8, readU16, readI16, readU32, readPart};
+ghost use Rattle.parse.specs.Reads.{u16At, readU8, readU16, readI16, readU32};
+ghost use Rattle.parse.specs.Parts.{readPart};
 
 pub mod bytes;
 

@@ -16,7 +16,7 @@ use Rattle.answers.specs.declared.Check.the-variants as Check′
 use Rattle.answers.proofs.Refusals.{refuse-later, refuse-none}
 use Rattle.line.specs.Line.{Line, Valid}
 use Rattle.line.specs.Test.{lineTest}
-use Rattle.line.specs.Steps.{glyphsOf}
+use Rattle.line.specs.Changes.{glyphsOf}
 use Rattle.line.proofs.Exact.{of-valid}
 use Rattle.line.proofs.FreshLaws.{fresh-passed, fresh-valid}
 use Rattle.line.proofs.Loops.{length-glyphsOf}

@@ -22,8 +22,7 @@ use Rattle.parse.specs.declared.ReadU16.the-variants as U16
 use Rattle.parse.specs.declared.ReadU32.{ReadU32}
 use Rattle.parse.specs.declared.ReadU32.the-variants as U32
 use Rattle.line.specs.Line.{Line, lineOf}
-use Rattle.line.specs.Steps.{glyphsOf}
-use Rattle.line.specs.Changes.{numbersFrom, opened}
+use Rattle.line.specs.Changes.{glyphsOf, numbersFrom, opened}
 use Rattle.line.specs.Entries.{freshOf}
 use Rattle.line.proofs.Once.{length-numbersFrom}
 use Rattle.line.proofs.Loops.{paste-over, length-glyphsOf}

@@ -9,7 +9,7 @@ use Rattle.answers.specs.declared.Refusal.the-variants as Refusal′
 use Rattle.parse.specs.Reads.{readU16, readU32}
 use Rattle.parse.specs.Use.{onU16, onU32}
 use Rattle.line.specs.Line.{Line}
-use Rattle.line.specs.Steps.{glyphsOf}
+use Rattle.line.specs.Changes.{glyphsOf}
 use Rattle.line.specs.Entries.{freshOf}
 use Rattle.morx.specs.Run.{Ran}
 use Rattle.morx.specs.Calls.{runCall, runLeaves}

@@ -1,5 +1,5 @@
--- For the code alone; no entry's contract rests on it, and nobody has to believe it. The steps of a verb in place: its groups are taken out, what is
--- between them slides, and they are put down at the other ends.
+-- For the code alone; no entry and no promise rests on it, and nobody has to believe it. The steps of a verb in place: its groups are taken out, what
+-- is between them slides, and they are put down at the other ends.
 use Prim.Native.Nat.{ℕ, _+_, _-_, _<_, _≤_}
 use mathlib.Core.Path.{_≡_}
 use mathlib.Core.List.{List}

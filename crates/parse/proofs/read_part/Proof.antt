@@ -1,4 +1,4 @@
-use Rattle.parse.specs.Reads.{readPart}
+use Rattle.parse.specs.Parts.{readPart}
 use Rattle.parse.proofs.Laws.{inside-past, inside-small, inside-behind, part-read}
 use borrow.Author.Needs.{needs}
 use Rattle.parse.proofs.read_part.Statement.{statement}

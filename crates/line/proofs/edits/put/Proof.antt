@@ -1,5 +1,5 @@
 use Rattle.line.proofs.Loops.{Pasting, pasting-start, put-next, pasting-done}
-use Rattle.line.specs.Steps.{glyphsOf}
+use Rattle.line.specs.Changes.{glyphsOf}
 use borrow.Author.Needs.{needs}
 use lib.ListN.{length}
 use native.Mathlib.Omega.{arith}

@@ -8,7 +8,7 @@ use borrow.Author.Needs.{needs}
 use Rattle.line.proofs.Room.{room-small}
 use Rattle.laws.specs.Lists.{every}
 use Rattle.laws.proofs.Lists.{every-none}
-use Rattle.line.specs.Test.{areInOrder}
+use Rattle.line.specs.Seen.{areInOrder}
 use Rattle.line.proofs.Tests.{every-next}
 use Rattle.line.proofs.valid.in_order.Statement.{statement}
 use Rattle.line.proofs.valid.in_order.Tie as tie
