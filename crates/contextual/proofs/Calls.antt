@@ -24,9 +24,9 @@ use Rattle.machine.specs.Pass.{Stepped, Passed}
 use Rattle.machine.specs.Call.{headTest, passTests, refusedStep}
 use Rattle.machine.proofs.Calls as Machine′
 use Rattle.machine.proofs.Calls.{taken-line, past-place, stepped-line, head-refused, head-passed}
-use Rattle.contextual.specs.Substitutes.{writtenAll}
-use Rattle.contextual.specs.Contextual.{next, stepped, stepOf, machine, passed, passLeaves}
-use Rattle.contextual.specs.Calls.{opened, worked, workLeaves, passCall, callLeaves, stateTest, stepTests, stepCall, stepLeaves}
+use Rattle.contextual.specs.Contextual.{next, stepped, machine, passed}
+use Rattle.contextual.specs.Calls.{opened, worked, passCall, callLeaves, stateTest, stepTests, stepCall, stepLeaves}
+use Rattle.contextual.specs.Work.{writtenAll, stepOf, passLeaves, workLeaves}
 use Rattle.contextual.specs.declared.ContextualState.{ContextualState}
 use Rattle.contextual.specs.declared.ContextualStep.{ContextualStep}
 use Rattle.contextual.proofs.Writes.{written-line}

@@ -11,8 +11,9 @@ use Rattle.line.specs.Line.{Line, lineOf}
 use Rattle.line.specs.Changes.{applyAll}
 use Rattle.machine.specs.Pass.{deleted, isDone}
 use Rattle.machine.proofs.Passing.{Passing, Over, passing-start, passing-step, passing-stop, passing-end}
-use Rattle.contextual.specs.Substitutes.{writtenAll, changesOf}
-use Rattle.contextual.specs.Contextual.{fresh, Ran, next, stepped, stepOf, machine, rest, passed, passLeaves}
+use Rattle.contextual.specs.Substitutes.{changesOf}
+use Rattle.contextual.specs.Contextual.{fresh, Ran, next, stepped, machine, rest, passed}
+use Rattle.contextual.specs.Work.{writtenAll, stepOf, passLeaves}
 use Rattle.machine.specs.Pass.{advanceOf}
 use Rattle.contextual.specs.declared.ContextualState.{ContextualState}
 use Rattle.contextual.specs.declared.ContextualStep.{ContextualStep}

@@ -16,8 +16,9 @@ use Rattle.state_tables.specs.Classes.{classOf}
 use Rattle.state_tables.specs.Entries.{entryOf, onEntry}
 use Rattle.laws.specs.Bits.{isSet}
 use Rattle.machine.specs.Entry.{classHere}
-use Rattle.contextual.specs.Substitutes.{Write, writesOf, writtenAll}
-use Rattle.contextual.specs.Contextual.{idle, begun, acted, Ran, over, entryWrites, ran, next, stepped, stepOf}
+use Rattle.contextual.specs.Substitutes.{Write, writesOf}
+use Rattle.contextual.specs.Contextual.{idle, begun, acted, Ran, over, entryWrites, ran, next, stepped}
+use Rattle.contextual.specs.Work.{writtenAll, stepOf}
 use Rattle.machine.specs.Pass.{advanceOf}
 use Rattle.contextual.specs.declared.Acted.{Acted}
 use Rattle.contextual.specs.declared.ContextualState.{ContextualState}

@@ -6,7 +6,8 @@ use Rattle.line.specs.Line.{lineOf}
 use Rattle.line.specs.Edits.{inserted}
 use Rattle.line.specs.Changes.{written, editsOf, historyOf, apply, applyAll}
 use Rattle.machine.proofs.Quiet.{Quiet}
-use Rattle.contextual.specs.Substitutes.{Write, writtenAll, changesOf}
+use Rattle.contextual.specs.Substitutes.{Write, changesOf}
+use Rattle.contextual.specs.Work.{writtenAll}
 
 pub written-append : (used : ℕ) (ws vs : List Write) (glyphs : List ℕ) → writtenAll used (ws ++ vs) glyphs ≡ writtenAll used vs (writtenAll used ws glyphs)
 unfolding writtenAll

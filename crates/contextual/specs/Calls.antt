@@ -27,10 +27,6 @@ opened bytes = onU32 (readU32 (bodyOf bytes) 16) (λ list. Call′.opened bytes 
 unfoldable pub worked : List ℕ → Line → Passed
 worked bytes l = onMade (opened bytes) (λ states. passed (bodyOf bytes) states l)
 
--- the line that it leaves
-unfoldable pub workLeaves : List ℕ → Line → Line
-workLeaves bytes l = applyAll (worked bytes l .changes) l
-
 -- a call of the pass on the subtable at `start`: TABLE, LINE, HEAD, then the pass
 unfoldable pub passCall : List ℕ → (start : ℕ) → Line → Passed
 passCall table start l = refusedCall (refuse (passTests (length table) l (opened (drop start table)))) (worked (drop start table) l)

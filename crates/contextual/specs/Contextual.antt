@@ -13,7 +13,6 @@ use Rattle.state_tables.specs.declared.entries.Entry.{Entry}
 use Rattle.state_tables.specs.Classes.{classOf}
 use Rattle.state_tables.specs.Entries.{entryOf, onEntry}
 use Rattle.line.specs.Line.{Line}
-use Rattle.line.specs.Changes.{applyAll}
 use Rattle.laws.specs.Bits.{isSet}
 use Rattle.machine.specs.Entry.{classHere}
 use Rattle.machine.specs.Pass.{Stepped, Machine, Passed, advanceOf, passOf}
@@ -21,7 +20,6 @@ use Rattle.contextual.specs.Substitutes.{Write, substituteOf, glyphAfter
 use Rattle.contextual.specs.declared.Substitute.{Substitute}
 use Rattle.contextual.specs.declared.Acted.{Acted}
 use Rattle.contextual.specs.declared.ContextualState.{ContextualState}
-use Rattle.contextual.specs.declared.ContextualStep.{ContextualStep}
 
 -- the state at the start of a pass
 abbrev pub fresh : ContextualState
@@ -105,10 +103,6 @@ next bytes states s index glyph ends =
 abbrev pub stepped : Ran → Stepped ContextualState
 stepped r = record { answer = r .answer; state = r .state; advance = advanceOf (r .answer); changes = changesOf (r .writes) }
 
--- what is handed back
-abbrev pub stepOf : Stepped ContextualState → ContextualStep
-stepOf r = record { answer = r .answer; state = r .state; advance = r .advance }
-
 -- the machine that passes are made of
 unfoldable pub machine : List ℕ → States → Machine ContextualState
 machine bytes states s l index glyph ends = stepped (next bytes states s index glyph ends)
@@ -120,7 +114,3 @@ rest s l i = (l .used - i) + 1
 -- the pass over a line
 unfoldable pub passed : List ℕ → States → Line → Passed
 passed bytes states l = passOf (machine bytes states) (rest fresh l 0) fresh l
-
--- the line that it leaves
-unfoldable pub passLeaves : List ℕ → States → Line → Line
-passLeaves bytes states l = applyAll (passed bytes states l .changes) l

@@ -3,3 +3,4 @@ pub mod Substitutes
 pub mod Contextual
 pub mod Calls
 pub mod Manual
+pub mod Work

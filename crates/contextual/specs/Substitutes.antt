@@ -8,7 +8,7 @@ use Rattle.parse.specs.Use.{onU32}
 use Rattle.tables.specs.Lookup.{lookupAt}
 use Rattle.tables.specs.declared.lookup.Found.{Found}
 use Rattle.tables.specs.declared.lookup.Found.the-variants as Found′
-use Rattle.line.specs.Changes.{Change, written}
+use Rattle.line.specs.Changes.{Change}
 use Rattle.contextual.specs.declared.Substitute.{Substitute}
 use Rattle.contextual.specs.declared.Substitute.the-variants.{To, None}
 
@@ -41,11 +41,6 @@ pub record Write : Type 0 where
 abbrev pub writesOf : (place : ℕ) → Substitute → List Write
 writesOf place (To glyph) = record { at = place; glyph = glyph } ∷ []
 writesOf place None = []
-
--- the glyphs after writes, one after the other; one at a place not in the line is skipped
-unfoldable pub writtenAll : (used : ℕ) → List Write → List ℕ → List ℕ
-writtenAll used [] glyphs = glyphs
-writtenAll used (w ∷ ws) glyphs = writtenAll used ws (written used (w .at) (w .glyph) glyphs)
 
 -- writes as changes of the line
 unfoldable pub changesOf : List Write → List Change

@@ -15,9 +15,10 @@ ghost use Prim.Native.Nat.{_+_, _≤_};
 ghost use lib.ListN.{length};
 ghost use Rattle.answers.specs.Refuse.{refuse};
 ghost use Rattle.line.specs.Line.{lineOf};
-ghost use Rattle.contextual.specs.Substitutes.{substituteOf, glyphAfter, writesOf, writtenAll};
-ghost use Rattle.contextual.specs.Contextual.{fresh, idle, begun, seenGlyph, entered, acted, next, stepped, stepOf, passed, passLeaves};
-ghost use Rattle.contextual.specs.Calls.{opened, worked, workLeaves, passCall, callLeaves, stepTests, stepCall, stepLeaves};
+ghost use Rattle.contextual.specs.Substitutes.{substituteOf, glyphAfter, writesOf};
+ghost use Rattle.contextual.specs.Contextual.{fresh, idle, begun, seenGlyph, entered, acted, next, stepped, passed};
+ghost use Rattle.contextual.specs.Calls.{opened, worked, passCall, callLeaves, stepTests, stepCall, stepLeaves};
+ghost use Rattle.contextual.specs.Work.{writtenAll, stepOf, passLeaves, workLeaves};
 
 // The state of a pass: the state table's state, whether a mark was set, its place, and the glyph that is remembered for it.
 pub struct ContextualState {

@@ -10,7 +10,7 @@ use Rattle.answers.specs.declared.Answer.{Answer}
 use Rattle.answers.specs.Numbers.{numberOf}
 use Rattle.firmware.specs.Steps.{isRefused, unlessRefused, isFlag, rearrangementFrom, rearranged, contextualFrom, contextual, contextualLeaves, insertionFrom, inserted, editSlots, ligatureFrom, ligatureSlots, ligated, ligatedLeaves}
 use Rattle.line.specs.Line.{Line}
-use Rattle.ligature.specs.Ligature as Ligature′
+use Rattle.ligature.specs.Work as Ligature′
 use Rattle.ligature.specs.Calls as Ligature
 use Rattle.ligature.specs.declared.LigatureState.{LigatureState}
 use Rattle.ligature.specs.declared.LigatureStep.{LigatureStep}
@@ -19,7 +19,7 @@ use Rattle.insertion.specs.declared.InsertionState.{InsertionState}
 use Rattle.insertion.specs.declared.InsertionStep.{InsertionStep}
 use Rattle.insertion.specs.declared.Inserted.{Inserted}
 use Rattle.insertion.specs.declared.Inserted.the-variants as Inserted′
-use Rattle.contextual.specs.Contextual.{stepOf}
+use Rattle.contextual.specs.Work.{stepOf}
 use Rattle.contextual.specs.Calls as Contextual
 use Rattle.contextual.specs.declared.ContextualState.{ContextualState}
 use Rattle.contextual.specs.declared.ContextualStep.{ContextualStep}

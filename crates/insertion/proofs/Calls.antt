@@ -17,7 +17,8 @@ use Rattle.line.specs.Line.{Line}
 use Rattle.line.specs.Changes.{applyAll}
 use Rattle.machine.specs.Pass.{Passed}
 use Rattle.machine.specs.Call.{passTests}
-use Rattle.insertion.specs.Insertion.{passed, passLeaves}
+use Rattle.insertion.specs.Insertion.{passed}
+use Rattle.insertion.specs.Work.{passLeaves}
 use Rattle.insertion.specs.Calls.{opened, worked, passCall}
 use Rattle.insertion.proofs.Edits.{Left}
 

@@ -16,7 +16,7 @@ use Rattle.machine.specs.Call.{passTests}
 use Rattle.machine.proofs.Fitting.{inserted-both, fitting-pass, fitting-made, fitting-tested}
 use Rattle.insertion.specs.Lists.{countOf, changesOf}
 use Rattle.insertion.specs.Insertion.{fresh, rest, next, machine, passed}
-use Rattle.insertion.specs.Calls.{opened, worked, workLeaves, passCall, callLeaves, PassCall, WorkCall}
+use Rattle.insertion.specs.Calls.{opened, worked, passCall, callLeaves, PassCall}
 use Rattle.insertion.specs.declared.Inserted.{Inserted}
 use Rattle.insertion.specs.declared.Inserted.the-variants as Inserted′
 use Rattle.insertion.specs.declared.InsertionState.{InsertionState}
@@ -47,7 +47,8 @@ passed-fits : (bytes : List ℕ) (states : States) (l : Line) → Valid l → Fi
 unfolding passed
 passed-fits bytes states l v = fitting-pass (machine bytes states) (step-fits bytes states) (rest fresh l 0) fresh l 0 v
 
-worked-fits : (bytes : List ℕ) (l : Line) → Valid l → Fits (worked bytes l .changes) l
+-- and one of a run
+pub worked-fits : (bytes : List ℕ) (l : Line) → Valid l → Fits (worked bytes l .changes) l
 unfolding worked
 worked-fits bytes l v = fitting-made l v _ (λ states. passed-fits (bodyOf bytes) states l v) (opened bytes)
 
@@ -61,10 +62,3 @@ pub passes-honest : Honest
     (λ (call : PassCall) l. passCall (call .table) (call .start) l .changes)
 unfolding callLeaves
 passes-honest = record { made = λ call l v. refl; legal = λ call l v. call-fits (call .table) (call .start) l v }
-
--- and those of a run
-pub works-honest : Honest
-    (λ (call : WorkCall) l. workLeaves (call .bytes) l)
-    (λ (call : WorkCall) l. worked (call .bytes) l .changes)
-unfolding workLeaves
-works-honest = record { made = λ call l v. refl; legal = λ call l v. worked-fits (call .bytes) l v }

@@ -19,7 +19,8 @@ use Rattle.parse.specs.declared.ReadU32.the-variants as U32
 use Rattle.parse.proofs.Laws.{inside-fits}
 use Rattle.line.specs.Changes.{glyphsOf}
 use Rattle.machine.specs.Pass.{isDone}
-use Rattle.insertion.specs.Lists.{listOf, enteredBy, insertionOf, countOf, endOf, glyphsAt}
+use Rattle.insertion.specs.Lists.{listOf, enteredBy, insertionOf, countOf, glyphsAt}
+use Rattle.insertion.specs.Work.{endOf}
 use Rattle.insertion.specs.Insertion.{placeOf}
 use Rattle.insertion.specs.declared.Listed.{Listed}
 use Rattle.insertion.specs.declared.Listed.the-variants as Listed′

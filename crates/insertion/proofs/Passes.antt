@@ -12,7 +12,8 @@ use Rattle.line.specs.Changes.{applyAll}
 use Rattle.machine.specs.Pass.{deleted, isDone}
 use Rattle.machine.proofs.Passing.{Passing, Over, passing-start, passing-step, passing-stop, passing-end}
 use Rattle.insertion.specs.Lists.{bothChanges}
-use Rattle.insertion.specs.Insertion.{fresh, next, machine, rest, passed, passLeaves}
+use Rattle.insertion.specs.Insertion.{fresh, next, machine, rest, passed}
+use Rattle.insertion.specs.Work.{passLeaves}
 use Rattle.insertion.specs.declared.InsertionState.{InsertionState}
 use Rattle.insertion.specs.declared.InsertionStep.{InsertionStep}
 use Rattle.insertion.proofs.Edits.{Left, both-grow, both-line}

@@ -21,7 +21,8 @@ use Rattle.machine.specs.Entry.{classHere}
 use Rattle.machine.specs.Stall.{stalled}
 use Rattle.machine.specs.Pass.{isDone}
 use Rattle.machine.proofs.Stalls.{stall-falls}
-use Rattle.insertion.specs.Lists.{onTried, countOf, endOf}
+use Rattle.insertion.specs.Lists.{onTried, countOf}
+use Rattle.insertion.specs.Work.{endOf}
 use Rattle.insertion.specs.Insertion.{advanceOf, withState, stopped, finished, followed, acted, next}
 use Rattle.insertion.specs.declared.Inserted.{Inserted}
 use Rattle.insertion.specs.declared.Inserted.the-variants as Inserted′

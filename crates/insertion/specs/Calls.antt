@@ -35,10 +35,6 @@ opened bytes = onU32 (readU32 (bodyOf bytes) 16) (λ glyphs. Call′.opened byte
 unfoldable pub worked : List ℕ → Line → Passed
 worked bytes l = onMade (opened bytes) (λ states. passed (bodyOf bytes) states l)
 
--- the line that it leaves
-unfoldable pub workLeaves : List ℕ → Line → Line
-workLeaves bytes l = applyAll (worked bytes l .changes) l
-
 -- a call of the pass on the subtable at `start`: TABLE, LINE, HEAD, then the pass
 unfoldable pub passCall : List ℕ → (start : ℕ) → Line → Passed
 passCall table start l = refusedCall (refuse (passTests (length table) l (opened (drop start table)))) (worked (drop start table) l)
@@ -89,7 +85,3 @@ stepCall table start s len room index glyph ends =
 pub record PassCall : Type 0 where
   pub table : List ℕ
   pub start : ℕ
-
--- the pass of a run, by the subtable whose bytes these are
-pub record WorkCall : Type 0 where
-  pub bytes : List ℕ

@@ -11,7 +11,6 @@ use Rattle.state_tables.specs.declared.States.{States}
 use Rattle.state_tables.specs.declared.entries.Entry.{Entry}
 use Rattle.state_tables.specs.Entries.{entryOf, onEntry}
 use Rattle.line.specs.Line.{Line}
-use Rattle.line.specs.Changes.{applyAll}
 use Rattle.laws.specs.Bits.{isSet}
 use Rattle.machine.specs.Entry.{classHere}
 use Rattle.machine.specs.Stall.{stalled}
@@ -115,7 +114,3 @@ rest s l i = (length (l .glyphs) - i) * 18 + (18 - s .cycles)
 -- the pass over a line
 unfoldable pub passed : List ℕ → States → Line → Passed
 passed bytes states l = passOf (machine bytes states) (rest fresh l 0) fresh l
-
--- the line that it leaves
-unfoldable pub passLeaves : List ℕ → States → Line → Line
-passLeaves bytes states l = applyAll (passed bytes states l .changes) l

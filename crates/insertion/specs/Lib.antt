@@ -3,3 +3,4 @@ pub mod Lists
 pub mod Insertion
 pub mod Calls
 pub mod Manual
+pub mod Work

@@ -47,11 +47,6 @@ abbrev pub countOf : Inserted → ℕ
 countOf Inserted′.None = 0
 countOf (Inserted′.At place count glyphs) = count
 
--- where they end in the bytes, two for each
-abbrev pub endOf : Inserted → ℕ
-endOf Inserted′.None = 0
-endOf (Inserted′.At place count glyphs) = glyphs + count * 2
-
 -- so many glyphs that lie at a place of the bytes
 unfoldable pub glyphsAt : List ℕ → (at count : ℕ) → List ℕ
 glyphsAt bytes at count = tab (λ k. u16At bytes (at + k * 2)) count

@@ -14,9 +14,10 @@ ghost use Rattle.answers.specs.Limits as Limits;
 ghost use Rattle.answers.specs.Refuse.{refuse};
 ghost use Rattle.line.specs.Line.{lineOf};
 ghost use Rattle.line.specs.Changes.{applyAll};
-ghost use Rattle.insertion.specs.Lists.{listOf, insertionOf, countOf, endOf, changesOf, bothChanges, movedBy};
-ghost use Rattle.insertion.specs.Insertion.{fresh, placeOf, advanceOf, withState, withMark, stopped, finished, followed, acted, next, passed, passLeaves};
-ghost use Rattle.insertion.specs.Calls.{opened, worked, workLeaves, passCall, callLeaves, stepTests, fromTable, stepCall};
+ghost use Rattle.insertion.specs.Lists.{listOf, insertionOf, countOf, changesOf, bothChanges, movedBy};
+ghost use Rattle.insertion.specs.Insertion.{fresh, placeOf, advanceOf, withState, withMark, stopped, finished, followed, acted, next, passed};
+ghost use Rattle.insertion.specs.Calls.{opened, worked, passCall, callLeaves, stepTests, fromTable, stepCall};
+ghost use Rattle.insertion.specs.Work.{endOf, passLeaves, workLeaves};
 
 // The state of a pass: the state table's state, the marked place, and how many steps in a row did not advance.
 pub struct InsertionState {

@@ -8,9 +8,10 @@ use lib.Dec.{ltb}
 use lib.ListN.{length, getD}
 use borrow.Author.Tests.{lt-ltb, le-ltb, eq-eqb}
 use Rattle.line.specs.Line.{Line, lineOf}
-use Rattle.ligature.specs.Actions.{actionOf, sumOf}
+use Rattle.ligature.specs.Actions.{actionOf}
 use Rattle.laws.specs.Lists.{either}
-use Rattle.ligature.specs.Ligature.{Ligation, ligated, ligationsOf, storedIn, turnOf, onTurn, Acts, acted, acts, didActs}
+use Rattle.ligature.specs.Ligature.{Ligation, ligationsOf, storedIn, turnOf, onTurn, Acts, acted, acts}
+use Rattle.ligature.specs.Work.{ligated, sumOf, didActs}
 use Rattle.ligature.specs.declared.actions.Action.{Action}
 use Rattle.ligature.specs.declared.actions.Action.the-variants as Action′
 use Rattle.ligature.specs.declared.Turn.{Turn}

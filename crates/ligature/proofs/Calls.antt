@@ -25,9 +25,10 @@ use Rattle.machine.specs.Pass.{Stepped, Passed}
 use Rattle.machine.specs.Call.{headTest, passTests, refusedStep}
 use Rattle.machine.proofs.Calls as Machine′
 use Rattle.machine.proofs.Calls.{taken-line, past-place, stepped-line, stepped-later, head-refused, head-passed}
-use Rattle.ligature.specs.Ligature.{stackIn, Ran, next, stateOf, stepped, stepOf, machine, passed, passLeaves}
+use Rattle.ligature.specs.Ligature.{stackIn, Ran, next, stateOf, stepped, machine, passed}
 use Rattle.machine.specs.Pass.{advanceOf}
-use Rattle.ligature.specs.Calls.{opened, worked, workLeaves, passCall, depthTest, areInside, stackTest, stepTests, stepCall, stepLeaves}
+use Rattle.ligature.specs.Calls.{opened, worked, passCall, depthTest, areInside, stackTest, stepTests, stepCall, stepLeaves}
+use Rattle.ligature.specs.Work.{stepOf, passLeaves, workLeaves}
 use Rattle.ligature.specs.declared.LigatureState.{LigatureState}
 use Rattle.ligature.specs.declared.LigatureStep.{LigatureStep}
 use Rattle.ligature.specs.declared.Reached.{Reached}

@@ -8,7 +8,8 @@ use Rattle.parse.specs.Reads.{u16At}
 use Rattle.state_tables.specs.declared.entries.Entry.{Entry}
 use Rattle.line.specs.Line.{Line}
 use Rattle.laws.specs.Bits.{isSet}
-use Rattle.ligature.specs.Ligature.{Stack, stackOf, ligated, acts, didActs, Work, overflows, pushed, performed, entered, didWork}
+use Rattle.ligature.specs.Ligature.{Stack, stackOf, acts, Work, overflows, pushed, performed, entered}
+use Rattle.ligature.specs.Work.{ligated, didActs, didWork}
 use Rattle.ligature.specs.declared.Did.{Did}
 use Rattle.ligature.proofs.Ligations.{ligated-none}
 

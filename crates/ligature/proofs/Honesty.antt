@@ -12,7 +12,8 @@ use Rattle.machine.specs.Head.{bodyOf}
 use Rattle.machine.specs.Call.{passTests}
 use Rattle.machine.proofs.Quiet.{Quiet, quiet-fits, quiet-pass, quiet-made, quiet-tested, quiet-stepped}
 use Rattle.ligature.specs.Ligature.{fresh, rest, stackIn, next, machine, passed}
-use Rattle.ligature.specs.Calls.{opened, worked, workLeaves, passCall, callLeaves, stepTests, stepCall, stepLeaves, PassCall, StepCall}
+use Rattle.ligature.specs.Calls.{opened, worked, passCall, callLeaves, stepTests, stepCall, stepLeaves, PassCall, StepCall}
+use Rattle.ligature.specs.Work.{workLeaves}
 use Rattle.ligature.specs.declared.LigatureState.{LigatureState}
 use Rattle.ligature.proofs.Ligations.{quiet-ligations}
 

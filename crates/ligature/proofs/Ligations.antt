@@ -9,7 +9,8 @@ use Rattle.line.specs.Line.{Line, lineOf}
 use Rattle.line.specs.Edits.{added, inserted}
 use Rattle.line.specs.Changes.{joinedGlyphs, joinedHomes, editsOf, historyOf, apply, applyAll}
 use Rattle.machine.proofs.Quiet.{Quiet}
-use Rattle.ligature.specs.Ligature.{Ligation, changesOf, ligated, ligationsOf, storedIn}
+use Rattle.ligature.specs.Ligature.{Ligation, changesOf, ligationsOf, storedIn}
+use Rattle.ligature.specs.Work.{ligated}
 use Rattle.ligature.specs.declared.actions.Action.{Action}
 use Rattle.ligature.specs.declared.actions.Action.the-variants as Action′
 

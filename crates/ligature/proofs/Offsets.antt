@@ -15,7 +15,8 @@ use mir.Facts.{toZ-ofZ}
 use mir.ValLaws.{toZ-pos}
 use borrow.Author.Tests.{lt-ltb, le-ltb, ltb-true, ltb-false}
 use Rattle.laws.proofs.Numbers.{lt-or-ge}
-use Rattle.ligature.specs.Actions.{signed32, offsetOf, numbered, componentOf}
+use Rattle.ligature.specs.Actions.{offsetOf, numbered, componentOf}
+use Rattle.ligature.specs.Work.{signed32}
 use Rattle.ligature.specs.declared.actions.Component.{Component}
 use Rattle.ligature.specs.declared.actions.Component.the-variants as Component′
 

@@ -10,7 +10,8 @@ use Rattle.state_tables.specs.declared.States.{States}
 use Rattle.line.specs.Line.{Line, lineOf}
 use Rattle.machine.specs.Pass.{deleted, isDone}
 use Rattle.machine.proofs.Passing.{Passing, Over, passing-start, passing-step, passing-stop, passing-end}
-use Rattle.ligature.specs.Ligature.{stackOf, fresh, ligated, Ran, next, stateOf, reached, machine, rest, passed, passLeaves}
+use Rattle.ligature.specs.Ligature.{stackOf, fresh, Ran, next, stateOf, machine, rest, passed}
+use Rattle.ligature.specs.Work.{ligated, reached, passLeaves}
 use Rattle.machine.specs.Pass.{advanceOf}
 use Rattle.ligature.specs.declared.LigatureState.{LigatureState}
 use Rattle.ligature.specs.declared.Reached.{Reached}

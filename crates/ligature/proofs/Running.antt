@@ -18,7 +18,8 @@ use Rattle.state_tables.specs.Entries.{entryOf, onEntry}
 use Rattle.line.specs.Line.{Line, lineOf}
 use Rattle.laws.specs.Bits.{isSet}
 use Rattle.machine.specs.Entry.{classHere}
-use Rattle.ligature.specs.Ligature.{Stack, stackOf, Ligation, ligated, Work, entered, Ran, over, ran, next, reached}
+use Rattle.ligature.specs.Ligature.{Stack, stackOf, Ligation, Work, entered, Ran, over, ran, next}
+use Rattle.ligature.specs.Work.{ligated, reached}
 use Rattle.ligature.specs.declared.Did.{Did}
 use Rattle.ligature.specs.declared.Reached.{Reached}
 use Rattle.ligature.proofs.Ligations.{ligated-append, ligated-none, ligated-line}

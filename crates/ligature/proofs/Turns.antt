@@ -10,7 +10,8 @@ use Rattle.state_tables.specs.declared.States.{States}
 use Rattle.line.specs.Line.{Line}
 use Rattle.machine.specs.Pass.{isDone, advanceOf, passFrom}
 use Rattle.machine.proofs.Turns.{Counts, enough-turns}
-use Rattle.ligature.specs.Ligature.{Ligation, ligated, stackIn, fresh, next, machine, rest, passed}
+use Rattle.ligature.specs.Ligature.{Ligation, stackIn, fresh, next, machine, rest, passed}
+use Rattle.ligature.specs.Work.{ligated}
 use Rattle.ligature.specs.declared.LigatureState.{LigatureState}
 use Rattle.ligature.proofs.Ligations.{ligated-line}
 

@@ -1,7 +1,7 @@
 -- An action of a ligature subtable, as the crate reads it. The bytes are those from the state table on: the numbers at 16, 20 and 24 are
 -- where its actions, its components and its ligatures begin.
 use Prim.Native.Nat.{ℕ, _+_, _-_, _*_, _%_}
-use mathlib.Core.Bool.{Bool, true, false, cond}
+use mathlib.Core.Bool.{Bool, cond}
 use mathlib.Core.List.{List}
 use lib.IntN.{ℤ, pos, negsuc, _+ℤ_, _-ℤ_}
 use Rattle.laws.specs.Choose.{ifLt, ifEq}
@@ -17,10 +17,6 @@ use Rattle.ligature.specs.declared.actions.Component.{Component}
 use Rattle.ligature.specs.declared.actions.Component.the-variants as Component′
 use Rattle.ligature.specs.declared.actions.Action.{Action}
 use Rattle.ligature.specs.declared.actions.Action.the-variants.{Ended, Adds, Makes}
-
--- the signed value of a 32-bit number: from 2^31 on it is less by 2^32
-unfoldable pub signed32 : ℕ → ℤ
-signed32 n = ifLt n 0x80000000 (pos n) (negsuc (0xFFFFFFFF - n))
 
 -- an action's offset is its low 30 bits, signed: from 2^29 on they are less by 2^30
 unfoldable pub offsetOf : ℕ → ℤ
@@ -67,9 +63,3 @@ actionOf bytes number glyph sum =
     (λ component. onU16 (readNumber bytes 20 component)
     (λ adds. madeBy bytes action (sum + adds))
     Ended) Ended) Ended)
-
--- the sum after an action
-abbrev pub sumOf : Action → ℕ
-sumOf Ended = 0
-sumOf (Adds sum) = sum
-sumOf (Makes sum ligature last) = sum

@@ -3,3 +3,4 @@ pub mod Actions
 pub mod Ligature
 pub mod Calls
 pub mod Manual
+pub mod Work

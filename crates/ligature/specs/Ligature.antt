@@ -1,6 +1,6 @@
 -- The ligature machine, as the crate's `next`, and its pass.
 use Prim.Native.Nat.{ℕ, zero, suc, _+_, _-_}
-use mathlib.Core.Bool.{Bool, true, false, cond, not}
+use mathlib.Core.Bool.{Bool, true, false, not}
 use mathlib.Core.List.{List, [], _∷_, _++_}
 use lib.Dec.{ltb, leb}
 use lib.ListN.{getD, set, take, drop}
@@ -12,7 +12,7 @@ use Rattle.state_tables.specs.declared.States.{States}
 use Rattle.state_tables.specs.declared.entries.Entry.{Entry}
 use Rattle.state_tables.specs.Entries.{entryOf, onEntry}
 use Rattle.line.specs.Line.{Line}
-use Rattle.line.specs.Changes.{Change, applyAll}
+use Rattle.line.specs.Changes.{Change}
 use Rattle.laws.specs.Bits.{isSet}
 use Rattle.machine.specs.Entry.{classHere}
 use Rattle.machine.specs.Pass.{Stepped, Machine, Passed, advanceOf, passOf}
@@ -21,10 +21,7 @@ use Rattle.ligature.specs.declared.actions.Action.{Action}
 use Rattle.ligature.specs.declared.actions.Action.the-variants as Action′
 use Rattle.ligature.specs.declared.Turn.{Turn}
 use Rattle.ligature.specs.declared.Turn.the-variants as Turn′
-use Rattle.ligature.specs.declared.Did.{Did}
-use Rattle.ligature.specs.declared.Reached.{Reached}
 use Rattle.ligature.specs.declared.LigatureState.{LigatureState}
-use Rattle.ligature.specs.declared.LigatureStep.{LigatureStep}
 
 -- the stack: the places and the glyphs of its slots, of which the first `depth` are used
 pub record Stack : Type 0 where
@@ -53,10 +50,6 @@ pub record Ligation : Type 0 where
 unfoldable pub changesOf : List Ligation → List Change
 changesOf [] = []
 changesOf (l ∷ ls) = Change.ligature (l .at) (l .glyph) (l .parts) ∷ changesOf ls
-
--- the line after them
-abbrev pub ligated : List Ligation → Line → Line
-ligated made l = applyAll (changesOf made) l
 
 -- the ligature that an action makes at a slot: its components are the places of the used slots above
 abbrev pub ligationsOf : Action → (places : List ℕ) → (slot depth : ℕ) → List Ligation
@@ -197,23 +190,9 @@ stateOf r =
 abbrev pub stepped : Ran → Stepped LigatureState
 stepped r = record { answer = r .answer; state = stateOf r; advance = advanceOf (r .answer); changes = changesOf (r .made) }
 
--- what is handed back
-abbrev pub stepOf : Stepped LigatureState → LigatureStep
-stepOf r = record { answer = r .answer; state = r .state; advance = r .advance }
-
 -- a state's stack
 abbrev pub stackIn : LigatureState → Stack
 stackIn s = stackOf (s .places) (s .glyphs) (s .depth)
-
--- the numbers among what the code's parts answer; the rest is left in the lent slices
-abbrev pub didActs : Acts → Did
-didActs a = record { ended = a .ended; depth = a .depth; cycles = a .cycles }
-
-abbrev pub didWork : Work → Did
-didWork w = record { ended = w .ended; depth = w .stack .depth; cycles = w .cycles }
-
-abbrev pub reached : Ran → Reached
-reached r = record { answer = r .answer; state = r .state; depth = r .stack .depth }
 
 -- the machine that passes are made of
 unfoldable pub machine : List ℕ → States → Machine LigatureState
@@ -226,7 +205,3 @@ rest s l i = (l .used - i) + 1
 -- the pass over a line
 unfoldable pub passed : List ℕ → States → Line → Passed
 passed bytes states l = passOf (machine bytes states) (rest fresh l 0) fresh l
-
--- the line that it leaves
-unfoldable pub passLeaves : List ℕ → States → Line → Line
-passLeaves bytes states l = applyAll (passed bytes states l .changes) l

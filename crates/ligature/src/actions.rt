@@ -5,7 +5,8 @@ use parse::ReadU32;
 ghost use mathlib.Core.Path.{_≡_};
 ghost use Prim.Native.Nat.{_+_, _<_, _≤_};
 ghost use lib.Signed.{mag};
-ghost use Rattle.ligature.specs.Actions.{signed32, offsetOf, componentOf, readAction, readNumber, stores, madeBy, actionOf, sumOf};
+ghost use Rattle.ligature.specs.Actions.{offsetOf, componentOf, readAction, readNumber, stores, madeBy, actionOf};
+ghost use Rattle.ligature.specs.Work.{signed32, sumOf};
 
 // The number of a component; there is none below 0.
 enum Component {

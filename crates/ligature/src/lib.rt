@@ -17,9 +17,10 @@ ghost use Prim.Native.Nat.{_+_, _<_, _≤_};
 ghost use lib.ListN.{length};
 ghost use Rattle.answers.specs.Refuse.{refuse};
 ghost use Rattle.line.specs.Line.{lineOf};
-ghost use Rattle.ligature.specs.Ligature.{stackOf, fresh, ligated, ligationsOf, storedIn, turnOf, acts, didActs, overflows, pushed, entered, didWork, next, reached, stepOf, passed, passLeaves};
+ghost use Rattle.ligature.specs.Ligature.{stackOf, fresh, ligationsOf, storedIn, turnOf, acts, overflows, pushed, entered, next, passed};
 ghost use Rattle.machine.specs.Pass.{advanceOf};
-ghost use Rattle.ligature.specs.Calls.{opened, worked, workLeaves, passCall, callLeaves, areInside, stepTests, stepCall, stepLeaves};
+ghost use Rattle.ligature.specs.Calls.{opened, worked, passCall, callLeaves, areInside, stepTests, stepCall, stepLeaves};
+ghost use Rattle.ligature.specs.Work.{ligated, didActs, didWork, reached, stepOf, passLeaves, workLeaves};
 
 // The state of a pass: the state table's state, and the stack, a place and a glyph for each slot, of which the first `depth` are used.
 pub struct LigatureState {

@@ -22,7 +22,8 @@ use Rattle.machine.specs.Pass as Pass
 use Rattle.chains.specs.Entries.{startTest}
 use Rattle.morx.specs.Kinds.{kindAt, isOpen, worked}
 use Rattle.morx.specs.Run.{Ran, ran}
-use Rattle.morx.specs.Calls.{lineTests, openTest, passTests, passCall, runTests, runCall}
+use Rattle.morx.specs.Calls.{openTest, passTests, passCall, runTests, runCall}
+use Rattle.morx.specs.Work.{lineTests}
 use Rattle.morx.specs.declared.Choices.{Choices}
 use Rattle.morx.specs.declared.Kind.{Kind}
 use Rattle.morx.specs.declared.PassReply.{PassReply}

@@ -15,7 +15,7 @@ use Rattle.line.proofs.Exact.{valid-of, of-valid}
 use Rattle.line.proofs.Histories.{by-changes, inserted-append, history-append}
 use Rattle.machine.specs.Pass.{Passed}
 use Rattle.machine.proofs.Quiet.{Quiet, quiet-fits}
-use Rattle.morx.specs.Kinds.{replyOf}
+use Rattle.morx.specs.Work.{replyOf}
 use Rattle.morx.specs.declared.PassReply.{PassReply}
 
 pub record Leaves (p : Passed) (l : Line) (reply : PassReply) (glyphs tags homes : List ℕ) : Type 0 where

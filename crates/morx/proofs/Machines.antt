@@ -26,6 +26,7 @@ use Rattle.machine.specs.Pass.{Passed}
 use Rattle.machine.specs.Call as Call′
 use Rattle.machine.proofs.Quiet.{Quiet, quiet-none, quiet-fits}
 use Rattle.rearrangement.specs.Rearrangement as R
+use Rattle.rearrangement.specs.Work as RW
 use Rattle.rearrangement.specs.declared.RearrangementState.{RearrangementState}
 use Rattle.rearrangement.specs.declared.Window.{Window}
 use Rattle.rearrangement.specs.declared.Window.the-variants as Window′
@@ -33,17 +34,21 @@ use Rattle.rearrangement.proofs.Honesty as RH
 use Rattle.contextual.specs.Substitutes as S
 use Rattle.contextual.specs.Contextual as C
 use Rattle.contextual.specs.Calls as CC
+use Rattle.contextual.specs.Work as CW
 use Rattle.contextual.specs.declared.ContextualState.{ContextualState}
 use Rattle.contextual.proofs.Honesty as CH
 use Rattle.noncontextual.specs.NonContextual as N
+use Rattle.noncontextual.specs.Work as NW
 use Rattle.noncontextual.proofs.Honesty as NH
 use Rattle.ligature.specs.Ligature as L
 use Rattle.ligature.specs.Calls as LC
+use Rattle.ligature.specs.Work as LW
 use Rattle.ligature.specs.declared.LigatureState.{LigatureState}
 use Rattle.ligature.proofs.Honesty as LH
 use Rattle.insertion.specs.Lists as IL
 use Rattle.insertion.specs.Insertion as IM
 use Rattle.insertion.specs.Calls as I
+use Rattle.insertion.specs.Work as IW
 use Rattle.insertion.specs.declared.InsertionState.{InsertionState}
 use Rattle.insertion.specs.declared.InsertionStep.{InsertionStep}
 use Rattle.insertion.specs.declared.Inserted.{Inserted}
@@ -52,7 +57,8 @@ use Rattle.insertion.proofs.Honesty as IH
 use Rattle.tables.specs.Lookup.{lookupAt}
 use Rattle.tables.specs.declared.lookup.Found.{Found}
 use Rattle.tables.specs.declared.lookup.Found.the-variants as Found′
-use Rattle.morx.specs.Kinds.{kindOf, kindAt, worked, workLeaves, replyOf}
+use Rattle.morx.specs.Kinds.{kindOf, kindAt, worked}
+use Rattle.morx.specs.Work.{workLeaves, replyOf}
 use Rattle.morx.specs.declared.Kind.{Kind}
 use Rattle.morx.specs.declared.Kind.the-variants.{Rearrangement, Contextual, Ligature, NonContextual, Insertion, LeftOut}
 use Rattle.morx.specs.declared.PassReply.{PassReply}
@@ -199,9 +205,9 @@ module _ (kind : Kind) (bytes glyphs tags homes : List ℕ) (used : ℕ) where
   as-kind {k} {reply} {glyphs′} {tags′} {homes′} e left = subst⁻¹ (λ (x : Kind). Leaves (worked x bytes line) line reply glyphs′ tags′ homes′) e left
 
   pub by-rearrangement : {answer : Answer} {glyphs′ tags′ : List ℕ} → kind ≡ Rearrangement → answer ≡ R.worked bytes line .answer
-      → glyphs′ ≡ R.workLeaves bytes line .glyphs → tags′ ≡ R.workLeaves bytes line .tags
+      → glyphs′ ≡ RW.workLeaves bytes line .glyphs → tags′ ≡ RW.workLeaves bytes line .tags
       → Leaves (worked kind bytes line) line (record { answer = answer; used = used }) glyphs′ tags′ homes
-  unfolding worked R.workLeaves
+  unfolding worked RW.workLeaves
   by-rearrangement e a g t =
       as-kind e
       (by-fields (R.worked bytes line) line a g t
@@ -209,9 +215,9 @@ module _ (kind : Kind) (bytes glyphs tags homes : List ℕ) (used : ℕ) where
       (sym (kept-rearrangement (λ (x : Line). x .used) window-used bytes line line)))
 
   pub by-contextual : {answer : Answer} {glyphs′ : List ℕ} → kind ≡ Contextual → answer ≡ CC.worked bytes line .answer
-      → glyphs′ ≡ CC.workLeaves bytes line .glyphs
+      → glyphs′ ≡ CW.workLeaves bytes line .glyphs
       → Leaves (worked kind bytes line) line (record { answer = answer; used = used }) glyphs′ tags homes
-  unfolding worked CC.workLeaves
+  unfolding worked CW.workLeaves
   by-contextual e a g =
       as-kind e
       (by-fields (CC.worked bytes line) line a g
@@ -220,9 +226,9 @@ module _ (kind : Kind) (bytes glyphs tags homes : List ℕ) (used : ℕ) where
       (sym (kept-contextual (λ (x : Line). x .used) write-used bytes line line)))
 
   pub by-noncontextual : {answer : Answer} {glyphs′ : List ℕ} → kind ≡ NonContextual → answer ≡ N.worked bytes line .answer
-      → glyphs′ ≡ N.workLeaves bytes line .glyphs
+      → glyphs′ ≡ NW.workLeaves bytes line .glyphs
       → Leaves (worked kind bytes line) line (record { answer = answer; used = used }) glyphs′ tags homes
-  unfolding worked N.workLeaves
+  unfolding worked NW.workLeaves
   by-noncontextual e a g =
       as-kind e
       (by-fields (N.worked bytes line) line a g
@@ -236,9 +242,9 @@ module _ (kind : Kind) (bytes glyphs tags homes : List ℕ) (used : ℕ) where
   by-none e = as-kind e (headless line)
 
   pub by-ligature : {answer : Answer} {glyphs′ homes′ : List ℕ} → kind ≡ Ligature → answer ≡ LC.worked bytes line .answer
-      → glyphs′ ≡ LC.workLeaves bytes line .glyphs → homes′ ≡ LC.workLeaves bytes line .homes
+      → glyphs′ ≡ LW.workLeaves bytes line .glyphs → homes′ ≡ LW.workLeaves bytes line .homes
       → Leaves (worked kind bytes line) line (record { answer = answer; used = used }) glyphs′ tags homes′
-  unfolding worked LC.workLeaves
+  unfolding worked LW.workLeaves
   by-ligature e a g h =
       as-kind e
       (by-fields (LC.worked bytes line) line a g
@@ -247,9 +253,9 @@ module _ (kind : Kind) (bytes glyphs tags homes : List ℕ) (used : ℕ) where
       (sym (kept-ligature (λ (x : Line). x .used) ligature-used bytes line line)))
 
   pub by-insertion : {answer : Answer} {used′ : ℕ} {glyphs′ tags′ : List ℕ} → kind ≡ Insertion → answer ≡ I.worked bytes line .answer
-      → used′ ≡ I.workLeaves bytes line .used → glyphs′ ≡ I.workLeaves bytes line .glyphs → tags′ ≡ I.workLeaves bytes line .tags
+      → used′ ≡ IW.workLeaves bytes line .used → glyphs′ ≡ IW.workLeaves bytes line .glyphs → tags′ ≡ IW.workLeaves bytes line .tags
       → Leaves (worked kind bytes line) line (record { answer = answer; used = used′ }) glyphs′ tags′ homes
-  unfolding worked I.workLeaves
+  unfolding worked IW.workLeaves
   by-insertion e a u g t =
       as-kind e (by-fields (I.worked bytes line) line a g t (sym (kept-insertion (λ (x : Line). x .homes) insertion-homes bytes line line)) u)
 
@@ -260,7 +266,7 @@ worked-fits Rearrangement bytes l v = quiet-fits _ l v (RH.quiet-worked bytes l)
 worked-fits Contextual bytes l v = quiet-fits _ l v (CH.quiet-worked bytes l)
 worked-fits Ligature bytes l v = quiet-fits _ l v (LH.quiet-worked bytes l)
 worked-fits NonContextual bytes l v = quiet-fits _ l v (NH.quiet-worked bytes l)
-worked-fits Insertion bytes l v = IH.works-honest .legal (record { bytes = bytes }) l v
+worked-fits Insertion bytes l v = IH.worked-fits bytes l v
 worked-fits LeftOut bytes l v = quiet-fits [] l v quiet-none
 
 -- the kind of the subtable that the bytes begin with, from what the code has read

@@ -19,7 +19,8 @@ use Rattle.chains.specs.declared.Head.{Head}
 use Rattle.chains.specs.declared.Walk.{Walk}
 use Rattle.chains.specs.declared.NextHead.{NextHead}
 use Rattle.chains.specs.declared.NextHead.the-variants as Next′
-use Rattle.morx.specs.Run.{visit, visitLeaves, flagsAfter, Ran, behind, runOver, ran, runReplyOf}
+use Rattle.morx.specs.Run.{visit, visitLeaves, flagsAfter, Ran, behind, runOver, ran}
+use Rattle.morx.specs.Work.{runReplyOf}
 use Rattle.morx.specs.declared.Choices.{Choices}
 use Rattle.morx.specs.declared.PassReply.{PassReply}
 use Rattle.morx.specs.declared.RunReply.{RunReply}

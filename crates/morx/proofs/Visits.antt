@@ -20,8 +20,9 @@ use Rattle.chains.specs.Orders.{isReversed}
 use Rattle.chains.specs.declared.Subtable.{Subtable}
 use Rattle.chains.specs.declared.Head.{Head}
 use Rattle.chains.specs.declared.Head.the-variants as Head′
-use Rattle.morx.specs.Kinds.{kindOf, worked, workLeaves}
-use Rattle.morx.specs.Run.{isPassedOver, idle, turnedWork, turnedLeaves, settledAnswer, settled, visitSubtable, subtableLeaves, visit, visitLeaves}
+use Rattle.morx.specs.Kinds.{kindOf, worked}
+use Rattle.morx.specs.Run.{isPassedOver, idle, turnedWork, settledAnswer, settled, visitSubtable, visit, visitLeaves}
+use Rattle.morx.specs.Work.{subtableLeaves, workLeaves, turnedLeaves}
 use Rattle.morx.specs.declared.Kind.{Kind}
 use Rattle.morx.specs.declared.Choices.{Choices}
 use Rattle.morx.specs.declared.PassReply.{PassReply}

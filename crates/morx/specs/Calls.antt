@@ -18,10 +18,6 @@ use Rattle.morx.specs.Kinds.{kindAt, isOpen, worked}
 use Rattle.morx.specs.Run.{Ran, ran}
 use Rattle.morx.specs.declared.Choices.{Choices}
 
--- TABLE, LINE
-unfoldable pub lineTests : (length : ℕ) → Line → List Test
-lineTests length l = tableTest length ∷ lineTest l ∷ []
-
 -- HEAD: the head of the subtable that the bytes begin with is cut short, its kind is left out, or it can't be opened; a start past the
 -- table leaves no bytes
 unfoldable pub openTest : (bytes : List ℕ) → Test

@@ -1,13 +1,12 @@
 -- The pass by a subtable of whatever kind.
 use Prim.Native.Nat.{ℕ, _%_}
-use mathlib.Core.Bool.{Bool, true, false, not, cond}
+use mathlib.Core.Bool.{Bool, false, not, cond}
 use mathlib.Core.List.{List, []}
 use Rattle.laws.specs.Choose.{ifEq}
 use Rattle.answers.specs.declared.Answer.the-variants as Answer′
 use Rattle.answers.specs.declared.Refusal.the-variants as Refusal′
 use Rattle.parse.specs.Reads.{inside, u32At}
 use Rattle.line.specs.Line.{Line}
-use Rattle.line.specs.Changes.{applyAll}
 use Rattle.machine.specs.Head.{hasKind}
 use Rattle.machine.specs.Pass.{Passed}
 use Rattle.machine.specs.Call.{isShort, opened}
@@ -18,7 +17,6 @@ use Rattle.ligature.specs.Calls as Ligature′
 use Rattle.insertion.specs.Calls as Insertion′
 use Rattle.morx.specs.declared.Kind.{Kind}
 use Rattle.morx.specs.declared.Kind.the-variants.{Rearrangement, Contextual, Ligature, NonContextual, Insertion, LeftOut}
-use Rattle.morx.specs.declared.PassReply.{PassReply}
 
 -- the kinds 0, 1, 2, 4 and 5 are taken
 unfoldable pub kindOf : ℕ → Kind
@@ -50,11 +48,3 @@ worked Ligature bytes l = Ligature′.worked bytes l
 worked NonContextual bytes l = NonContextual′.worked bytes l
 worked Insertion bytes l = Insertion′.worked bytes l
 worked LeftOut bytes l = record { answer = Answer′.Refused Refusal′.Head; changes = [] }
-
--- the line that it leaves
-unfoldable pub workLeaves : Kind → List ℕ → Line → Line
-workLeaves kind bytes l = applyAll (worked kind bytes l .changes) l
-
--- what a pass answers: its answer, and the used length after its changes
-abbrev pub replyOf : Passed → Line → PassReply
-replyOf p l = record { answer = p .answer; used = applyAll (p .changes) l .used }

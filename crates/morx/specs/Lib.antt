@@ -5,3 +5,4 @@ pub mod Heads
 pub mod Calls
 pub mod Sequence
 pub mod Memory
+pub mod Work

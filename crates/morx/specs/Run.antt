@@ -20,7 +20,6 @@ use Rattle.chains.specs.declared.Head.the-variants as Head′
 use Rattle.morx.specs.Kinds.{kindOf, isOpen, worked}
 use Rattle.morx.specs.declared.Kind.{Kind}
 use Rattle.morx.specs.declared.Choices.{Choices}
-use Rattle.morx.specs.declared.RunReply.{RunReply}
 
 -- the flags that choose a chain's subtables: its default flags
 abbrev pub choosing : Chain → ℕ
@@ -48,10 +47,6 @@ turnedWork true kind bytes l =
       changes = (Change.reversal ∷ worked kind bytes (apply Change.reversal l) .changes) ++ (Change.reversal ∷ []);
     }
 
--- the line that it leaves
-unfoldable pub turnedLeaves : (turned : Bool) → Kind → List ℕ → Line → Line
-turnedLeaves turned kind bytes l = applyAll (turnedWork turned kind bytes l .changes) l
-
 -- what a pass's answer is to its run: FULL ends the run, and any other end is the subtable's own. A pass is never NOTHING or LIMIT, and in a run never
 -- refused, since what can't be opened is passed over before: those lines are never reached
 abbrev pub settledAnswer : Answer → Answer
@@ -74,10 +69,6 @@ module _ (table : List ℕ) (choices : Choices) where
         | true ↦ idle
         | false ↦ settled (turnedWork (isReversed (s .order) (choices .«right_to_left»)) (kindOf (s .kind)) (drop (s .place) table) l)
       ]
-
-  -- the line that it leaves
-  unfoldable pub subtableLeaves : (flags : ℕ) → Subtable → Line → Line
-  subtableLeaves flags s l = applyAll (visitSubtable flags s l .changes) l
 
   -- what it does at a head: nothing at a chain
   unfoldable pub visit : (flags : ℕ) → Head → Line → Passed
@@ -120,11 +111,3 @@ module _ (table : List ℕ) (choices : Choices) where
 -- the run over the table at `start`
 unfoldable pub ran : List ℕ → (start : ℕ) → Choices → Line → Ran
 ran table start choices l = runOver table choices headLimit 0 (walkOf table start) l
-
--- the line that it leaves
-unfoldable pub ranLeaves : List ℕ → (start : ℕ) → Choices → Line → Line
-ranLeaves table start choices l = applyAll (ran table start choices l .changes) l
-
--- what a run answers: its answer, the used length after its changes, and its heads
-abbrev pub runReplyOf : Ran → Line → RunReply
-runReplyOf r l = record { answer = r .answer; used = applyAll (r .changes) l .used; heads = r .heads }

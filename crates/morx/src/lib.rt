@@ -17,9 +17,10 @@ ghost use Rattle.answers.specs.Refuse.{refuse};
 ghost use Rattle.line.specs.Line.{lineOf};
 ghost use Rattle.line.specs.Test.{isValid};
 ghost use Rattle.machine.specs.Call.{isShort};
-ghost use Rattle.morx.specs.Kinds.{kindOf, kindAt, isOpen, worked, workLeaves, replyOf};
-ghost use Rattle.morx.specs.Run.{shareBit, isPassedOver, turnedWork, turnedLeaves, settledAnswer, flagsAfter, visit, visitLeaves, visitSubtable, subtableLeaves, ran, ranLeaves, runReplyOf};
-ghost use Rattle.morx.specs.Calls.{lineTests, passCall, passLeaves, runTests, runCall, runLeaves};
+ghost use Rattle.morx.specs.Kinds.{kindOf, kindAt, isOpen, worked};
+ghost use Rattle.morx.specs.Run.{shareBit, isPassedOver, turnedWork, settledAnswer, flagsAfter, visit, visitLeaves, visitSubtable, ran};
+ghost use Rattle.morx.specs.Calls.{passCall, passLeaves, runTests, runCall, runLeaves};
+ghost use Rattle.morx.specs.Work.{subtableLeaves, turnedLeaves, ranLeaves, runReplyOf, workLeaves, replyOf, lineTests};
 
 // The kinds of subtables; those that are left out are one.
 pub enum Kind {

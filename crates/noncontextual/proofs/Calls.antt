@@ -19,7 +19,8 @@ use Rattle.line.specs.Changes.{applyAll}
 use Rattle.line.proofs.Refusals.{refuse-line, refuse-past-line, passed-line}
 use Rattle.machine.specs.Head.{hasKind, bodyOf}
 use Rattle.machine.specs.Pass as Pass
-use Rattle.noncontextual.specs.NonContextual.{passed, passLeaves, worked, workLeaves, kindTest, passTests, passCall}
+use Rattle.noncontextual.specs.NonContextual.{passed, worked, kindTest, passTests, passCall}
+use Rattle.noncontextual.specs.Work.{passLeaves, workLeaves}
 
 module _ (length : ℕ) (l : Line) (bytes : List ℕ) {check : Check} (e : check ≡ refuse (tableTest length ∷ [])) where
   abbrev behind : List Test

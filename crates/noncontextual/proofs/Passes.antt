@@ -13,7 +13,8 @@ use Rattle.tables.specs.declared.lookup.Found.the-variants as Found′
 use Rattle.line.specs.Line.{Line, lineOf}
 use Rattle.line.specs.Changes.{written, apply, applyAll}
 use Rattle.line.proofs.Histories.{applyAll-append}
-use Rattle.noncontextual.specs.NonContextual.{writesOf, replaced, writesBelow, passed, passLeaves}
+use Rattle.noncontextual.specs.NonContextual.{writesOf, writesBelow, passed}
+use Rattle.noncontextual.specs.Work.{replaced, passLeaves}
 
 -- a replacement is the writes of its place
 replaced-line : (place : ℕ) (found : Found) (glyphs tags homes : List ℕ) (used : ℕ)

@@ -1,2 +1,3 @@
 -- The non-contextual pass.
 pub mod NonContextual
+pub mod Work

@@ -11,7 +11,7 @@ use Rattle.tables.specs.declared.lookup.Found.{Found}
 use Rattle.tables.specs.declared.lookup.Found.the-variants as Found′
 use Rattle.line.specs.Line.{Line}
 use Rattle.line.specs.Test.{lineTest}
-use Rattle.line.specs.Changes.{Change, written, applyAll}
+use Rattle.line.specs.Changes.{Change, applyAll}
 use Rattle.machine.specs.Head.{hasKind, bodyOf}
 use Rattle.machine.specs.Pass.{Passed}
 use Rattle.machine.specs.Call.{refusedCall}
@@ -20,11 +20,6 @@ use Rattle.machine.specs.Call.{refusedCall}
 abbrev pub writesOf : (place : ℕ) → Found → List Change
 writesOf place (Found′.At glyph) = Change.write place glyph ∷ []
 writesOf place (Found′.Nothing why) = []
-
--- the same on the glyphs alone
-abbrev pub replaced : (used place : ℕ) → Found → List ℕ → List ℕ
-replaced used place (Found′.At glyph) glyphs = written used place glyph glyphs
-replaced used place (Found′.Nothing why) glyphs = glyphs
 
 -- what is written at the first n places, each by the glyph that stands there; deleted glyphs are looked up like any other
 unfoldable pub writesBelow : List ℕ → (glyphs : List ℕ) → (n : ℕ) → List Change
@@ -35,17 +30,9 @@ writesBelow body glyphs (suc n) = writesBelow body glyphs n ++ writesOf n (looku
 unfoldable pub passed : List ℕ → Line → Passed
 passed body l = record { answer = Answer′.Done; changes = writesBelow body (l .glyphs) (l .used) }
 
--- the line that it leaves
-unfoldable pub passLeaves : List ℕ → Line → Line
-passLeaves body l = applyAll (passed body l .changes) l
-
 -- the pass by the subtable that the bytes begin with, by the lookup right behind its head; HEAD where it is none of this kind
 unfoldable pub worked : List ℕ → Line → Passed
 worked bytes l = cond (hasKind bytes 4) (passed (bodyOf bytes) l) (record { answer = Answer′.Refused Refusal′.Head; changes = [] })
-
--- the line that it leaves
-unfoldable pub workLeaves : List ℕ → Line → Line
-workLeaves bytes l = applyAll (worked bytes l .changes) l
 
 -- HEAD: the head is cut short, or of another kind
 unfoldable pub kindTest : (bytes : List ℕ) → Test

@@ -10,7 +10,8 @@ ghost use lib.ListN.{length};
 ghost use Rattle.answers.specs.Refuse.{refuse};
 ghost use Rattle.line.specs.Line.{lineOf};
 ghost use Rattle.tables.specs.Lookup.{lookupAt};
-ghost use Rattle.noncontextual.specs.NonContextual.{replaced, passTests, passLeaves, worked, workLeaves, passCall, callLeaves};
+ghost use Rattle.noncontextual.specs.NonContextual.{passTests, worked, passCall, callLeaves};
+ghost use Rattle.noncontextual.specs.Work.{replaced, passLeaves, workLeaves};
 
 // The kind of a non-contextual subtable.
 pub const KIND: u32 = 4;

@@ -17,7 +17,8 @@ use Rattle.line.specs.Line.{Line}
 use Rattle.line.specs.Changes.{applyAll}
 use Rattle.machine.specs.Pass.{Passed}
 use Rattle.machine.specs.Call.{opened, passTests}
-use Rattle.rearrangement.specs.Rearrangement.{passed, passLeaves, worked, workLeaves, passCall, callLeaves}
+use Rattle.rearrangement.specs.Rearrangement.{passed, worked, passCall, callLeaves}
+use Rattle.rearrangement.specs.Work.{passLeaves, workLeaves}
 
 -- an answer and slices that are what a pass gives
 pub record Ends (whole : Passed) (l : Line) (answer : Answer) (glyphs tags : List ℕ) : Type 0 where

@@ -21,7 +21,8 @@ use Rattle.machine.specs.Stall.{stalled}
 use Rattle.machine.specs.Pass.{Stepped, Passed, deleted, isDone, stepAt, endCall, passFrom}
 use Rattle.machine.proofs.Stalls.{stall-falls}
 use Rattle.machine.proofs.Passing.{Passing, Over, passing-start, passing-step, passing-stop, passing-end}
-use Rattle.rearrangement.specs.Rearrangement.{fresh, acted, unmoved, next, changesOf, machine, rest, passed, passLeaves}
+use Rattle.rearrangement.specs.Rearrangement.{fresh, acted, unmoved, next, changesOf, machine, rest, passed}
+use Rattle.rearrangement.specs.Work.{passLeaves}
 use Rattle.rearrangement.specs.declared.RearrangementState.{RearrangementState}
 use Rattle.rearrangement.specs.declared.RearrangementStep.{RearrangementStep}
 use Rattle.rearrangement.specs.declared.Window.{Window}

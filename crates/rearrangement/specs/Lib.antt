@@ -1,3 +1,4 @@
 -- The rearrangement machine.
 pub mod Rearrangement
 pub mod Calls
+pub mod Work

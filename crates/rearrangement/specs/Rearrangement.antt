@@ -1,6 +1,6 @@
 -- The rearrangement machine, as the crate's `next`, and its pass.
-use Prim.Native.Nat.{ℕ, _+_, _*_, _-_, _/_, _%_}
-use mathlib.Core.Bool.{Bool, true, false, cond}
+use Prim.Native.Nat.{ℕ, _+_, _*_, _-_, _%_}
+use mathlib.Core.Bool.{Bool, cond}
 use mathlib.Core.List.{List, [], _∷_}
 use lib.Dec.{ltb}
 use lib.ListN.{length, drop}
@@ -25,7 +25,7 @@ use Rattle.machine.specs.Call.{opened, headTest, passTests, refusedCall}
 use Rattle.laws.specs.Bits.{isSet}
 use Rattle.machine.specs.Entry.{classHere}
 use Rattle.machine.specs.Stall.{stalled}
-use Rattle.machine.specs.Pass.{Stepped, Machine, Passed, passOf}
+use Rattle.machine.specs.Pass.{Machine, Passed, passOf}
 use Rattle.rearrangement.specs.declared.RearrangementState.{RearrangementState}
 use Rattle.rearrangement.specs.declared.RearrangementStep.{RearrangementStep}
 use Rattle.rearrangement.specs.declared.Window.{Window}
@@ -90,17 +90,9 @@ rest s l i = (l .used - i) * 18 + (18 - s .cycles)
 unfoldable pub passed : List ℕ → States → Line → Passed
 passed bytes states l = passOf (machine bytes states) (rest fresh l 0) fresh l
 
--- the line that it leaves
-unfoldable pub passLeaves : List ℕ → States → Line → Line
-passLeaves bytes states l = applyAll (passed bytes states l .changes) l
-
 -- the pass by the subtable that the bytes begin with; HEAD where it can't be opened
 unfoldable pub worked : List ℕ → Line → Passed
 worked bytes l = Call′.onMade (opened bytes 0) (λ states. passed (bodyOf bytes) states l)
-
--- the line that it leaves
-unfoldable pub workLeaves : List ℕ → Line → Line
-workLeaves bytes l = applyAll (worked bytes l .changes) l
 
 -- a call of the pass on the subtable at `start`: TABLE, LINE, HEAD, then the pass
 unfoldable pub passCall : List ℕ → (start : ℕ) → Line → Passed

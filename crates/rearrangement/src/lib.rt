@@ -17,7 +17,8 @@ ghost use Rattle.answers.specs.Limits.{room};
 ghost use Rattle.line.specs.Line.{lineOf};
 ghost use Rattle.line.specs.Changes.{applyAll};
 ghost use Rattle.machine.specs.Pass.{Passed};
-ghost use Rattle.rearrangement.specs.Rearrangement.{fresh, marked, windowOf, acted, next, changesOf, passed, passLeaves, worked, workLeaves, passCall, callLeaves, unmoved, stepTests, stepCall};
+ghost use Rattle.rearrangement.specs.Rearrangement.{fresh, marked, windowOf, acted, next, changesOf, passed, worked, passCall, callLeaves, unmoved, stepTests, stepCall};
+ghost use Rattle.rearrangement.specs.Work.{passLeaves, workLeaves};
 
 // The state of a pass: the state table's state, the marked window, and how many steps in a row did not advance.
 pub struct RearrangementState {

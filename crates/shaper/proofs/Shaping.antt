@@ -26,7 +26,7 @@ use Rattle.line.specs.Changes.{glyphsOf, numbersFrom, opened}
 use Rattle.line.specs.Entries.{freshOf}
 use Rattle.line.proofs.Once.{length-numbersFrom}
 use Rattle.line.proofs.Loops.{paste-over, length-glyphsOf}
-use Rattle.morx.specs.Run.{runReplyOf}
+use Rattle.morx.specs.Work.{runReplyOf}
 use Rattle.morx.specs.Calls.{runCall, runLeaves}
 use Rattle.morx.specs.declared.RunReply.{RunReply}
 use Rattle.shaper.specs.Shaper.{shaperTable, shaperRoom, lineIn, inputOf, leftToRight, startOf, shapedIn, shapedBy, shaped}

@@ -7,7 +7,7 @@ ghost use mathlib.Core.Path.{_≡_};
 ghost use Prim.Native.Nat.{_/_, _≤_};
 ghost use lib.ListN.{length};
 ghost use Rattle.answers.specs.Limits.{room};
-ghost use Rattle.morx.specs.Run.{runReplyOf};
+ghost use Rattle.morx.specs.Work.{runReplyOf};
 ghost use Rattle.morx.specs.Calls.{runCall, runLeaves};
 ghost use Rattle.shaper.specs.declared.Input.the-variants.{TableUntil};
 ghost use Rattle.shaper.specs.Shaper.{shaperRoom, inputOf, leftToRight, startOf, shapedIn, shaped};

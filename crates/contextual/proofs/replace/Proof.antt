@@ -1,4 +1,4 @@
-use Rattle.contextual.specs.Substitutes.{writtenAll}
+use Rattle.contextual.specs.Work.{writtenAll}
 use borrow.Author.Needs.{needs}
 use Rattle.contextual.proofs.replace.Statement.{statement}
 use Rattle.contextual.proofs.replace.Tie as tie

@@ -1,5 +1,5 @@
 use Rattle.contextual.proofs.Calls.{work-headless, work-passed}
-use Rattle.contextual.specs.Calls.{workLeaves}
+use Rattle.contextual.specs.Work.{workLeaves}
 use Rattle.line.specs.Line.{lineOf}
 use borrow.Author.Needs.{needs}
 use Rattle.contextual.proofs.work.Statement.{statement}

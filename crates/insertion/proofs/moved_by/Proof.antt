@@ -1,6 +1,6 @@
 use mathlib.Core.Path.{ap}
 use native.Mathlib.Omega.{arith}
-use Rattle.insertion.specs.Lists.{endOf}
+use Rattle.insertion.specs.Work.{endOf}
 use borrow.Author.Needs.{needs}
 use Rattle.insertion.proofs.moved_by.Statement.{statement}
 use Rattle.insertion.proofs.moved_by.Tie as tie

@@ -1,6 +1,7 @@
 use mathlib.Core.Path.{sym, _∙_}
 use Rattle.machine.proofs.Calls.{taken-line}
-use Rattle.insertion.specs.Calls.{workLeaves, callLeaves}
+use Rattle.insertion.specs.Calls.{callLeaves}
+use Rattle.insertion.specs.Work.{workLeaves}
 use Rattle.insertion.proofs.Calls.{call-refused, call-works}
 use borrow.Author.Needs.{needs}
 use Rattle.insertion.proofs.pass.Statement.{statement}

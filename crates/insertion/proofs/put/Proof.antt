@@ -1,7 +1,8 @@
 use mathlib.Core.Path.{refl, ap}
 use native.Mathlib.Omega.{arith}
 use Rattle.line.specs.Changes.{applyAll}
-use Rattle.insertion.specs.Lists.{countOf, endOf}
+use Rattle.insertion.specs.Lists.{countOf}
+use Rattle.insertion.specs.Work.{endOf}
 use borrow.Author.Needs.{needs}
 use Rattle.insertion.proofs.put.Statement.{statement}
 use Rattle.insertion.proofs.put.Tie as tie

@@ -1,4 +1,4 @@
-use Rattle.insertion.specs.Calls.{workLeaves}
+use Rattle.insertion.specs.Work.{workLeaves}
 use Rattle.insertion.proofs.Calls.{work-headless, work-passes}
 use borrow.Author.Needs.{needs}
 use Rattle.insertion.proofs.work.Statement.{statement}

@@ -1,4 +1,4 @@
-use Rattle.ligature.specs.Calls.{workLeaves}
+use Rattle.ligature.specs.Work.{workLeaves}
 use Rattle.line.specs.Line.{lineOf}
 use Rattle.ligature.proofs.Calls.{work-headless, work-passed}
 use borrow.Author.Needs.{needs}

@@ -1,5 +1,6 @@
 use Rattle.line.specs.Line.{lineOf}
-use Rattle.morx.specs.Kinds.{worked, workLeaves}
+use Rattle.morx.specs.Kinds.{worked}
+use Rattle.morx.specs.Work.{workLeaves}
 use Rattle.morx.specs.Calls.{passCall, passLeaves}
 use Rattle.morx.proofs.Leaves.{to-post, of-post}
 use Rattle.morx.proofs.Calls.{taken-valid, pass-refused, pass-worked}

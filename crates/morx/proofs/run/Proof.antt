@@ -1,5 +1,6 @@
 use Rattle.line.specs.Line.{lineOf}
-use Rattle.morx.specs.Run.{ran, ranLeaves}
+use Rattle.morx.specs.Run.{ran}
+use Rattle.morx.specs.Work.{ranLeaves}
 use Rattle.morx.specs.Calls.{runCall, runLeaves}
 use Rattle.morx.proofs.Runs.{run-to-post, run-of-post}
 use Rattle.morx.proofs.Calls.{run-taken, run-refused, run-worked}

@@ -6,7 +6,8 @@ use borrow.Author.Tests.{not-true, not-false}
 use Rattle.answers.specs.Limits.{headLimit}
 use Rattle.line.specs.Line.{lineOf}
 use Rattle.line.proofs.Exact.{of-valid}
-use Rattle.morx.specs.Run.{ran, ranLeaves, visit, visitLeaves}
+use Rattle.morx.specs.Run.{ran, visit, visitLeaves}
+use Rattle.morx.specs.Work.{ranLeaves}
 use Rattle.morx.proofs.Leaves.{of-post}
 use Rattle.morx.proofs.Runs.{Going, going-start, going-step, going-stop, going-end, going-limit, run-to-post}
 use Rattle.morx.proofs.run_line.Statement.{statement}

@@ -1,8 +1,9 @@
 use mathlib.Core.Bool.{true}
 use borrow.Author.Tests.{not-true, not-false}
 use Rattle.line.specs.Line.{lineOf}
-use Rattle.morx.specs.Kinds.{worked, workLeaves}
-use Rattle.morx.specs.Run.{turnedWork, turnedLeaves}
+use Rattle.morx.specs.Kinds.{worked}
+use Rattle.morx.specs.Run.{turnedWork}
+use Rattle.morx.specs.Work.{workLeaves, turnedLeaves}
 use Rattle.morx.proofs.Leaves.{to-post, of-post, valid-line, fits-tags}
 use Rattle.morx.proofs.Visits.{straight, turned-valid, worked-valid, turned-back}
 use borrow.Author.Needs.{needs}

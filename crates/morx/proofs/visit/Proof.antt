@@ -1,5 +1,6 @@
 use Rattle.line.specs.Line.{lineOf}
-use Rattle.morx.specs.Run.{visit, visitLeaves, visitSubtable, subtableLeaves}
+use Rattle.morx.specs.Run.{visit, visitLeaves, visitSubtable}
+use Rattle.morx.specs.Work.{subtableLeaves}
 use Rattle.morx.proofs.Leaves.{to-post, of-post}
 use Rattle.morx.proofs.Visits.{visit-chain, visit-sub}
 use borrow.Author.Needs.{needs}

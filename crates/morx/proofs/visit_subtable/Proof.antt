@@ -1,5 +1,6 @@
 use Rattle.line.specs.Line.{lineOf}
-use Rattle.morx.specs.Run.{turnedWork, turnedLeaves, visitSubtable, subtableLeaves}
+use Rattle.morx.specs.Run.{turnedWork, visitSubtable}
+use Rattle.morx.specs.Work.{subtableLeaves, turnedLeaves}
 use Rattle.morx.proofs.Leaves.{to-post, of-post}
 use Rattle.morx.proofs.Visits.{visit-over, visit-worked}
 use borrow.Author.Needs.{needs}

@@ -1,6 +1,7 @@
 use native.Mathlib.Omega.{arith}
 use Rattle.line.specs.Line.{lineOf}
-use Rattle.morx.specs.Kinds.{worked, workLeaves}
+use Rattle.morx.specs.Kinds.{worked}
+use Rattle.morx.specs.Work.{workLeaves}
 use Rattle.morx.proofs.Leaves.{to-post, valid-line, fits-tags}
 use Rattle.morx.proofs.Machines.{by-rearrangement, by-contextual, by-ligature, by-noncontextual, by-insertion, by-none}
 use borrow.Author.Needs.{needs}

@@ -1,5 +1,5 @@
 use Rattle.noncontextual.proofs.Calls.{work-headless, work-passed}
-use Rattle.noncontextual.specs.NonContextual.{workLeaves}
+use Rattle.noncontextual.specs.Work.{workLeaves}
 use Rattle.line.specs.Line.{lineOf}
 use borrow.Author.Needs.{needs}
 use Rattle.noncontextual.proofs.work.Statement.{statement}

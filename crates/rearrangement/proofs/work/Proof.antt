@@ -1,4 +1,4 @@
-use Rattle.rearrangement.specs.Rearrangement.{workLeaves}
+use Rattle.rearrangement.specs.Work.{workLeaves}
 use Rattle.rearrangement.proofs.Calls.{work-headless, work-passed}
 use Rattle.line.specs.Line.{lineOf}
 use borrow.Author.Needs.{needs}
