@@ -35,7 +35,7 @@ use Rattle.kern.specs.Heads as KernHeads
 use Rattle.kern.specs.Kern as Kern
 use Rattle.kerx.specs.Heads as KerxHeads
 use Rattle.kerx.specs.Kerx as Kerx
-use Rattle.firmware.specs.KernSteps.{IsSmall}
+use Rattle.firmware.specs.Small.{IsSmall}
 
 record Small (reply : PairReply) : Type 0 where
   small : IsSmall reply

@@ -1,25 +1,16 @@
 -- The exported pairs and steps of kern and kerx: how a kerning state crosses as numbers, and what is left in the numbers lent.
-use Prim.Native.Nat.{ℕ, _+_, _<_}
+use Prim.Native.Nat.{ℕ, _+_}
 use mathlib.Core.List.{List, _∷_}
 use lib.IntN.{ℤ}
-use lib.Signed.{mag}
 use lib.ListN.{getD}
 use Rattle.laws.specs.Choose.{ifLt}
 use Rattle.laws.specs.Lists.{tab}
-use Rattle.pairs.specs.declared.PairReply.{PairReply}
-use Rattle.pairs.specs.declared.PairReply.the-variants.{Number, Nothing, Refused}
 use Rattle.kerning_machine.specs.Machine.{Stepped}
 use Rattle.kerning_machine.specs.declared.KerningState.{KerningState}
 use Rattle.kerning_machine.specs.declared.KerningStep.{KerningStep}
 use Rattle.kern_machine.specs.Machine as Kern
 use Rattle.kerx_machine.specs.Machine as Kerx
 use Rattle.firmware.specs.Steps.{unlessRefused}
-
--- a pair's number is one of 16 bits
-abbrev pub IsSmall : PairReply → Type 0
-IsSmall (Number z) = mag z < 32768
-IsSmall Nothing = Unit {0}
-IsSmall (Refused why) = Unit {0}
 
 -- a state that no step hands back, and that STATE refuses
 abbrev pub noKerning : KerningState

@@ -5,3 +5,4 @@ pub mod Runs
 pub mod Cursors
 pub mod KernCursors
 pub mod KernSteps
+pub mod Small

@@ -8,7 +8,8 @@ ghost use Rattle.pairs.specs.Reply.{answerOf, valueOf};
 ghost use Rattle.kern.specs.Kern as Kern;
 ghost use Rattle.kerx.specs.Kerx as Kerx;
 ghost use Rattle.kerning.specs.Additions.{addAll};
-ghost use Rattle.firmware.specs.KernSteps.{IsSmall, noKerning, kerningFrom, kerningSlots, stateAfter, advanceAfter, kernStepped, kerxStepped};
+ghost use Rattle.firmware.specs.KernSteps.{noKerning, kerningFrom, kerningSlots, stateAfter, advanceAfter, kernStepped, kerxStepped};
+ghost use Rattle.firmware.specs.Small.{IsSmall};
 
 // Puts the number of a pair where it was lent, and answers with the reply's number.
 fn put_pair(reply: PairReply, value: &mut i32) -> u32

@@ -15,8 +15,8 @@ use Rattle.parse.specs.declared.ReadU32.{ReadU32}
 use Rattle.parse.specs.declared.ReadU32.the-variants as U32
 use Rattle.parse.proofs.Laws.{readU16-short}
 use Rattle.kerning_lists.specs.Walk.{u16OrZero, heads, listBytes}
-use Rattle.kerning_lists.specs.Cursors.{cursor, followed, moved, mapHead}
-use Rattle.kerning_lists.proofs.Cursors.{followed-heads, heads-mapped}
+use Rattle.kerning_lists.specs.Cursors.{cursor, followed, moved}
+use Rattle.kerning_lists.proofs.Cursors.{followed-heads, mapHead, heads-mapped}
 use Rattle.kern.specs.Heads.{oldSubtable, newSubtable, headIn, headAt, listOf, walkOf}
 use Rattle.kern.specs.Cursors.{listFrom, nextSubtable}
 use Rattle.kern.specs.declared.List.{List as KernList}

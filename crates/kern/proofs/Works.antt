@@ -12,7 +12,8 @@ use Rattle.answers.specs.Limits.{room}
 use Rattle.answers.specs.declared.Answer.{Answer}
 use Rattle.answers.specs.declared.Answer.the-variants as Answer′
 use Rattle.answers.specs.declared.Refusal.the-variants as Refusal′
-use Rattle.kerning.specs.Additions.{Addition, addAll, Within, nothingAdded}
+use Rattle.kerning.specs.Additions.{Addition, addAll, nothingAdded}
+use Rattle.kerning.specs.Bounds.{Within}
 use Rattle.kerning.proofs.Adding.{addAll-none, within-more}
 use Rattle.pairs.specs.Pairs.{orderedKern}
 use Rattle.pairs.specs.Reply.{replyOf}

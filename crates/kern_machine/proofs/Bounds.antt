@@ -3,7 +3,8 @@ use Prim.Native.Nat.{ℕ, _+_, _≤_, _^_}
 use mathlib.Core.List.{List}
 use lib.IntN.{ℤ}
 use Rattle.answers.specs.Limits.{room}
-use Rattle.kerning.specs.Additions.{addAll, Within}
+use Rattle.kerning.specs.Additions.{addAll}
+use Rattle.kerning.specs.Bounds.{Within}
 use Rattle.kerning_machine.proofs.Sound as Sound
 use Rattle.kern_machine.specs.Machine.{bodyOf, opened, worked}
 

@@ -10,7 +10,8 @@ ghost use mathlib.Core.Path.{_≡_};
 ghost use Prim.Native.Nat.{_<_, _≤_, _^_};
 ghost use lib.ListN.{length};
 ghost use Rattle.answers.specs.Limits.{room};
-ghost use Rattle.kerning.specs.Additions.{addAll, Within};
+ghost use Rattle.kerning.specs.Additions.{addAll};
+ghost use Rattle.kerning.specs.Bounds.{Within};
 ghost use Rattle.kern_machine.specs.Machine.{headSize, formatOf, isCrossed, opened, worked, stepCall};
 
 // The format of this machine.

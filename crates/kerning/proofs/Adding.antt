@@ -16,7 +16,8 @@ use mir.Facts.{toZ-ofZ}
 use borrow.Author.Tests.{lt-ltb, le-ltb, eq-eqb, ne-eqb}
 use Rattle.laws.specs.Choose.{ifEq}
 use Rattle.laws.proofs.Numbers.{lt-or-ge, eq-or-ne}
-use Rattle.kerning.specs.Additions.{Addition, addAt, addAll, additionsAt, addedAt, Within}
+use Rattle.kerning.specs.Additions.{Addition, addAt, addAll, additionsAt}
+use Rattle.kerning.specs.Bounds.{Within}
 use Rattle.kerning.proofs.Signs.{size-sum, size-16, fits-64, sum-is}
 
 -- the code's addition
@@ -65,6 +66,11 @@ pub addAll-append : (xs ys : List Addition) (along : List ℤ) → addAll (xs ++
 unfolding addAll
 addAll-append [] ys along = refl
 addAll-append (a ∷ xs) ys along = addAll-append xs ys (addAt (a .place) (a .number) along)
+
+-- what the additions at a place add to it in sum
+pub addedAt : List Addition → ℕ → ℤ
+addedAt [] p = pos 0
+addedAt (a ∷ later) p = ifEq (a .place) p (a .number) (pos 0) +ℤ addedAt later p
 
 -- what stands at a place afterwards: what stood there, and the sum of what is added there
 pub addAt-there : (p : ℕ) (z : ℤ) (along : List ℤ) → p < length along → getD (addAt p z along) p (pos 0) ≡ getD along p (pos 0) +ℤ z

@@ -14,11 +14,22 @@ use Rattle.answers.specs.declared.Refusal.{Refusal}
 use Rattle.answers.specs.declared.Refusal.the-variants as Refusal′
 use Rattle.answers.specs.declared.Check.{Check}
 use Rattle.answers.specs.declared.Check.the-variants.{Passed, Refused}
-use Rattle.line.specs.Line.{Line}
+use Rattle.line.specs.Line.{Line, Valid}
 use Rattle.line.specs.Test.{isValid}
 use Rattle.line.proofs.Exact.{valid-of}
-use Rattle.kerning.specs.Line.{isModest, isKernable, isTaken, takenTest, kerningTests, Kernable, Taken}
+use Rattle.kerning.specs.Bounds.{Within}
+use Rattle.kerning.specs.Line.{bound, isModest, isKernable, isTaken, takenTest, kerningTests}
 use Rattle.kerning.proofs.Scans.{modest-within}
+
+-- what a line and adjustments are that a run takes
+pub record Kernable (l : Line) (along : List ℤ) : Type 0 where
+  pub valid : Valid l
+  pub long : length along ≡ length (l .glyphs)
+
+-- and those that a lone pass takes
+pub record Taken (l : Line) (along : List ℤ) : Type 0 where
+  pub kernable : Kernable l along
+  pub modest : Within bound along
 
 pub kernable-of : (l : Line) (along : List ℤ) → isKernable l along ≡ true → Kernable l along
 unfolding isKernable

@@ -14,7 +14,7 @@ use mir.Facts.{toZ-ofZ}
 use borrow.Author.Tests.{not-true, not-false, leb-true}
 use Rattle.laws.specs.Lists.{both, every}
 use Rattle.laws.proofs.Lists.{every-at}
-use Rattle.kerning.specs.Additions.{Within}
+use Rattle.kerning.specs.Bounds.{Within}
 use Rattle.kerning.specs.Line.{bound, isModest}
 
 -- what is left to test says what the whole says

@@ -9,7 +9,8 @@ use lib.ListN.{length, getD, length-append}
 use mir.Syntax.{w16}
 use mir.Val.{SFits, toZ, ofZ}
 use mir.Facts.{toZ-ofZ}
-use Rattle.kerning.specs.Additions.{Addition, addAt, addAll, additionsAt, Within}
+use Rattle.kerning.specs.Additions.{Addition, addAt, addAll, additionsAt}
+use Rattle.kerning.specs.Bounds.{Within}
 use Rattle.kerning.specs.Lists.{numberAt, onNumber, Walk, leaves, before, walk}
 use Rattle.kerning.specs.declared.lists.Rule.{Rule}
 use Rattle.kerning.specs.declared.lists.Number.{Number}

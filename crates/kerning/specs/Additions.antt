@@ -1,9 +1,9 @@
 -- Kerning is additions: numbers added to the adjustments, of which there is one for each place of the room.
-use Prim.Native.Nat.{ℕ, _<_, _≤_}
+use Prim.Native.Nat.{ℕ}
 use mathlib.Core.List.{List, [], _∷_, _++_}
-use lib.IntN.{ℤ, pos, natAbs, _+ℤ_}
-use lib.ListN.{length, getD, set}
-use Rattle.laws.specs.Choose.{ifLt, ifEq}
+use lib.IntN.{ℤ, pos, _+ℤ_}
+use lib.ListN.{getD, set}
+use Rattle.laws.specs.Choose.{ifLt}
 use Rattle.answers.specs.declared.Answer.{Answer}
 use Rattle.answers.specs.declared.Answer.the-variants as Answer′
 use Rattle.answers.specs.declared.Check.{Check}
@@ -26,15 +26,6 @@ addAll (a ∷ later) along = addAll later (addAt (a .place) (a .number) along)
 -- a number for a place: one outside the line, which has so many places, is skipped
 unfoldable pub additionsAt : (used place : ℕ) → ℤ → List Addition
 additionsAt used place number = ifLt place used (record { place = place; number = number } ∷ []) []
-
--- what the additions at a place add to it in sum
-unfoldable pub addedAt : List Addition → ℕ → ℤ
-addedAt [] p = pos 0
-addedAt (a ∷ later) p = ifEq (a .place) p (a .number) (pos 0) +ℤ addedAt later p
-
--- every adjustment is at most b in size
-pub record Within (b : ℕ) (along : List ℤ) : Type 0 where
-  pub each : (p : ℕ) → p < length along → natAbs (getD along p (pos 0)) ≤ b
 
 -- what a kerning pass answers, and its additions
 pub record Kerned : Type 0 where

@@ -1,7 +1,6 @@
 -- The LINE test of kerning calls, and the tests of a lone pass.
 use Prim.Native.Nat.{ℕ}
 use mathlib.Core.Bool.{Bool, not}
-use mathlib.Core.Path.{_≡_}
 use mathlib.Core.List.{List, [], _∷_}
 use lib.Dec.{leb, eqb}
 use lib.IntN.{ℤ, pos, natAbs}
@@ -9,9 +8,8 @@ use lib.ListN.{length, getD}
 use Rattle.laws.specs.Lists.{both, every}
 use Rattle.answers.specs.Refuse.{Test, tableTest}
 use Rattle.answers.specs.declared.Refusal.the-variants as Refusal′
-use Rattle.line.specs.Line.{Line, Valid}
+use Rattle.line.specs.Line.{Line}
 use Rattle.line.specs.Test.{isValid}
-use Rattle.kerning.specs.Additions.{Within}
 
 -- how large a lent adjustment may be: 2^40
 abbrev pub bound : ℕ
@@ -40,13 +38,3 @@ takenTest l along = record { holds = not (isTaken l along); refusal = Refusal′
 -- the tests of a lone pass: TABLE, LINE; HEAD is an answer of the pass
 unfoldable pub kerningTests : (tableLength : ℕ) → Line → List ℤ → List Test
 kerningTests tableLength l along = tableTest tableLength ∷ takenTest l along ∷ []
-
--- what a line and adjustments are that a run takes
-pub record Kernable (l : Line) (along : List ℤ) : Type 0 where
-  pub valid : Valid l
-  pub long : length along ≡ length (l .glyphs)
-
--- and those that a lone pass takes
-pub record Taken (l : Line) (along : List ℤ) : Type 0 where
-  pub kernable : Kernable l along
-  pub modest : Within bound along

@@ -3,7 +3,8 @@ use parse::ReadU16;
 ghost use mathlib.Core.Path.{_≡_};
 ghost use Prim.Native.Nat.{_<_, _≤_, _^_};
 ghost use lib.ListN.{length};
-ghost use Rattle.kerning.specs.Additions.{additionsAt, addAll, Within};
+ghost use Rattle.kerning.specs.Additions.{additionsAt, addAll};
+ghost use Rattle.kerning.specs.Bounds.{Within};
 ghost use Rattle.kerning.specs.Lists.{amountOf, ruled, numberAt, walk};
 
 // When a list ends.

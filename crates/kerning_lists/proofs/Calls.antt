@@ -15,10 +15,11 @@ use Rattle.answers.specs.declared.Answer.the-variants as Answer′
 use Rattle.answers.specs.declared.Check.{Check}
 use Rattle.answers.specs.declared.Check.the-variants.{Passed, Refused}
 use Rattle.line.specs.Line.{Line, lineOf}
-use Rattle.kerning.specs.Additions.{Addition, Kerned, addAll, Within, calledBy}
-use Rattle.kerning.specs.Line.{Kernable, Taken, kerningTests}
+use Rattle.kerning.specs.Additions.{Addition, Kerned, addAll, calledBy}
+use Rattle.kerning.specs.Bounds.{Within}
+use Rattle.kerning.specs.Line.{kerningTests}
 use Rattle.kerning.proofs.Adding.{addAll-none, within-more}
-use Rattle.kerning.proofs.Calls.{kernable-of, taken-pass}
+use Rattle.kerning.proofs.Calls.{Kernable, Taken, kernable-of, taken-pass}
 use Rattle.kerning_lists.specs.Walk.{visited, walkAnswer}
 use Rattle.kerning_lists.specs.Run.{zeros, usedPart, Ran, ranOver, runTests, unlessRefused}
 use Rattle.kerning_lists.specs.declared.Subtable.{Subtable}

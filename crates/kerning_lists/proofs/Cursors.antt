@@ -13,7 +13,7 @@ use Rattle.answers.specs.declared.Check.{Check}
 use Rattle.answers.specs.declared.Check.the-variants.{Passed, Refused}
 use Rattle.kerning_lists.specs.Walk.{heads}
 use Rattle.kerning_lists.specs.Run.{startTest}
-use Rattle.kerning_lists.specs.Cursors.{cursor, nextBy, followed, mapHead, listTests}
+use Rattle.kerning_lists.specs.Cursors.{cursor, nextBy, followed, listTests}
 use Rattle.kerning_lists.specs.declared.Subtable.{Subtable}
 use Rattle.kerning_lists.specs.declared.Head.{Head}
 use Rattle.kerning_lists.specs.declared.Head.the-variants.{At, Cut}
@@ -70,6 +70,11 @@ module _ (headOf : (version place : ℕ) → Head) where
       go Cut e more =
           let none : next (cursor place (suc left) version) ≡ Next′.End = rw (ne-eqb (suc left) 0 is-more, e, nextBy) in
           rw (none, e, followed, heads)
+
+-- a head, if its subtable is told by a rule
+abbrev pub mapHead : (Subtable → Subtable) → Head → Head
+mapHead f (At subtable) = At (f subtable)
+mapHead f Cut = Cut
 
 -- heads that are the same but for f, at places of their own, make the same walk but for f
 module _ (near far : ℕ → Head) (f : Subtable → Subtable) (place : ℕ → ℕ) (follows : (s : Subtable) → f s .next ≡ place (s .next))

@@ -12,7 +12,8 @@ use Rattle.laws.proofs.Backward.{length-backward}
 use Rattle.answers.specs.Limits.{headLimit}
 use Rattle.answers.specs.declared.Answer.{Answer}
 use Rattle.answers.specs.declared.Answer.the-variants as Answer′
-use Rattle.kerning.specs.Additions.{Addition, addAll, Within}
+use Rattle.kerning.specs.Additions.{Addition, addAll}
+use Rattle.kerning.specs.Bounds.{Within}
 use Rattle.kerning.proofs.Adding.{addAll-none, addAll-append, length-addAll, within-more}
 use Rattle.kerning_lists.specs.Walk.{heads, visited, walkAnswer}
 use Rattle.kerning_lists.specs.Run.{turnedBack, contribution, contributions}

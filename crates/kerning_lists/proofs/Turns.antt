@@ -13,7 +13,8 @@ use Rattle.laws.proofs.Backward.{length-backward, backward-inside, backward-out
 use Rattle.laws.proofs.Choices.{ifLt-yes, ifLt-no}
 use Rattle.laws.proofs.Lists.{length-tab, getD-tab}
 use Rattle.laws.proofs.Numbers.{lt-or-ge, eq-or-ne}
-use Rattle.kerning.specs.Additions.{Addition, addAt, addAll, Within}
+use Rattle.kerning.specs.Additions.{Addition, addAt, addAll}
+use Rattle.kerning.specs.Bounds.{Within}
 use Rattle.kerning.proofs.Adding.{length-addAt, length-addAll, addAt-there, addAt-elsewhere}
 use Rattle.kerning_lists.specs.Run.{zeros, mirrored, turnedBack}
 

@@ -11,7 +11,6 @@ use Rattle.kerning_lists.specs.Walk.{onHead}
 use Rattle.kerning_lists.specs.Run.{startTest}
 use Rattle.kerning_lists.specs.declared.Subtable.{Subtable}
 use Rattle.kerning_lists.specs.declared.Head.{Head}
-use Rattle.kerning_lists.specs.declared.Head.the-variants as Head′
 use Rattle.kerning_lists.specs.declared.Cursor.{Cursor}
 use Rattle.kerning_lists.specs.declared.NextSubtable.{NextSubtable}
 use Rattle.kerning_lists.specs.declared.NextSubtable.the-variants.{At, End}
@@ -50,11 +49,6 @@ moved before s =
       body = before + s .body;
       next = before + s .next;
     }
-
--- a head, if its subtable is told by a rule
-abbrev pub mapHead : (Subtable → Subtable) → Head → Head
-mapHead f (Head′.At subtable) = Head′.At (f subtable)
-mapHead f Head′.Cut = Head′.Cut
 
 -- the tests before a list's cursor: TABLE, HEAD
 unfoldable pub listTests : (tableLength start : ℕ) → List Test

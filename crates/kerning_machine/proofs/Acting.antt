@@ -21,7 +21,8 @@ use Rattle.kerning_machine.specs.declared.Orders.{Orders}
 use Rattle.kerning_machine.specs.declared.Kerning.{Kerning}
 use Rattle.kerning_machine.specs.declared.KerningState.{KerningState}
 use Rattle.kerning_machine.specs.declared.KerningStep.{KerningStep}
-use Rattle.kerning_machine.specs.Machine.{standing, isFull, popped, stacked, stopped, settled, followed, Stepped, behind, listed, entered, acted, payloadOf, ordersOf, next}
+use Rattle.kerning_machine.specs.Machine.{isFull, popped, stacked, stopped, settled, followed, Stepped, behind, listed, entered, acted, payloadOf, ordersOf, next}
+use Rattle.kerning_machine.specs.Work.{standing}
 use Rattle.kerning_machine.proofs.Readings.{room-left}
 
 -- the code's step and adjustments are those of a definition

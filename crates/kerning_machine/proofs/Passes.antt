@@ -14,7 +14,8 @@ use Rattle.line.proofs.Room.{room-small}
 use Rattle.machine.specs.Pass.{isDone}
 use Rattle.machine.specs.Stall.{stalled, Falls}
 use Rattle.machine.proofs.Stalls.{stall-falls}
-use Rattle.kerning.specs.Additions.{Addition, addAll, Within, Kerned, after, nothingAdded}
+use Rattle.kerning.specs.Additions.{Addition, addAll, Kerned, after, nothingAdded}
+use Rattle.kerning.specs.Bounds.{Within}
 use Rattle.kerning.proofs.Adding.{Small, small-none, small-append, length-addAll, addAll-none, addAll-append, within-more, within-addAll}
 use Rattle.kerning_machine.specs.declared.Kerning.{Kerning}
 use Rattle.kerning_machine.specs.declared.KerningState.{KerningState}

@@ -18,7 +18,8 @@ use Rattle.state_tables.specs.Classes.{classOf}
 use Rattle.state_tables.specs.Entries.{entryOf}
 use Rattle.machine.specs.Stall.{stalled}
 use Rattle.machine.specs.Pass.{isDone}
-use Rattle.kerning.specs.Additions.{Addition, addAll, Within, Kerned, after}
+use Rattle.kerning.specs.Additions.{Addition, addAll, Kerned, after}
+use Rattle.kerning.specs.Bounds.{Within}
 use Rattle.kerning.specs.Lists.{Walk, walk}
 use Rattle.kerning.proofs.Adding.{Small, small-none, small-append, within-more, within-addAll}
 use Rattle.kerning.proofs.Walking.{Bounded, walk-bounded}

@@ -17,7 +17,8 @@ use Rattle.answers.specs.declared.Answer.{Answer}
 use Rattle.answers.specs.declared.Answer.the-variants as Answer′
 use Rattle.answers.specs.declared.Check.{Check}
 use Rattle.answers.specs.declared.Check.the-variants.{Passed, Refused}
-use Rattle.kerning.specs.Additions.{addAll, Within}
+use Rattle.kerning.specs.Additions.{addAll}
+use Rattle.kerning.specs.Bounds.{Within}
 use Rattle.kerning.specs.Line.{bound, isModest}
 use Rattle.kerning.proofs.Adding.{addAll-none, within-more}
 use Rattle.kerning.proofs.Scans.{modest-within}

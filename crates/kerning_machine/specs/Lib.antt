@@ -1,2 +1,3 @@
 -- The machine of format 1.
 pub mod Machine
+pub mod Work

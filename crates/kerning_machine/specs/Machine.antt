@@ -38,19 +38,10 @@ use Rattle.kerning_machine.specs.declared.Opened.{Opened}
 use Rattle.kerning_machine.specs.declared.Opened.the-variants as Opened′
 use Rattle.kerning_machine.specs.declared.KerningState.{KerningState}
 use Rattle.kerning_machine.specs.declared.KerningStep.{KerningStep}
-use Rattle.kerning_machine.specs.declared.Moved.{Moved}
 
 -- the state at the start of a pass
 abbrev pub fresh : KerningState
 fresh = record { state = 0; stack = 0 ∷ 0 ∷ 0 ∷ 0 ∷ 0 ∷ 0 ∷ 0 ∷ 0 ∷ []; depth = 0; cycles = 0 }
-
--- the state of numbers and a lent stack
-abbrev pub standing : (state : ℕ) → (stack : List ℕ) → (depth cycles : ℕ) → KerningState
-standing state stack depth cycles = record { state = state; stack = stack; depth = depth; cycles = cycles }
-
--- the step of what one came to and of the lent stack
-abbrev pub stepOf : Moved → (stack : List ℕ) → KerningStep
-stepOf r stack = record { answer = r .answer; state = standing (r .state) stack (r .depth) (r .cycles); advance = r .advance }
 
 -- kern's entries are flags alone, kerx's have an index behind them
 abbrev pub payloadOf : Reading → ℕ

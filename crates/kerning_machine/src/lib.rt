@@ -18,8 +18,10 @@ ghost use lib.ListN.{length};
 ghost use Rattle.answers.specs.Limits.{room};
 ghost use Rattle.answers.specs.Refuse.{refuse};
 ghost use Rattle.answers.specs.declared.Answer.the-variants.{Ended};
-ghost use Rattle.kerning.specs.Additions.{addAll, Within};
-ghost use Rattle.kerning_machine.specs.Machine.{fresh, payloadOf, sizeOf, kernStart, kerxStart, ordersOf, standing, stepOf, isFull, stacked, stopped, settled, followed, behind, acted, next, passed, isRoomy, isShort, areWithin, stepTests, stepCall, worked};
+ghost use Rattle.kerning.specs.Additions.{addAll};
+ghost use Rattle.kerning.specs.Bounds.{Within};
+ghost use Rattle.kerning_machine.specs.Machine.{fresh, payloadOf, sizeOf, kernStart, kerxStart, ordersOf, isFull, stacked, stopped, settled, followed, behind, acted, next, passed, isRoomy, isShort, areWithin, stepTests, stepCall, worked};
+ghost use Rattle.kerning_machine.specs.Work.{standing, stepOf};
 
 // How a machine reads its entries: kern's flags hold where the list begins, and its subtable may go across the stream; kerx's entries hold
 // an index, which counts from the value table in tuples.

@@ -14,10 +14,10 @@ use Rattle.parse.specs.declared.ReadU32.the-variants as U32
 use Rattle.parse.proofs.Laws.{readU32-short}
 use Rattle.laws.specs.Bits.{isSet}
 use Rattle.kerning_lists.specs.Walk.{heads, listBytes}
-use Rattle.kerning_lists.specs.Cursors.{cursor, followed, moved, mapHead}
+use Rattle.kerning_lists.specs.Cursors.{cursor, followed, moved}
 use Rattle.kerning_lists.specs.declared.Subtable.{Subtable}
 use Rattle.kerning_lists.specs.declared.Head.the-variants.{At}
-use Rattle.kerning_lists.proofs.Cursors.{followed-heads, heads-mapped}
+use Rattle.kerning_lists.proofs.Cursors.{followed-heads, mapHead, heads-mapped}
 use Rattle.kerx.specs.Heads.{shouldReverse, subtableOf, headIn, headAt, listOf, walkOf}
 use Rattle.kerx.specs.Cursors.{listFrom, nextSubtable, turnedRound}
 use Rattle.kerx.specs.declared.List.{List as KerxList}

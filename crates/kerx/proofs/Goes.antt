@@ -7,7 +7,8 @@ use native.Mathlib.Omega.{arith}
 use lib.IntN.{ℤ}
 use lib.ListN.{length}
 use Rattle.answers.specs.Limits.{room, headLimit}
-use Rattle.kerning.specs.Additions.{addAll, Within}
+use Rattle.kerning.specs.Additions.{addAll}
+use Rattle.kerning.specs.Bounds.{Within}
 use Rattle.kerning_lists.specs.Walk.{heads}
 use Rattle.kerning_lists.specs.Run.{contribution}
 use Rattle.kerning_lists.specs.declared.Subtable.{Subtable}

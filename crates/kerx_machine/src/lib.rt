@@ -11,7 +11,8 @@ ghost use mathlib.Core.Path.{_≡_};
 ghost use Prim.Native.Nat.{_≤_, _^_};
 ghost use lib.ListN.{length};
 ghost use Rattle.answers.specs.Limits.{room};
-ghost use Rattle.kerning.specs.Additions.{addAll, Within};
+ghost use Rattle.kerning.specs.Additions.{addAll};
+ghost use Rattle.kerning.specs.Bounds.{Within};
 ghost use Rattle.kerx_machine.specs.Machine.{tuplesOf, opened, worked, stepCall};
 
 // The format of this machine.

@@ -22,7 +22,8 @@ use Rattle.tables.specs.declared.records.Spot.{Spot}
 use Rattle.tables.specs.declared.records.Spot.the-variants as Spot′
 use Rattle.tables.specs.declared.lookup.Found.{Found}
 use Rattle.tables.specs.declared.lookup.Found.the-variants as Found′
-use Rattle.kerning.specs.Additions.{Addition, addAt, addAll, Within}
+use Rattle.kerning.specs.Additions.{Addition, addAt, addAll}
+use Rattle.kerning.specs.Bounds.{Within}
 use Rattle.kerning.proofs.Signs.{size-16}
 use Rattle.kerning.proofs.Adding.{length-addAll, addAll-none, addAll-append, within-addAll, within-more, Small, small-none, small-one, small-append}
 use Rattle.pairs.specs.Pairs.{keyOf, numberAt, numberIn, orderedNumber, onClass, numberInRow, classNumber, numberOf}

@@ -1,4 +1,5 @@
--- A result of the shaper in numbers of two bytes.
+-- For the code alone; no entry and no promise rests on it, and nobody has to believe it. A result of the shaper in numbers of two bytes, as the
+-- sample holds it.
 use Prim.Native.Nat.{ℕ, _+_, _*_}
 use mathlib.Core.Bool.{Bool, true, false, cond}
 use mathlib.Core.List.{List}

@@ -1,5 +1,5 @@
 use Rattle.kerning_machine.proofs.Acting.{behind-ended, behind-settled, next-ended, next-acts}
-use Rattle.kerning_machine.specs.Machine.{standing}
+use Rattle.kerning_machine.specs.Work.{standing}
 use mathlib.Core.Path.{_∙_}
 use native.Mathlib.Omega.{arith}
 use Rattle.state_tables.proofs.Laws.{entry-payload}

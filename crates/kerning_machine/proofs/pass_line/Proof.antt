@@ -1,6 +1,7 @@
 use Rattle.kerning_machine.proofs.Acting.{behind-ended, behind-settled, settled-done, next-ended, next-acts}
 use Rattle.kerning_machine.proofs.Passes.{Going, going-start, going-long, going-within, going-stop, going-less, going-step, going-end}
-use Rattle.kerning_machine.specs.Machine.{standing, rest}
+use Rattle.kerning_machine.specs.Machine.{rest}
+use Rattle.kerning_machine.specs.Work.{standing}
 use Rattle.state_tables.proofs.Laws.{entry-payload}
 use native.Mathlib.Omega.{arith}
 use borrow.Author.Needs.{needs}

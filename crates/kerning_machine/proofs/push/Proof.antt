@@ -1,4 +1,5 @@
-use Rattle.kerning_machine.specs.Machine.{standing, stacked}
+use Rattle.kerning_machine.specs.Machine.{stacked}
+use Rattle.kerning_machine.specs.Work.{standing}
 use native.Mathlib.Omega.{arith}
 use borrow.Author.Tests.{not-true, not-false}
 use Rattle.kerning_machine.proofs.Readings.{room-left}

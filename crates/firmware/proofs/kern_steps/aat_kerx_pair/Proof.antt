@@ -1,5 +1,5 @@
 use Rattle.firmware.proofs.KernPairs.{kerx-small}
-use Rattle.firmware.specs.KernSteps.{IsSmall}
+use Rattle.firmware.specs.Small.{IsSmall}
 use mathlib.Core.Path.{sym, subst}
 use borrow.Author.Needs.{needs}
 use Rattle.firmware.proofs.kern_steps.aat_kerx_pair.Statement.{statement}
