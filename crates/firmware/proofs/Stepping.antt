@@ -8,7 +8,7 @@ use lib.ListN.{set}
 use lib.Seq.{paste}
 use Rattle.answers.specs.declared.Answer.{Answer}
 use Rattle.answers.specs.Numbers.{numberOf}
-use Rattle.firmware.specs.Steps.{isRefused, unlessRefused, isFlag, rearrangementFrom, rearranged, contextualFrom, contextual, contextualLeaves, insertionFrom, inserted, editSlots, ligatureFrom, ligatureSlots, ligated, ligatedLeaves}
+use Rattle.firmware.specs.Steps.{isRefused, unlessRefused, isFlag, rearrangementFrom, rearrangementStepped, contextualFrom, contextualStepped, contextualLeaves, insertionFrom, insertionStepped, editSlots, ligatureFrom, ligatureSlots, ligatureStepped, ligatureLeaves}
 use Rattle.line.specs.Line.{Line}
 use Rattle.ligature.specs.Work as Ligature′
 use Rattle.ligature.specs.Calls as Ligature
@@ -38,17 +38,17 @@ module _ {Step : Type 0} (answer : Step → Answer) {step whole : Step} (e : ste
     pub put : {new : A} → flag ≡ false → new ≡ value step → new ≡ unlessRefused (answer whole) was (value whole)
     put t n = n ∙ subst (λ (s : Step). value step ≡ unlessRefused (answer s) was (value s)) e (rw (sym f ∙ t))
 
-pub rearranged-is : (table : List ℕ) (start : ℕ) (slots : List ℕ) (length index glyph ends : ℕ) {given : RearrangementState} {step : RearrangementStep}
+pub rearrangement-is : (table : List ℕ) (start : ℕ) (slots : List ℕ) (length index glyph ends : ℕ) {given : RearrangementState} {step : RearrangementStep}
     → given ≡ rearrangementFrom slots → step ≡ Rearrangement.stepCall table start given length index glyph (isFlag ends)
-    → step ≡ rearranged table start slots length index glyph ends
-unfolding rearranged
-rearranged-is table start slots length index glyph ends g e =
+    → step ≡ rearrangementStepped table start slots length index glyph ends
+unfolding rearrangementStepped
+rearrangement-is table start slots length index glyph ends g e =
     e ∙ ap (λ (s : RearrangementState). Rearrangement.stepCall table start s length index glyph (isFlag ends)) g
 
 module _ (table : List ℕ) (start : ℕ) (slots : List ℕ) (l : Line) (index glyph ends : ℕ) {given : ContextualState} (g : given ≡ contextualFrom slots) where
   pub contextual-is : {step : ContextualStep} → step ≡ stepOf (Contextual.stepCall table start given l index glyph (isFlag ends))
-      → step ≡ stepOf (contextual table start slots l index glyph ends)
-  unfolding contextual
+      → step ≡ stepOf (contextualStepped table start slots l index glyph ends)
+  unfolding contextualStepped
   contextual-is e = e ∙ ap (λ (s : ContextualState). stepOf (Contextual.stepCall table start s l index glyph (isFlag ends))) g
 
   pub contextual-left : {glyphs : List ℕ} → glyphs ≡ Contextual.stepLeaves table start given l index glyph (isFlag ends) .glyphs
@@ -56,11 +56,11 @@ module _ (table : List ℕ) (start : ℕ) (slots : List ℕ) (l : Line) (index g
   unfolding contextualLeaves
   contextual-left e = e ∙ ap (λ (s : ContextualState). Contextual.stepLeaves table start s l index glyph (isFlag ends) .glyphs) g
 
-pub inserted-is : (table : List ℕ) (start : ℕ) (slots : List ℕ) (length room index glyph ends : ℕ) {given : InsertionState} {step : InsertionStep}
+pub insertion-is : (table : List ℕ) (start : ℕ) (slots : List ℕ) (length room index glyph ends : ℕ) {given : InsertionState} {step : InsertionStep}
     → given ≡ insertionFrom slots → step ≡ Insertion.stepCall table start given length room index glyph (isFlag ends)
-    → step ≡ inserted table start slots length room index glyph ends
-unfolding inserted
-inserted-is table start slots length room index glyph ends g e =
+    → step ≡ insertionStepped table start slots length room index glyph ends
+unfolding insertionStepped
+insertion-is table start slots length room index glyph ends g e =
     e ∙ ap (λ (s : InsertionState). Insertion.stepCall table start s length room index glyph (isFlag ends)) g
 
 -- one insertion is told the same way, marked or current
@@ -73,15 +73,15 @@ pub marked-alone : {marked at : Inserted} (current : Inserted) → marked ≡ at
 marked-alone current m e = ap (λ (x : Inserted). editSlots x Inserted′.None) (sym m) ∙ ap (editSlots _) (sym e)
 
 module _ (table : List ℕ) (start : ℕ) (slots : List ℕ) (l : Line) (index glyph ends : ℕ) {given : LigatureState} (g : given ≡ ligatureFrom slots) where
-  pub ligated-is : {step : LigatureStep} → step ≡ Ligature′.stepOf (Ligature.stepCall table start given l index glyph (isFlag ends))
-      → step ≡ Ligature′.stepOf (ligated table start slots l index glyph ends)
-  unfolding ligated
-  ligated-is e = e ∙ ap (λ (s : LigatureState). Ligature′.stepOf (Ligature.stepCall table start s l index glyph (isFlag ends))) g
+  pub ligature-is : {step : LigatureStep} → step ≡ Ligature′.stepOf (Ligature.stepCall table start given l index glyph (isFlag ends))
+      → step ≡ Ligature′.stepOf (ligatureStepped table start slots l index glyph ends)
+  unfolding ligatureStepped
+  ligature-is e = e ∙ ap (λ (s : LigatureState). Ligature′.stepOf (Ligature.stepCall table start s l index glyph (isFlag ends))) g
 
-  pub ligated-left : {A : Type 0} (of : Line → A) {left : A} → left ≡ of (Ligature.stepLeaves table start given l index glyph (isFlag ends))
-      → left ≡ of (ligatedLeaves table start slots l index glyph ends)
-  unfolding ligatedLeaves
-  ligated-left of e = e ∙ ap (λ (s : LigatureState). of (Ligature.stepLeaves table start s l index glyph (isFlag ends))) g
+  pub ligature-left : {A : Type 0} (of : Line → A) {left : A} → left ≡ of (Ligature.stepLeaves table start given l index glyph (isFlag ends))
+      → left ≡ of (ligatureLeaves table start slots l index glyph ends)
+  unfolding ligatureLeaves
+  ligature-left of e = e ∙ ap (λ (s : LigatureState). of (Ligature.stepLeaves table start s l index glyph (isFlag ends))) g
 
 -- a state of many numbers is written over the one that was lent
 module _ {step whole : LigatureStep} (e : step ≡ whole) {flag : Bool} (f : flag ≡ isRefused (step .answer)) (was : List ℕ) where

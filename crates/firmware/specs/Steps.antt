@@ -60,8 +60,8 @@ abbrev pub rearrangementSlots : RearrangementState → List ℕ
 rearrangementSlots s = s .state ∷ s .first ∷ s .last ∷ s .cycles ∷ []
 
 -- the step from the state that the numbers say
-unfoldable pub rearranged : List ℕ → (start : ℕ) → (slots : List ℕ) → (length index glyph ends : ℕ) → RearrangementStep
-rearranged table start slots length index glyph ends = Rearrangement.stepCall table start (rearrangementFrom slots) length index glyph (isFlag ends)
+unfoldable pub rearrangementStepped : List ℕ → (start : ℕ) → (slots : List ℕ) → (length index glyph ends : ℕ) → RearrangementStep
+rearrangementStepped table start slots length index glyph ends = Rearrangement.stepCall table start (rearrangementFrom slots) length index glyph (isFlag ends)
 
 -- first, last, verb; without an edit 0 each
 abbrev pub windowSlots : Window → List ℕ
@@ -84,8 +84,8 @@ abbrev pub contextualSlots : ContextualState → List ℕ
 contextualSlots s = s .state ∷ flagNumber (s .«mark_set») ∷ s .«mark_index» ∷ s .«mark_id» ∷ []
 
 -- the step from the state that the numbers say, and the line that it leaves
-unfoldable pub contextual : List ℕ → (start : ℕ) → (slots : List ℕ) → Line → (index glyph ends : ℕ) → Stepped ContextualState
-contextual table start slots l index glyph ends = Contextual.stepCall table start (contextualFrom slots) l index glyph (isFlag ends)
+unfoldable pub contextualStepped : List ℕ → (start : ℕ) → (slots : List ℕ) → Line → (index glyph ends : ℕ) → Stepped ContextualState
+contextualStepped table start slots l index glyph ends = Contextual.stepCall table start (contextualFrom slots) l index glyph (isFlag ends)
 
 unfoldable pub contextualLeaves : List ℕ → (start : ℕ) → (slots : List ℕ) → Line → (index glyph ends : ℕ) → Line
 contextualLeaves table start slots l index glyph ends = Contextual.stepLeaves table start (contextualFrom slots) l index glyph (isFlag ends)
@@ -104,8 +104,8 @@ abbrev pub insertionSlots : InsertionState → List ℕ
 insertionSlots s = s .state ∷ s .mark ∷ s .cycles ∷ []
 
 -- the step from the state that the numbers say
-unfoldable pub inserted : List ℕ → (start : ℕ) → (slots : List ℕ) → (length room index glyph ends : ℕ) → InsertionStep
-inserted table start slots length room index glyph ends = Insertion.stepCall table start (insertionFrom slots) length room index glyph (isFlag ends)
+unfoldable pub insertionStepped : List ℕ → (start : ℕ) → (slots : List ℕ) → (length room index glyph ends : ℕ) → InsertionStep
+insertionStepped table start slots length room index glyph ends = Insertion.stepCall table start (insertionFrom slots) length room index glyph (isFlag ends)
 
 -- how many insertions, then for each its place, its count and where its glyphs lie in the table; the rest is 0
 unfoldable pub editSlots : (marked current : Inserted) → List ℕ
@@ -140,8 +140,8 @@ unfoldable pub ligatureSlots : List ℕ → LigatureState → List ℕ
 ligatureSlots was s = paste (paste (set (set was 0 (s .state)) 1 (s .depth)) 2 (s .places) 32) 34 (s .glyphs) 32
 
 -- the step from the state that the numbers say, and the line that it leaves
-unfoldable pub ligated : List ℕ → (start : ℕ) → (slots : List ℕ) → Line → (index glyph ends : ℕ) → Stepped LigatureState
-ligated table start slots l index glyph ends = Ligature.stepCall table start (ligatureFrom slots) l index glyph (isFlag ends)
+unfoldable pub ligatureStepped : List ℕ → (start : ℕ) → (slots : List ℕ) → Line → (index glyph ends : ℕ) → Stepped LigatureState
+ligatureStepped table start slots l index glyph ends = Ligature.stepCall table start (ligatureFrom slots) l index glyph (isFlag ends)
 
-unfoldable pub ligatedLeaves : List ℕ → (start : ℕ) → (slots : List ℕ) → Line → (index glyph ends : ℕ) → Line
-ligatedLeaves table start slots l index glyph ends = Ligature.stepLeaves table start (ligatureFrom slots) l index glyph (isFlag ends)
+unfoldable pub ligatureLeaves : List ℕ → (start : ℕ) → (slots : List ℕ) → Line → (index glyph ends : ℕ) → Line
+ligatureLeaves table start slots l index glyph ends = Ligature.stepLeaves table start (ligatureFrom slots) l index glyph (isFlag ends)

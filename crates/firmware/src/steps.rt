@@ -9,7 +9,7 @@ use rearrangement::Window;
 ghost use mathlib.Core.Path.{_≡_};
 ghost use Rattle.answers.specs.Numbers.{numberOf};
 ghost use Rattle.line.specs.Line.{lineOf};
-ghost use Rattle.firmware.specs.Steps.{isRefused, unlessRefused, noRearrangement, rearrangementFrom, rearrangementSlots, windowSlots, rearranged, flagNumber, noContext, contextualFrom, contextualSlots, contextual, contextualLeaves, noInsertion, insertionFrom, insertionSlots, inserted, editSlots, noLigature, slotsFrom, areGlyphs, ligatureFrom, ligatureSlots, ligated, ligatedLeaves};
+ghost use Rattle.firmware.specs.Steps.{isRefused, unlessRefused, noRearrangement, rearrangementFrom, rearrangementSlots, windowSlots, rearrangementStepped, flagNumber, noContext, contextualFrom, contextualSlots, contextualStepped, contextualLeaves, noInsertion, insertionFrom, insertionSlots, insertionStepped, editSlots, noLigature, slotsFrom, areGlyphs, ligatureFrom, ligatureSlots, ligatureStepped, ligatureLeaves};
 ghost use Prim.Native.Nat.{_+_, _≤_};
 ghost use mathlib.Core.Bool.{true};
 ghost use lib.ListN.{length};
@@ -88,10 +88,10 @@ pub extern "C" fn aat_rearrangement_step(
     advance: &mut usize,
     window: &mut [u64; 3],
 ) -> u32
-    ensures answer { λ r. ⌜ r ≡ numberOf (rearranged (now (table .entry)) start (now (state .entry)) length index glyph ends .answer) ⌝ }
-    ensures state { λ _. ⌜ now (state .exit) ≡ unlessRefused (rearranged (now (table .entry)) start (now (state .entry)) length index glyph ends .answer) (now (state .entry)) (rearrangementSlots (rearranged (now (table .entry)) start (now (state .entry)) length index glyph ends .state)) ⌝ }
-    ensures advance { λ _. ⌜ now (advance .exit) ≡ unlessRefused (rearranged (now (table .entry)) start (now (state .entry)) length index glyph ends .answer) (now (advance .entry)) (rearranged (now (table .entry)) start (now (state .entry)) length index glyph ends .advance) ⌝ }
-    ensures window { λ _. ⌜ now (window .exit) ≡ unlessRefused (rearranged (now (table .entry)) start (now (state .entry)) length index glyph ends .answer) (now (window .entry)) (windowSlots (rearranged (now (table .entry)) start (now (state .entry)) length index glyph ends .edit)) ⌝ }
+    ensures answer { λ r. ⌜ r ≡ numberOf (rearrangementStepped (now (table .entry)) start (now (state .entry)) length index glyph ends .answer) ⌝ }
+    ensures state { λ _. ⌜ now (state .exit) ≡ unlessRefused (rearrangementStepped (now (table .entry)) start (now (state .entry)) length index glyph ends .answer) (now (state .entry)) (rearrangementSlots (rearrangementStepped (now (table .entry)) start (now (state .entry)) length index glyph ends .state)) ⌝ }
+    ensures advance { λ _. ⌜ now (advance .exit) ≡ unlessRefused (rearrangementStepped (now (table .entry)) start (now (state .entry)) length index glyph ends .answer) (now (advance .entry)) (rearrangementStepped (now (table .entry)) start (now (state .entry)) length index glyph ends .advance) ⌝ }
+    ensures window { λ _. ⌜ now (window .exit) ≡ unlessRefused (rearrangementStepped (now (table .entry)) start (now (state .entry)) length index glyph ends .answer) (now (window .entry)) (windowSlots (rearrangementStepped (now (table .entry)) start (now (state .entry)) length index glyph ends .edit)) ⌝ }
 {
     let given = rearrangement_from(state);
     let step = given.step(table, start, length, index, glyph, ends != 0);
@@ -170,10 +170,10 @@ pub extern "C" fn aat_contextual_step(
     ends: u32,
     advance: &mut usize,
 ) -> u32
-    ensures answer { λ r. ⌜ r ≡ numberOf (contextual (now (table .entry)) start (now (state .entry)) (lineOf (now (glyphs .entry)) (now (tags .entry)) (now (homes .entry)) used) index glyph ends .answer) ⌝ }
-    ensures state { λ _. ⌜ now (state .exit) ≡ unlessRefused (contextual (now (table .entry)) start (now (state .entry)) (lineOf (now (glyphs .entry)) (now (tags .entry)) (now (homes .entry)) used) index glyph ends .answer) (now (state .entry)) (contextualSlots (contextual (now (table .entry)) start (now (state .entry)) (lineOf (now (glyphs .entry)) (now (tags .entry)) (now (homes .entry)) used) index glyph ends .state)) ⌝ }
+    ensures answer { λ r. ⌜ r ≡ numberOf (contextualStepped (now (table .entry)) start (now (state .entry)) (lineOf (now (glyphs .entry)) (now (tags .entry)) (now (homes .entry)) used) index glyph ends .answer) ⌝ }
+    ensures state { λ _. ⌜ now (state .exit) ≡ unlessRefused (contextualStepped (now (table .entry)) start (now (state .entry)) (lineOf (now (glyphs .entry)) (now (tags .entry)) (now (homes .entry)) used) index glyph ends .answer) (now (state .entry)) (contextualSlots (contextualStepped (now (table .entry)) start (now (state .entry)) (lineOf (now (glyphs .entry)) (now (tags .entry)) (now (homes .entry)) used) index glyph ends .state)) ⌝ }
     ensures glyphs { λ _. ⌜ now (glyphs .exit) ≡ contextualLeaves (now (table .entry)) start (now (state .entry)) (lineOf (now (glyphs .entry)) (now (tags .entry)) (now (homes .entry)) used) index glyph ends .glyphs ⌝ }
-    ensures advance { λ _. ⌜ now (advance .exit) ≡ unlessRefused (contextual (now (table .entry)) start (now (state .entry)) (lineOf (now (glyphs .entry)) (now (tags .entry)) (now (homes .entry)) used) index glyph ends .answer) (now (advance .entry)) (contextual (now (table .entry)) start (now (state .entry)) (lineOf (now (glyphs .entry)) (now (tags .entry)) (now (homes .entry)) used) index glyph ends .advance) ⌝ }
+    ensures advance { λ _. ⌜ now (advance .exit) ≡ unlessRefused (contextualStepped (now (table .entry)) start (now (state .entry)) (lineOf (now (glyphs .entry)) (now (tags .entry)) (now (homes .entry)) used) index glyph ends .answer) (now (advance .entry)) (contextualStepped (now (table .entry)) start (now (state .entry)) (lineOf (now (glyphs .entry)) (now (tags .entry)) (now (homes .entry)) used) index glyph ends .advance) ⌝ }
 {
     let given = contextual_from(state);
     let step = given.step(
@@ -295,10 +295,10 @@ pub extern "C" fn aat_insertion_step(
     advance: &mut usize,
     edits: &mut [u64; 7],
 ) -> u32
-    ensures answer { λ r. ⌜ r ≡ numberOf (inserted (now (table .entry)) start (now (state .entry)) length room index glyph ends .answer) ⌝ }
-    ensures state { λ _. ⌜ now (state .exit) ≡ unlessRefused (inserted (now (table .entry)) start (now (state .entry)) length room index glyph ends .answer) (now (state .entry)) (insertionSlots (inserted (now (table .entry)) start (now (state .entry)) length room index glyph ends .state)) ⌝ }
-    ensures advance { λ _. ⌜ now (advance .exit) ≡ unlessRefused (inserted (now (table .entry)) start (now (state .entry)) length room index glyph ends .answer) (now (advance .entry)) (inserted (now (table .entry)) start (now (state .entry)) length room index glyph ends .advance) ⌝ }
-    ensures edits { λ _. ⌜ now (edits .exit) ≡ unlessRefused (inserted (now (table .entry)) start (now (state .entry)) length room index glyph ends .answer) (now (edits .entry)) (editSlots (inserted (now (table .entry)) start (now (state .entry)) length room index glyph ends .marked) (inserted (now (table .entry)) start (now (state .entry)) length room index glyph ends .current)) ⌝ }
+    ensures answer { λ r. ⌜ r ≡ numberOf (insertionStepped (now (table .entry)) start (now (state .entry)) length room index glyph ends .answer) ⌝ }
+    ensures state { λ _. ⌜ now (state .exit) ≡ unlessRefused (insertionStepped (now (table .entry)) start (now (state .entry)) length room index glyph ends .answer) (now (state .entry)) (insertionSlots (insertionStepped (now (table .entry)) start (now (state .entry)) length room index glyph ends .state)) ⌝ }
+    ensures advance { λ _. ⌜ now (advance .exit) ≡ unlessRefused (insertionStepped (now (table .entry)) start (now (state .entry)) length room index glyph ends .answer) (now (advance .entry)) (insertionStepped (now (table .entry)) start (now (state .entry)) length room index glyph ends .advance) ⌝ }
+    ensures edits { λ _. ⌜ now (edits .exit) ≡ unlessRefused (insertionStepped (now (table .entry)) start (now (state .entry)) length room index glyph ends .answer) (now (edits .entry)) (editSlots (insertionStepped (now (table .entry)) start (now (state .entry)) length room index glyph ends .marked) (insertionStepped (now (table .entry)) start (now (state .entry)) length room index glyph ends .current)) ⌝ }
 {
     let given = insertion_from(state);
     let step = given.step(table, start, length, room, index, glyph, ends != 0);
@@ -444,11 +444,11 @@ pub extern "C" fn aat_ligature_step(
     ends: u32,
     advance: &mut usize,
 ) -> u32
-    ensures answer { λ r. ⌜ r ≡ numberOf (ligated (now (table .entry)) start (now (state .entry)) (lineOf (now (glyphs .entry)) (now (tags .entry)) (now (homes .entry)) used) index glyph ends .answer) ⌝ }
-    ensures state { λ _. ⌜ now (state .exit) ≡ unlessRefused (ligated (now (table .entry)) start (now (state .entry)) (lineOf (now (glyphs .entry)) (now (tags .entry)) (now (homes .entry)) used) index glyph ends .answer) (now (state .entry)) (ligatureSlots (now (state .entry)) (ligated (now (table .entry)) start (now (state .entry)) (lineOf (now (glyphs .entry)) (now (tags .entry)) (now (homes .entry)) used) index glyph ends .state)) ⌝ }
-    ensures glyphs { λ _. ⌜ now (glyphs .exit) ≡ ligatedLeaves (now (table .entry)) start (now (state .entry)) (lineOf (now (glyphs .entry)) (now (tags .entry)) (now (homes .entry)) used) index glyph ends .glyphs ⌝ }
-    ensures homes { λ _. ⌜ now (homes .exit) ≡ ligatedLeaves (now (table .entry)) start (now (state .entry)) (lineOf (now (glyphs .entry)) (now (tags .entry)) (now (homes .entry)) used) index glyph ends .homes ⌝ }
-    ensures advance { λ _. ⌜ now (advance .exit) ≡ unlessRefused (ligated (now (table .entry)) start (now (state .entry)) (lineOf (now (glyphs .entry)) (now (tags .entry)) (now (homes .entry)) used) index glyph ends .answer) (now (advance .entry)) (ligated (now (table .entry)) start (now (state .entry)) (lineOf (now (glyphs .entry)) (now (tags .entry)) (now (homes .entry)) used) index glyph ends .advance) ⌝ }
+    ensures answer { λ r. ⌜ r ≡ numberOf (ligatureStepped (now (table .entry)) start (now (state .entry)) (lineOf (now (glyphs .entry)) (now (tags .entry)) (now (homes .entry)) used) index glyph ends .answer) ⌝ }
+    ensures state { λ _. ⌜ now (state .exit) ≡ unlessRefused (ligatureStepped (now (table .entry)) start (now (state .entry)) (lineOf (now (glyphs .entry)) (now (tags .entry)) (now (homes .entry)) used) index glyph ends .answer) (now (state .entry)) (ligatureSlots (now (state .entry)) (ligatureStepped (now (table .entry)) start (now (state .entry)) (lineOf (now (glyphs .entry)) (now (tags .entry)) (now (homes .entry)) used) index glyph ends .state)) ⌝ }
+    ensures glyphs { λ _. ⌜ now (glyphs .exit) ≡ ligatureLeaves (now (table .entry)) start (now (state .entry)) (lineOf (now (glyphs .entry)) (now (tags .entry)) (now (homes .entry)) used) index glyph ends .glyphs ⌝ }
+    ensures homes { λ _. ⌜ now (homes .exit) ≡ ligatureLeaves (now (table .entry)) start (now (state .entry)) (lineOf (now (glyphs .entry)) (now (tags .entry)) (now (homes .entry)) used) index glyph ends .homes ⌝ }
+    ensures advance { λ _. ⌜ now (advance .exit) ≡ unlessRefused (ligatureStepped (now (table .entry)) start (now (state .entry)) (lineOf (now (glyphs .entry)) (now (tags .entry)) (now (homes .entry)) used) index glyph ends .answer) (now (advance .entry)) (ligatureStepped (now (table .entry)) start (now (state .entry)) (lineOf (now (glyphs .entry)) (now (tags .entry)) (now (homes .entry)) used) index glyph ends .advance) ⌝ }
 {
     let given = ligature_from(state);
     let step = given.step(

@@ -1,4 +1,4 @@
-use Rattle.firmware.proofs.Stepping.{numbered, kept, put, inserted-is}
+use Rattle.firmware.proofs.Stepping.{numbered, kept, put, insertion-is}
 use Rattle.firmware.specs.Steps.{insertionSlots, editSlots}
 use Rattle.insertion.specs.declared.InsertionStep.{InsertionStep}
 use mathlib.Core.Path.{refl}
@@ -24,7 +24,7 @@ number-requires : tie.Need-number-requires
 number-requires c κs = search needs
 
 returns : tie.Need-returns
-returns c = let e = inserted-is _ _ _ _ _ _ _ _ (c .before .before .before .before .insertion-from .ensures) (c .before .before .before .step .ensures) in
+returns c = let e = insertion-is _ _ _ _ _ _ _ _ (c .before .before .before .before .insertion-from .ensures) (c .before .before .before .step .ensures) in
     (numbered (λ (s : InsertionStep). s .answer) e (c .number .ensures), (kept (λ (s : InsertionStep). s .answer) e (c .before .before .is-refused .ensures) (λ (s : InsertionStep). insertionSlots (s .state)) _ (c .before .if1 .taken), (kept (λ (s : InsertionStep). s .answer) e (c .before .before .is-refused .ensures) (λ (s : InsertionStep). s .advance) _ (c .before .if1 .taken), kept (λ (s : InsertionStep). s .answer) e (c .before .before .is-refused .ensures) (λ (s : InsertionStep). editSlots (s .marked) (s .current)) _ (c .before .if1 .taken))))
 
 cast-t20 : tie.Need-cast-t20
@@ -46,7 +46,7 @@ returns-2 c =
     let at-is-refused = at-if1 .before in
     let at-step = at-is-refused .before in
     let at-insertion-from = at-step .before in
-    let e = inserted-is _ _ _ _ _ _ _ _ (at-insertion-from .insertion-from .ensures) (at-step .step .ensures) in
+    let e = insertion-is _ _ _ _ _ _ _ _ (at-insertion-from .insertion-from .ensures) (at-step .step .ensures) in
     (numbered (λ (s : InsertionStep). s .answer) e (c .number2 .ensures), (put (λ (s : InsertionStep). s .answer) e (at-is-refused .is-refused .ensures) (λ (s : InsertionStep). insertionSlots (s .state)) _ (at-if1 .if1 .left) refl, (put (λ (s : InsertionStep). s .answer) e (at-is-refused .is-refused .ensures) (λ (s : InsertionStep). s .advance) _ (at-if1 .if1 .left) refl, put (λ (s : InsertionStep). s .answer) e (at-is-refused .is-refused .ensures) (λ (s : InsertionStep). editSlots (s .marked) (s .current)) _ (at-if1 .if1 .left) (at-put-insertions .put-insertions .ensures))))
 
 pub aat-insertion-step-spec : {M : Type 1} → statement M

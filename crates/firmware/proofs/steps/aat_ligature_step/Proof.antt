@@ -1,5 +1,5 @@
-use Rattle.firmware.proofs.Stepping.{numbered, kept, put, ligated-is, ligated-left, kept-ligature, put-ligature}
-use Rattle.firmware.proofs.Stepping.{numbered, kept, put, ligated-is, ligated-left}
+use Rattle.firmware.proofs.Stepping.{numbered, kept, put, ligature-is, ligature-left, kept-ligature, put-ligature}
+use Rattle.firmware.proofs.Stepping.{numbered, kept, put, ligature-is, ligature-left}
 use Rattle.firmware.specs.Steps.{ligatureSlots}
 use Rattle.ligature.specs.declared.LigatureStep.{LigatureStep}
 use Rattle.line.specs.Line.{Line, lineOf}
@@ -39,8 +39,8 @@ returns c =
     let at-is-refused = at-if1 .before in
     let at-step = at-is-refused .before .before .before .before .before in
     let at-ligature-from = at-step .before .before .before in
-    let e = ligated-is _ _ _ (lineOf _ _ _ _) _ _ _ (at-ligature-from .ligature-from .ensures) (at-step .step .ensures .0) in
-    (numbered (λ (s : LigatureStep). s .answer) e (c .number .ensures), (kept-ligature e (at-is-refused .is-refused .ensures) _ (at-if1 .if1 .taken), (ligated-left _ _ _ (lineOf _ _ _ _) _ _ _ (at-ligature-from .ligature-from .ensures) (λ (l : Line). l .glyphs) (at-step .step .ensures .1 .0), (ligated-left _ _ _ (lineOf _ _ _ _) _ _ _ (at-ligature-from .ligature-from .ensures) (λ (l : Line). l .homes) (at-step .step .ensures .1 .1), kept (λ (s : LigatureStep). s .answer) e (at-is-refused .is-refused .ensures) (λ (s : LigatureStep). s .advance) _ (at-if1 .if1 .taken)))))
+    let e = ligature-is _ _ _ (lineOf _ _ _ _) _ _ _ (at-ligature-from .ligature-from .ensures) (at-step .step .ensures .0) in
+    (numbered (λ (s : LigatureStep). s .answer) e (c .number .ensures), (kept-ligature e (at-is-refused .is-refused .ensures) _ (at-if1 .if1 .taken), (ligature-left _ _ _ (lineOf _ _ _ _) _ _ _ (at-ligature-from .ligature-from .ensures) (λ (l : Line). l .glyphs) (at-step .step .ensures .1 .0), (ligature-left _ _ _ (lineOf _ _ _ _) _ _ _ (at-ligature-from .ligature-from .ensures) (λ (l : Line). l .homes) (at-step .step .ensures .1 .1), kept (λ (s : LigatureStep). s .answer) e (at-is-refused .is-refused .ensures) (λ (s : LigatureStep). s .advance) _ (at-if1 .if1 .taken)))))
 
 put-ligature-requires : tie.Need-put-ligature-requires
 put-ligature-requires c κs = search needs
@@ -61,8 +61,8 @@ returns-2 c =
     let at-is-refused = at-if1 .before in
     let at-step = at-is-refused .before .before .before .before .before in
     let at-ligature-from = at-step .before .before .before in
-    let e = ligated-is _ _ _ (lineOf _ _ _ _) _ _ _ (at-ligature-from .ligature-from .ensures) (at-step .step .ensures .0) in
-    (numbered (λ (s : LigatureStep). s .answer) e (c .number2 .ensures), (put-ligature e (at-is-refused .is-refused .ensures) _ (at-if1 .if1 .left) (at-put-ligature .put-ligature .ensures), (ligated-left _ _ _ (lineOf _ _ _ _) _ _ _ (at-ligature-from .ligature-from .ensures) (λ (l : Line). l .glyphs) (at-step .step .ensures .1 .0), (ligated-left _ _ _ (lineOf _ _ _ _) _ _ _ (at-ligature-from .ligature-from .ensures) (λ (l : Line). l .homes) (at-step .step .ensures .1 .1), put (λ (s : LigatureStep). s .answer) e (at-is-refused .is-refused .ensures) (λ (s : LigatureStep). s .advance) _ (at-if1 .if1 .left) refl))))
+    let e = ligature-is _ _ _ (lineOf _ _ _ _) _ _ _ (at-ligature-from .ligature-from .ensures) (at-step .step .ensures .0) in
+    (numbered (λ (s : LigatureStep). s .answer) e (c .number2 .ensures), (put-ligature e (at-is-refused .is-refused .ensures) _ (at-if1 .if1 .left) (at-put-ligature .put-ligature .ensures), (ligature-left _ _ _ (lineOf _ _ _ _) _ _ _ (at-ligature-from .ligature-from .ensures) (λ (l : Line). l .glyphs) (at-step .step .ensures .1 .0), (ligature-left _ _ _ (lineOf _ _ _ _) _ _ _ (at-ligature-from .ligature-from .ensures) (λ (l : Line). l .homes) (at-step .step .ensures .1 .1), put (λ (s : LigatureStep). s .answer) e (at-is-refused .is-refused .ensures) (λ (s : LigatureStep). s .advance) _ (at-if1 .if1 .left) refl))))
 
 pub aat-ligature-step-spec : {M : Type 1} → statement M
 aat-ligature-step-spec =

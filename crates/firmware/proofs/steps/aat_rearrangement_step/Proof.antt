@@ -1,4 +1,4 @@
-use Rattle.firmware.proofs.Stepping.{numbered, kept, put, rearranged-is}
+use Rattle.firmware.proofs.Stepping.{numbered, kept, put, rearrangement-is}
 use Rattle.firmware.specs.Steps.{rearrangementSlots, windowSlots}
 use Rattle.rearrangement.specs.declared.RearrangementStep.{RearrangementStep}
 use mathlib.Core.Path.{refl}
@@ -24,7 +24,7 @@ number-requires : tie.Need-number-requires
 number-requires c κs = search needs
 
 returns : tie.Need-returns
-returns c = let e = rearranged-is _ _ _ _ _ _ _ (c .before .before .before .before .rearrangement-from .ensures) (c .before .before .before .step .ensures) in
+returns c = let e = rearrangement-is _ _ _ _ _ _ _ (c .before .before .before .before .rearrangement-from .ensures) (c .before .before .before .step .ensures) in
     (numbered (λ (s : RearrangementStep). s .answer) e (c .number .ensures), (kept (λ (s : RearrangementStep). s .answer) e (c .before .before .is-refused .ensures) (λ (s : RearrangementStep). rearrangementSlots (s .state)) _ (c .before .if1 .taken), (kept (λ (s : RearrangementStep). s .answer) e (c .before .before .is-refused .ensures) (λ (s : RearrangementStep). s .advance) _ (c .before .if1 .taken), kept (λ (s : RearrangementStep). s .answer) e (c .before .before .is-refused .ensures) (λ (s : RearrangementStep). windowSlots (s .edit)) _ (c .before .if1 .taken))))
 
 cast-t18 : tie.Need-cast-t18
@@ -46,7 +46,7 @@ returns-2 c =
     let at-is-refused = at-if1 .before in
     let at-step = at-is-refused .before in
     let at-rearrangement-from = at-step .before in
-    let e = rearranged-is _ _ _ _ _ _ _ (at-rearrangement-from .rearrangement-from .ensures) (at-step .step .ensures) in
+    let e = rearrangement-is _ _ _ _ _ _ _ (at-rearrangement-from .rearrangement-from .ensures) (at-step .step .ensures) in
     (numbered (λ (s : RearrangementStep). s .answer) e (c .number2 .ensures), (put (λ (s : RearrangementStep). s .answer) e (at-is-refused .is-refused .ensures) (λ (s : RearrangementStep). rearrangementSlots (s .state)) _ (at-if1 .if1 .left) refl, (put (λ (s : RearrangementStep). s .answer) e (at-is-refused .is-refused .ensures) (λ (s : RearrangementStep). s .advance) _ (at-if1 .if1 .left) refl, put (λ (s : RearrangementStep). s .answer) e (at-is-refused .is-refused .ensures) (λ (s : RearrangementStep). windowSlots (s .edit)) _ (at-if1 .if1 .left) (at-put-window .put-window .ensures))))
 
 pub aat-rearrangement-step-spec : {M : Type 1} → statement M
