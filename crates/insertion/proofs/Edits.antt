@@ -5,7 +5,7 @@ use mathlib.Core.List.{List}
 use native.Mathlib.Omega.{arith}
 use lib.ListN.{length, take, drop}
 use Rattle.line.specs.Line.{Line, lineOf}
-use Rattle.line.specs.Changes.{Change, opened, numbersFrom, apply, applyAll, glyphsOf}
+use Rattle.line.specs.Changes.{Change, spliced, numbersFrom, apply, applyAll, glyphsOf}
 use Rattle.line.proofs.Applied.{applied-insertion}
 use Rattle.line.proofs.Histories.{applyAll-append}
 use Rattle.insertion.specs.Lists.{countOf, glyphsAt, changesOf, bothChanges}
@@ -41,8 +41,8 @@ module _ (bytes : List ℕ) where
     part-half = omega (arith, ap length d, length-part bytes from count fits)
 
     pub put-part : (glyphs tags homes : List ℕ) (used : ℕ) {glyphs′ tags′ : List ℕ} {used′ : ℕ}
-        → glyphs′ ≡ opened (min place used) used (glyphsOf part) glyphs
-        → tags′ ≡ opened (min place used) used (numbersFrom used (length part / 2)) tags
+        → glyphs′ ≡ spliced (min place used) used (glyphsOf part) glyphs
+        → tags′ ≡ spliced (min place used) used (numbersFrom used (length part / 2)) tags
         → used′ ≡ used + length part / 2
         → Left (changesOf bytes (Inserted′.At place count from)) (lineOf glyphs tags homes used) glyphs′ tags′ used′
     unfolding applyAll
@@ -50,8 +50,8 @@ module _ (bytes : List ℕ) where
         let same = ap glyphsOf d ∙ part-glyphs bytes from count fits in
         let line =
         applied-insertion glyphs tags homes used place count (glyphsAt bytes from count) (length-glyphsAt bytes from count)
-        (g ∙ ap (λ (new : List ℕ). opened (min place used) used new glyphs) same)
-        (t ∙ ap (λ (n : ℕ). opened (min place used) used (numbersFrom used n) tags) part-half)
+        (g ∙ ap (λ (new : List ℕ). spliced (min place used) used new glyphs) same)
+        (t ∙ ap (λ (n : ℕ). spliced (min place used) used (numbersFrom used n) tags) part-half)
         (u ∙ ap (λ (n : ℕ). used + n) part-half) in
         record {
           glyphs-left = ap (λ (l : Line). l .glyphs) line;

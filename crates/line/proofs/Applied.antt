@@ -6,7 +6,7 @@ use lib.ListN.{length}
 use Rattle.laws.specs.Backward.{backward}
 use Rattle.line.specs.Line.{lineOf}
 use Rattle.line.specs.Edits.{widthOf}
-use Rattle.line.specs.Changes.{Change, windowed, opened, numbersFrom, written, joinedGlyphs, joinedHomes, apply}
+use Rattle.line.specs.Changes.{Change, windowed, spliced, numbersFrom, written, joinedGlyphs, joinedHomes, apply}
 
 module _ (glyphs tags homes : List ℕ) (used : ℕ) where
   pub applied-window : {glyphs′ tags′ : List ℕ} (first last verb : ℕ) → glyphs′ ≡ windowed first (widthOf first last used) verb glyphs
@@ -21,7 +21,7 @@ module _ (glyphs tags homes : List ℕ) (used : ℕ) where
   applied-reversal g t = rw (g, t)
 
   pub applied-insertion : {glyphs′ tags′ : List ℕ} {used′ : ℕ} (at count : ℕ) (new : List ℕ) → length new ≡ count
-      → glyphs′ ≡ opened (min at used) used new glyphs → tags′ ≡ opened (min at used) used (numbersFrom used count) tags → used′ ≡ used + count
+      → glyphs′ ≡ spliced (min at used) used new glyphs → tags′ ≡ spliced (min at used) used (numbersFrom used count) tags → used′ ≡ used + count
       → lineOf glyphs′ tags′ homes used′ ≡ apply (Change.insertion at new) (lineOf glyphs tags homes used)
   unfolding apply
   applied-insertion at count new n g t u = rw (g, t, u, ← n)

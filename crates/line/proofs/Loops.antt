@@ -15,7 +15,7 @@ use Rattle.laws.proofs.Lists.{length-tab, getD-tab, getD-first, getD-behind}
 use Rattle.laws.proofs.Numbers.{lt-or-ge, eq-or-ne}
 use Rattle.parse.specs.Reads.{u16At}
 use Rattle.line.specs.Steps.{raised}
-use Rattle.line.specs.Changes.{numbersFrom, rehomed, opened, emptied, handed, emptiedAll, handedAll, glyphsOf}
+use Rattle.line.specs.Changes.{numbersFrom, rehomed, spliced, emptied, handed, emptiedAll, handedAll, glyphsOf}
 use Rattle.line.proofs.Once.{length-numbersFrom, getD-numbersFrom}
 use Rattle.line.proofs.Joins.{length-emptied, length-handed, length-rehomed, getD-rehomed}
 
@@ -159,8 +159,8 @@ module _ (before : List ℕ) (used count : ℕ) (fits : used + count ≤ length 
 
 -- the gap filled: the insertion
 pub raised-filled : (at used : ℕ) (new xs : List ℕ) → at ≤ used → used + length new ≤ length xs
-    → paste (raised at used (length new) xs) at new (length new) ≡ opened at used new xs
-unfolding raised opened
+    → paste (raised at used (length new) xs) at new (length new) ≡ spliced at used new xs
+unfolding raised spliced
 raised-filled at used new xs inside fits =
     let n : ℕ = length new in
     let front : List ℕ = take (at + n) xs in
@@ -176,7 +176,7 @@ raised-filled at used new xs inside fits =
     (sym (append-assoc (take at xs ++ new) (slice at used xs) (drop (used + n) xs)))
 
 pub filled : (at used : ℕ) (new xs : List ℕ) {place count : ℕ} {wide after : List ℕ} → place ≡ min at used → length new ≡ count
-    → used + count ≤ length xs → wide ≡ raised place used count xs → after ≡ paste wide place new count → after ≡ opened (min at used) used new xs
+    → used + count ≤ length xs → wide ≡ raised place used count xs → after ≡ paste wide place new count → after ≡ spliced (min at used) used new xs
 filled at used new xs p n fits r q = q ∙ rw (r, ← n, p) (raised-filled (min at used) used new xs (omega arith) (omega arith))
 
 -- Turning the first n round, from both ends.

@@ -13,9 +13,9 @@ use Rattle.verbs.specs.Verbs.{placeOf, fromOf}
 use Rattle.verbs.proofs.Laws.{placeOf-below, fromOf-below, placeOf-outside, fromOf-outside, from-place, place-from}
 use Rattle.line.specs.Line.{Line, lineOf, Valid, Belongs}
 use Rattle.line.specs.Edits.{Edit, widthOf, carry, carryAll, added, inserted}
-use Rattle.line.specs.Changes.{Change, editsOf, apply, windowed, opened, numbersFrom, joinedGlyphs, joinedHomes, written}
-use Rattle.line.proofs.Slices.{beyond, beyond-before, beyond-from, beyond-back, length-windowed, getD-windowed, length-opened}
-use Rattle.line.proofs.Once.{Shuffle, shuffled-there, shuffled-once, opened-there, opened-below, opened-once, length-numbersFrom}
+use Rattle.line.specs.Changes.{Change, editsOf, apply, windowed, spliced, numbersFrom, joinedGlyphs, joinedHomes, written}
+use Rattle.line.proofs.Slices.{beyond, beyond-before, beyond-from, beyond-back, length-windowed, getD-windowed, length-spliced}
+use Rattle.line.proofs.Once.{Shuffle, shuffled-there, shuffled-once, spliced-there, spliced-below, spliced-once, length-numbersFrom}
 use Rattle.line.proofs.Joins.{length-written, length-joinedGlyphs, length-joinedHomes, joined-there, joined-below}
 
 -- the line l′ is valid, in the room of l, with its characters, so many places more, and each of them where `to` takes its place
@@ -131,18 +131,18 @@ module _ (l : Line) (v : Valid l) where
       let place = min at n in
       let fits′ : n + length new ≤ length (l .tags) = rw (v .paired) fits in
       let tags = numbersFrom n (length new) in
-      let long : length (opened place n new (l .glyphs)) ≡ length (l .glyphs) =
-      length-opened place n new (l .glyphs) (omega arith) fits in
+      let long : length (spliced place n new (l .glyphs)) ≡ length (l .glyphs) =
+      length-spliced place n new (l .glyphs) (omega arith) fits in
       record {
         valid =
             record {
               paired =
-                  length-opened place n tags (l .tags) (omega arith) (rw (length-numbersFrom n (length new)) fits′) ∙ v .paired ∙ sym long;
+                  length-spliced place n tags (l .tags) (omega arith) (rw (length-numbersFrom n (length new)) fits′) ∙ v .paired ∙ sym long;
               limited = rw long (v .limited);
               within = rw long fits;
               legal =
                   record {
-                    once = opened-once place n (length new) (l .tags) (omega arith) fits′ (v .legal .once);
+                    once = spliced-once place n (length new) (l .tags) (omega arith) fits′ (v .legal .once);
                     housed = λ c h. omega (arith, v .legal .housed c h);
                     enough = omega (arith, v .legal .enough);
                   };
@@ -153,8 +153,8 @@ module _ (l : Line) (v : Valid l) where
         goes = λ c p b.
             record {
               character = b .character;
-              inside = opened-below place n (length new) (l .tags) (omega arith) fits′ p (b .inside);
-              home = opened-there place n (length new) (l .tags) (omega arith) fits′ p (b .inside) ∙ b .home;
+              inside = spliced-below place n (length new) (l .tags) (omega arith) fits′ p (b .inside);
+              home = spliced-there place n (length new) (l .tags) (omega arith) fits′ p (b .inside) ∙ b .home;
             };
       }
 

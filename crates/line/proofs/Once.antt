@@ -1,4 +1,4 @@
--- Tags that stand once each: no two places share one, and they stay so when places are shuffled or opened.
+-- Tags that stand once each: no two places share one, and they stay so when places are shuffled or spliced in.
 use Prim.Native.Nat.{ℕ, _+_, _-_, _<_, _≤_}
 use mathlib.Core.Path.{_≡_, _∙_, sym, ap}
 use mathlib.Core.List.{List}
@@ -11,8 +11,8 @@ use Rattle.laws.proofs.Choices.{ifLt-yes, ifLt-no}
 use Rattle.laws.proofs.Lists.{length-tab, getD-tab}
 use Rattle.laws.proofs.Numbers.{lt-or-ge}
 use Rattle.line.specs.Line.{OnceEach}
-use Rattle.line.specs.Changes.{opened, numbersFrom}
-use Rattle.line.proofs.Slices.{opened-before, opened-new, opened-moved}
+use Rattle.line.specs.Changes.{spliced, numbersFrom}
+use Rattle.line.proofs.Slices.{spliced-before, spliced-new, spliced-moved}
 
 pub same-place : {tags : List ℕ} {n p q : ℕ} → OnceEach tags n → p < n → q < n → getD tags p 0 ≡ getD tags q 0 → p ≡ q
 same-place {p = p} {q = q} o hp hq e = sym (o .back p hp) ∙ ap (o .place) e ∙ o .back q hq
@@ -51,7 +51,7 @@ getD-numbersFrom used count k h = getD-tab (λ i. used + i) count k 0 h
 -- an insertion at a place of n used ones; so many new tags, from n up
 module _ (at n count : ℕ) (tags : List ℕ) (inside : at ≤ n) (fits : n + count ≤ length tags) where
   abbrev after : List ℕ
-  after = opened at n (numbersFrom n count) tags
+  after = spliced at n (numbersFrom n count) tags
 
   -- where a place goes
   abbrev up : ℕ → ℕ
@@ -62,24 +62,24 @@ module _ (at n count : ℕ) (tags : List ℕ) (inside : at ≤ n) (fits : n + co
 
   new-there : (k : ℕ) → k < count → getD after (at + k) 0 ≡ n + k
   new-there k h =
-      opened-new at n (numbersFrom n count) tags inside fits′ (at + k) (omega arith) (rw (length-numbersFrom n count) (omega arith))
+      spliced-new at n (numbersFrom n count) tags inside fits′ (at + k) (omega arith) (rw (length-numbersFrom n count) (omega arith))
       ∙ rw (add-sub-cancel-left at k) (getD-numbersFrom n count k h)
 
   -- what stood at a place stands where the insertion takes it
-  pub opened-there : (p : ℕ) → p < n → getD after (up p) 0 ≡ getD tags p 0
-  opened-there p h =
+  pub spliced-there : (p : ℕ) → p < n → getD after (up p) 0 ≡ getD tags p 0
+  spliced-there p h =
       ⊎-elim
       (λ (k : p < at).
-      rw (ifLt-yes p (p + count) k) (opened-before at n (numbersFrom n count) tags inside fits′ p k))
+      rw (ifLt-yes p (p + count) k) (spliced-before at n (numbersFrom n count) tags inside fits′ p k))
       (λ (k : at ≤ p).
       rw (ifLt-no p (p + count) k)
-      (opened-moved at n (numbersFrom n count) tags inside fits′ (p + count) (rw (length-numbersFrom n count) (omega arith))
+      (spliced-moved at n (numbersFrom n count) tags inside fits′ (p + count) (rw (length-numbersFrom n count) (omega arith))
       (rw (length-numbersFrom n count) (omega arith))
       ∙ ap (λ (q : ℕ). getD tags q 0) (rw (length-numbersFrom n count) (omega arith))))
       (lt-or-ge p at)
 
-  pub opened-below : (p : ℕ) → p < n → up p < n + count
-  opened-below p h =
+  pub spliced-below : (p : ℕ) → p < n → up p < n + count
+  spliced-below p h =
       ⊎-elim
       (λ (k : p < at). rw (ifLt-yes p (p + count) k) (omega arith))
       (λ (k : at ≤ p). rw (ifLt-no p (p + count) k) (omega arith))
@@ -124,19 +124,19 @@ module _ (at n count : ℕ) (tags : List ℕ) (inside : at ≤ n) (fits : n + co
         rw (place-new t k) (rw e at (new (t - n) (omega arith))))
         (lt-or-ge t n)
 
-    pub opened-once : OnceEach after (n + count)
-    opened-once =
+    pub spliced-once : OnceEach after (n + count)
+    spliced-once =
         record {
           place = place;
           below =
               by-part (λ p. getD after p 0 < n + count)
-              (λ p h. rw (opened-there p h) (omega (arith, o .below p h)))
+              (λ p h. rw (spliced-there p h) (omega (arith, o .below p h)))
               (λ k h. rw (new-there k h) (omega arith));
           back =
               by-part (λ p. place (getD after p 0) ≡ p)
-              (λ p h. rw (opened-there p h) (place-old (getD tags p 0) (o .below p h) ∙ ap up (o .back p h)))
+              (λ p h. rw (spliced-there p h) (place-old (getD tags p 0) (o .below p h) ∙ ap up (o .back p h)))
               (λ k h. rw (new-there k h) (place-new (n + k) (omega arith) ∙ omega arith));
-          inside = by-tag (λ _ p. p < n + count) (λ t h. opened-below (o .place t) (o .inside t h)) (λ k h. omega arith);
+          inside = by-tag (λ _ p. p < n + count) (λ t h. spliced-below (o .place t) (o .inside t h)) (λ k h. omega arith);
           there =
-              by-tag (λ t p. getD after p 0 ≡ t) (λ t h. opened-there (o .place t) (o .inside t h) ∙ o .there t h) new-there;
+              by-tag (λ t p. getD after p 0 ≡ t) (λ t h. spliced-there (o .place t) (o .inside t h) ∙ o .there t h) new-there;
         }

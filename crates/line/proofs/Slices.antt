@@ -13,7 +13,7 @@ use Rattle.laws.proofs.Lists.{getD-first, getD-behind}
 use Rattle.laws.proofs.Numbers.{lt-or-ge}
 use Rattle.verbs.specs.Verbs.{fromOf, rearranged}
 use Rattle.verbs.proofs.Laws.{length-rearranged, getD-rearranged}
-use Rattle.line.specs.Changes.{windowed, opened}
+use Rattle.line.specs.Changes.{windowed, spliced}
 
 -- a map of places counted from the window's first, as a map of the line's
 abbrev pub beyond : ℕ → (ℕ → ℕ) → ℕ → ℕ
@@ -72,32 +72,32 @@ module _ (at used : ℕ) (new xs : List ℕ) (inside : at ≤ used) (fits : used
   back : length (take at xs ++ new ++ slice at used xs) ≡ used + length new
   back = length-append (take at xs ++ new) (slice at used xs) ∙ rw (middle, length-slice at used xs (omega arith)) (omega arith)
 
-  pub length-opened : length (opened at used new xs) ≡ length xs
-  unfolding opened
-  length-opened =
+  pub length-spliced : length (spliced at used new xs) ≡ length xs
+  unfolding spliced
+  length-spliced =
       length-append (take at xs ++ new ++ slice at used xs) (drop (used + length new) xs)
       ∙ rw (back, length-drop (used + length new) xs) (omega arith)
 
   module _ (p : ℕ) where
-    pub opened-before : p < at → getD (opened at used new xs) p 0 ≡ getD xs p 0
-    unfolding opened
-    opened-before h =
+    pub spliced-before : p < at → getD (spliced at used new xs) p 0 ≡ getD xs p 0
+    unfolding spliced
+    spliced-before h =
         getD-first (take at xs ++ new ++ slice at used xs) (drop (used + length new) xs) 0 p (rw back (omega arith))
         ∙ getD-first (take at xs ++ new) (slice at used xs) 0 p (rw middle (omega arith))
         ∙ getD-first (take at xs) new 0 p (rw front h)
         ∙ getD-take at xs p 0 h
 
-    pub opened-new : at ≤ p → p < at + length new → getD (opened at used new xs) p 0 ≡ getD new (p - at) 0
-    unfolding opened
-    opened-new h k =
+    pub spliced-new : at ≤ p → p < at + length new → getD (spliced at used new xs) p 0 ≡ getD new (p - at) 0
+    unfolding spliced
+    spliced-new h k =
         getD-first (take at xs ++ new ++ slice at used xs) (drop (used + length new) xs) 0 p (rw back (omega arith))
         ∙ getD-first (take at xs ++ new) (slice at used xs) 0 p (rw middle k)
         ∙ getD-behind (take at xs) new 0 p (rw front h)
         ∙ rw front
 
-    pub opened-moved : at + length new ≤ p → p < used + length new → getD (opened at used new xs) p 0 ≡ getD xs (p - length new) 0
-    unfolding opened
-    opened-moved h k =
+    pub spliced-moved : at + length new ≤ p → p < used + length new → getD (spliced at used new xs) p 0 ≡ getD xs (p - length new) 0
+    unfolding spliced
+    spliced-moved h k =
         getD-first (take at xs ++ new ++ slice at used xs) (drop (used + length new) xs) 0 p (rw back k)
         ∙ getD-behind (take at xs ++ new) (slice at used xs) 0 p (rw middle h)
         ∙ rw middle
@@ -105,9 +105,9 @@ module _ (at used : ℕ) (new xs : List ℕ) (inside : at ≤ used) (fits : used
         ∙ getD-take used xs (at + (p - (at + length new))) 0 (omega arith)
         ∙ ap (λ (n : ℕ). getD xs n 0) (omega arith))
 
-    pub opened-rest : used + length new ≤ p → getD (opened at used new xs) p 0 ≡ getD xs p 0
-    unfolding opened
-    opened-rest h =
+    pub spliced-rest : used + length new ≤ p → getD (spliced at used new xs) p 0 ≡ getD xs p 0
+    unfolding spliced
+    spliced-rest h =
         getD-behind (take at xs ++ new ++ slice at used xs) (drop (used + length new) xs) 0 p (rw back h)
         ∙ rw back
         (getD-drop (used + length new) xs (p - (used + length new)) 0

@@ -43,8 +43,8 @@ unfoldable pub glyphsOf : List ℕ → List ℕ
 glyphsOf bytes = tab (λ k. u16At bytes (k * 2)) (length bytes / 2)
 
 -- new ones put in at a place; what stood from there to the used length moves up, and what they do not reach is as it was
-unfoldable pub opened : (at used : ℕ) → List ℕ → List ℕ → List ℕ
-opened at used new xs = take at xs ++ new ++ slice at used xs ++ drop (used + length new) xs
+unfoldable pub spliced : (at used : ℕ) → List ℕ → List ℕ → List ℕ
+spliced at used new xs = take at xs ++ new ++ slice at used xs ++ drop (used + length new) xs
 
 -- so many numbers from the first up, in order
 unfoldable pub numbersFrom : (first count : ℕ) → List ℕ
@@ -98,8 +98,8 @@ apply (window first last verb) l =
 apply reversal l = lineOf (backward (l .used) (l .glyphs)) (backward (l .used) (l .tags)) (l .homes) (l .used)
 apply (insertion at new) l =
     lineOf
-    (opened (min at (l .used)) (l .used) new (l .glyphs))
-    (opened (min at (l .used)) (l .used) (numbersFrom (l .used) (length new)) (l .tags))
+    (spliced (min at (l .used)) (l .used) new (l .glyphs))
+    (spliced (min at (l .used)) (l .used) (numbersFrom (l .used) (length new)) (l .tags))
     (l .homes)
     (l .used + length new)
 apply (ligature at glyph parts) l =

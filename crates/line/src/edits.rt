@@ -8,7 +8,7 @@ ghost use Rattle.laws.specs.Backward.{backward};
 ghost use Rattle.laws.specs.Choose.{ifEq};
 ghost use Rattle.line.specs.Edits.{widthOf};
 ghost use Rattle.line.specs.Steps.{raised};
-ghost use Rattle.line.specs.Changes.{windowed, opened, numbersFrom, written, emptied, rehomed, handed, joinedGlyphs, joinedHomes, glyphsOf};
+ghost use Rattle.line.specs.Changes.{windowed, spliced, numbersFrom, written, emptied, rehomed, handed, joinedGlyphs, joinedHomes, glyphsOf};
 
 // The glyph of a place whose characters a ligature has taken.
 const DELETED: u16 = 0xFFFF;
@@ -98,8 +98,8 @@ fn put(glyphs: &mut [u16], at: usize, new: &[u8])
 // the tags from the used length up. Returns the used length afterwards.
 pub fn insert(glyphs: &mut [u16], tags: &mut [u16], used: usize, at: usize, new: &[u8]) -> usize
     requires { ⌜ (used + length (now new) / 2 ≤ length (now glyphs)) × (used + length (now new) / 2 ≤ length (now tags)) × (used + length (now new) / 2 ≤ room) ⌝ }
-    ensures glyphs { λ _. ⌜ now (glyphs .exit) ≡ opened (min at used) used (glyphsOf (now (new .entry))) (now (glyphs .entry)) ⌝ }
-    ensures tags { λ _. ⌜ now (tags .exit) ≡ opened (min at used) used (numbersFrom used (length (now (new .entry)) / 2)) (now (tags .entry)) ⌝ }
+    ensures glyphs { λ _. ⌜ now (glyphs .exit) ≡ spliced (min at used) used (glyphsOf (now (new .entry))) (now (glyphs .entry)) ⌝ }
+    ensures tags { λ _. ⌜ now (tags .exit) ≡ spliced (min at used) used (numbersFrom used (length (now (new .entry)) / 2)) (now (tags .entry)) ⌝ }
     ensures used { λ r. ⌜ r ≡ used + length (now (new .entry)) / 2 ⌝ }
 {
     let count = new.len() / 2;

@@ -22,7 +22,7 @@ use Rattle.parse.specs.declared.ReadU16.the-variants as U16
 use Rattle.parse.specs.declared.ReadU32.{ReadU32}
 use Rattle.parse.specs.declared.ReadU32.the-variants as U32
 use Rattle.line.specs.Line.{Line, lineOf}
-use Rattle.line.specs.Changes.{glyphsOf, numbersFrom, opened}
+use Rattle.line.specs.Changes.{glyphsOf, numbersFrom, spliced}
 use Rattle.line.specs.Entries.{freshOf}
 use Rattle.line.proofs.Once.{length-numbersFrom}
 use Rattle.line.proofs.Loops.{paste-over, length-glyphsOf}
@@ -85,9 +85,9 @@ module _ (input : List ℕ) (end : ℕ) where
       go U32.Short e = absurd (refused-not-taken e)
 
 -- glyphs put into a line of no places
-opened-empty : (new xs : List ℕ) → opened (min 0 0) 0 new xs ≡ new ++ drop (length new) xs
-unfolding opened
-opened-empty new xs = rw (slice-empty 0 xs, append-nil new, zero-add (length new))
+spliced-empty : (new xs : List ℕ) → spliced (min 0 0) 0 new xs ≡ new ++ drop (length new) xs
+unfolding spliced
+spliced-empty new xs = rw (slice-empty 0 xs, append-nil new, zero-add (length new))
 
 -- what the run over a line answers and leaves
 abbrev pub RunsTo : (table : List ℕ) → Line → RunReply → (glyphs tags homes : List ℕ) → Type 0
@@ -98,16 +98,16 @@ RunsTo table l reply glyphs tags homes =
     × (homes ≡ runLeaves table 0 leftToRight l .homes)))
 
 module _ (new glyphs tags homes : List ℕ) (e : length homes ≡ length new / 2) {glyphs′ tags′ homes′ : List ℕ}
-    (g : glyphs′ ≡ opened (min 0 0) 0 (glyphsOf new) glyphs)
-    (t : tags′ ≡ opened (min 0 0) 0 (numbersFrom 0 (length new / 2)) tags)
+    (g : glyphs′ ≡ spliced (min 0 0) 0 (glyphsOf new) glyphs)
+    (t : tags′ ≡ spliced (min 0 0) 0 (numbersFrom 0 (length new / 2)) tags)
     (h : homes′ ≡ paste homes 0 (numbersFrom 0 (length homes)) (length homes)) where
   glyphs-are : glyphs′ ≡ glyphsOf new ++ drop (length new / 2) glyphs
-  glyphs-are = g ∙ opened-empty (glyphsOf new) glyphs ∙ ap (λ (n : ℕ). glyphsOf new ++ drop n glyphs) (length-glyphsOf new)
+  glyphs-are = g ∙ spliced-empty (glyphsOf new) glyphs ∙ ap (λ (n : ℕ). glyphsOf new ++ drop n glyphs) (length-glyphsOf new)
 
   tags-are : tags′ ≡ numbersFrom 0 (length homes) ++ drop (length homes) tags
   tags-are =
-      t ∙ ap (λ (n : ℕ). opened (min 0 0) 0 (numbersFrom 0 n) tags) (sym e)
-      ∙ opened-empty (numbersFrom 0 (length homes)) tags
+      t ∙ ap (λ (n : ℕ). spliced (min 0 0) 0 (numbersFrom 0 n) tags) (sym e)
+      ∙ spliced-empty (numbersFrom 0 (length homes)) tags
       ∙ ap (λ (n : ℕ). numbersFrom 0 (length homes) ++ drop n tags) (length-numbersFrom 0 (length homes))
 
   homes-are : homes′ ≡ numbersFrom 0 (length homes)
