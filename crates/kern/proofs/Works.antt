@@ -36,12 +36,12 @@ use Rattle.kern.specs.Kern.{worked, passed, pairIn, adds}
 
 module _ (bytes : List ℕ) (version format : ℕ) (glyphs : List ℕ) (used : ℕ) (before : List ℤ) where
   pub works-pairs : {size : ℕ} {opened : Opened} {answer : Answer} {after : List ℤ} → format ≡ 0 → size ≡ headSize version
-      → opened ≡ orderedKern bytes size → answer ≡ Pairs′.worked bytes opened glyphs used .answer
-      → after ≡ addAll (Pairs′.worked bytes opened glyphs used .additions) before → Works (worked bytes version format glyphs used) before answer after
+      → opened ≡ orderedKern bytes size → answer ≡ Pairs′.workedBy bytes opened glyphs used .answer
+      → after ≡ addAll (Pairs′.workedBy bytes opened glyphs used .additions) before → Works (worked bytes version format glyphs used) before answer after
   unfolding worked
   works-pairs z s o a l =
       works-same
-      (ap (λ (x : Opened). Pairs′.worked bytes x glyphs used) (o ∙ ap (orderedKern bytes) s) ∙ rw (eq-eqb format 0 z))
+      (ap (λ (x : Opened). Pairs′.workedBy bytes x glyphs used) (o ∙ ap (orderedKern bytes) s) ∙ rw (eq-eqb format 0 z))
       (record { answers = a; leaves = l })
 
   pub works-machine : {answer : Answer} {after : List ℤ} → (format ≡ 0 → ⊥) → format ≡ 1 → answer ≡ Machine′.worked bytes version glyphs used .answer
@@ -73,7 +73,7 @@ worked-little bytes version format glyphs used b along h w = go (eqb format 0) (
   where
     go : (zero one : Bool) → Within (b + 2 ^ 39)
         (addAll
-        (cond zero (Pairs′.worked bytes (orderedKern bytes (headSize version)) glyphs used)
+        (cond zero (Pairs′.workedBy bytes (orderedKern bytes (headSize version)) glyphs used)
         (cond one (Machine′.worked bytes version glyphs used) (nothingAdded (Answer′.Refused Refusal′.Head))) .additions)
         along)
     go true one = PairLaws.worked-within bytes (orderedKern bytes (headSize version)) glyphs used along h w

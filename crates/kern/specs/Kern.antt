@@ -26,7 +26,7 @@ use Rattle.kern.specs.Heads.{headIn, listOf, walkOf}
 -- the pass by the subtable that begins with these bytes, of this format: ordered pairs or the machine; others are left out
 unfoldable pub worked : List ℕ → (version format : ℕ) → (glyphs : List ℕ) → (used : ℕ) → Kerned
 worked bytes version format glyphs used =
-    ifEq format 0 (Pairs′.worked bytes (orderedKern bytes (headSize version)) glyphs used)
+    ifEq format 0 (Pairs′.workedBy bytes (orderedKern bytes (headSize version)) glyphs used)
     (ifEq format 1 (Machine′.worked bytes version glyphs used) (nothingAdded (Answer′.Refused Refusal′.Head)))
 
 -- a lone pass, by the format that the head tells; HEAD where that can't be read

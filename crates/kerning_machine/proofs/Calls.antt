@@ -11,7 +11,7 @@ use Rattle.kerning.specs.Additions.{addAll, Kerned}
 use Rattle.kerning_machine.specs.declared.Kerning.{Kerning}
 use Rattle.kerning_machine.specs.declared.Opened.{Opened}
 use Rattle.kerning_machine.specs.declared.Opened.the-variants as Opened′
-use Rattle.kerning_machine.specs.Machine.{passed, worked}
+use Rattle.kerning_machine.specs.Machine.{passed, workedBy}
 
 -- the code's answer and adjustments are those of a definition
 pub record Works (r : Kerned) (along₀ : List ℤ) (answer : Answer) (along : List ℤ) : Type 0 where
@@ -19,12 +19,12 @@ pub record Works (r : Kerned) (along₀ : List ℤ) (answer : Answer) (along : L
   pub leaves : along ≡ addAll (r .additions) along₀
 
 module _ (bytes : List ℕ) (opened : Opened) (glyphs : List ℕ) (used : ℕ) (along : List ℤ) where
-  pub works-headless : opened ≡ Opened′.Short → Works (worked bytes opened glyphs used) along (Answer′.Refused Refusal′.Head) along
-  unfolding worked addAll
+  pub works-headless : opened ≡ Opened′.Short → Works (workedBy bytes opened glyphs used) along (Answer′.Refused Refusal′.Head) along
+  unfolding workedBy addAll
   works-headless o = rw o (record { answers = refl; leaves = refl })
 
   pub works-passed : {kerning : Kerning} {answer : Answer} {along′ : List ℤ} → opened ≡ Opened′.Ready kerning
       → answer ≡ passed bytes kerning glyphs used .answer → along′ ≡ addAll (passed bytes kerning glyphs used .additions) along
-      → Works (worked bytes opened glyphs used) along answer along′
-  unfolding worked
+      → Works (workedBy bytes opened glyphs used) along answer along′
+  unfolding workedBy
   works-passed o e a = rw o (record { answers = e; leaves = a })

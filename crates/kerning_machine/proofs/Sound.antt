@@ -31,7 +31,7 @@ use Rattle.kerning_machine.specs.declared.Kerning.{Kerning}
 use Rattle.kerning_machine.specs.declared.Opened.{Opened}
 use Rattle.kerning_machine.specs.declared.Opened.the-variants as Opened′
 use Rattle.kerning_machine.specs.declared.KerningState.{KerningState}
-use Rattle.kerning_machine.specs.Machine.{fresh, ruleOf, strideOf, isFull, popped, stacked, settled, followed, Stepped, behind, listed, entered, acted, payloadOf, ordersOf, next, stepAt, passFrom, rest, passed, worked}
+use Rattle.kerning_machine.specs.Machine.{fresh, ruleOf, strideOf, isFull, popped, stacked, settled, followed, Stepped, behind, listed, entered, acted, payloadOf, ordersOf, next, stepAt, passFrom, rest, passed, workedBy}
 use Rattle.kerning_machine.proofs.Acting.{stacked-deep}
 
 -- a step from a state that took so many cycles
@@ -156,7 +156,7 @@ passed-within bytes kerning glyphs used along h w =
     modest-within along (pass-modest bytes kerning glyphs used (rest used fresh 0) fresh 0 (omega arith)) (omega arith) h w
 
 pub worked-within : (bytes : List ℕ) (opened : Opened) (glyphs : List ℕ) (used : ℕ) {b : ℕ} (along : List ℤ) → used ≤ room → Within b along
-    → Within (b + 2 ^ 39) (addAll (worked bytes opened glyphs used .additions) along)
-unfolding worked addAll
+    → Within (b + 2 ^ 39) (addAll (workedBy bytes opened glyphs used .additions) along)
+unfolding workedBy addAll
 worked-within bytes (Opened′.Ready kerning) glyphs used along h w = passed-within bytes kerning glyphs used along h w
 worked-within bytes Opened′.Short glyphs used along h w = within-more (omega arith) w

@@ -196,9 +196,9 @@ isShort (Opened′.Ready kerning) = false
 isShort Opened′.Short = true
 
 -- the pass by what a head gives, over the bytes from the state table on
-unfoldable pub worked : List ℕ → Opened → (glyphs : List ℕ) → (used : ℕ) → Kerned
-worked bytes (Opened′.Ready kerning) glyphs used = passed bytes kerning glyphs used
-worked bytes Opened′.Short glyphs used = nothingAdded (Answer′.Refused Refusal′.Head)
+unfoldable pub workedBy : List ℕ → Opened → (glyphs : List ℕ) → (used : ℕ) → Kerned
+workedBy bytes (Opened′.Ready kerning) glyphs used = passed bytes kerning glyphs used
+workedBy bytes Opened′.Short glyphs used = nothingAdded (Answer′.Refused Refusal′.Head)
 
 -- every used slot's place is within the line or just behind it
 unfoldable pub areWithin : (stack : List ℕ) → (depth used : ℕ) → Bool

@@ -20,7 +20,7 @@ ghost use Rattle.answers.specs.Refuse.{refuse};
 ghost use Rattle.answers.specs.declared.Answer.the-variants.{Ended};
 ghost use Rattle.kerning.specs.Additions.{addAll};
 ghost use Rattle.kerning.specs.Bounds.{Within};
-ghost use Rattle.kerning_machine.specs.Machine.{fresh, payloadOf, sizeOf, kernStart, kerxStart, ordersOf, isFull, stacked, stopped, settled, followed, behind, acted, next, passed, isRoomy, isShort, areWithin, stepTests, stepCall, worked};
+ghost use Rattle.kerning_machine.specs.Machine.{fresh, payloadOf, sizeOf, kernStart, kerxStart, ordersOf, isFull, stacked, stopped, settled, followed, behind, acted, next, passed, isRoomy, isShort, areWithin, stepTests, stepCall, workedBy};
 ghost use Rattle.kerning_machine.specs.Work.{standing, stepOf};
 
 // How a machine reads its entries: kern's flags hold where the list begins, and its subtable may go across the stream; kerx's entries hold
@@ -552,8 +552,8 @@ fn pass_line(
 // The pass by what a head gives; HEAD where it gives none.
 pub fn work(bytes: &[u8], opened: Opened, glyphs: &[u16], used: usize, along: &mut [i64]) -> Answer
     requires { ⌜ (used ≤ length (now glyphs)) × (used ≤ length (now along)) × (used ≤ room) × Within (2 ^ 60) (now along) ⌝ }
-    ensures answer { λ r. ⌜ r ≡ worked (now (bytes .entry)) opened (now (glyphs .entry)) used .answer ⌝ }
-    ensures along { λ _. ⌜ now (along .exit) ≡ addAll (worked (now (bytes .entry)) opened (now (glyphs .entry)) used .additions) (now (along .entry)) ⌝ }
+    ensures answer { λ r. ⌜ r ≡ workedBy (now (bytes .entry)) opened (now (glyphs .entry)) used .answer ⌝ }
+    ensures along { λ _. ⌜ now (along .exit) ≡ addAll (workedBy (now (bytes .entry)) opened (now (glyphs .entry)) used .additions) (now (along .entry)) ⌝ }
 {
     let Opened::Ready(kerning) = opened else {
         return Answer::Refused(Refusal::Head);

@@ -38,11 +38,11 @@ use Rattle.kerx.specs.Kerx.{worked, passed, pairIn, adds}
 
 module _ (bytes : List ℕ) (version format : ℕ) (glyphs : List ℕ) (used : ℕ) (before : List ℤ) where
   pub works-ordered : {opened : Opened} {answer : Answer} {after : List ℤ} → format ≡ 0 → opened ≡ orderedKerx bytes
-      → answer ≡ Pairs′.worked bytes opened glyphs used .answer → after ≡ addAll (Pairs′.worked bytes opened glyphs used .additions) before
+      → answer ≡ Pairs′.workedBy bytes opened glyphs used .answer → after ≡ addAll (Pairs′.workedBy bytes opened glyphs used .additions) before
       → Works (worked bytes version format glyphs used) before answer after
   unfolding worked
   works-ordered z o a l =
-      works-same (ap (λ (x : Opened). Pairs′.worked bytes x glyphs used) o ∙ rw (eq-eqb format 0 z)) (record { answers = a; leaves = l })
+      works-same (ap (λ (x : Opened). Pairs′.workedBy bytes x glyphs used) o ∙ rw (eq-eqb format 0 z)) (record { answers = a; leaves = l })
 
   pub works-machine : {answer : Answer} {after : List ℤ} → (format ≡ 0 → ⊥) → format ≡ 1 → answer ≡ Machine′.worked bytes version glyphs used .answer
       → after ≡ addAll (Machine′.worked bytes version glyphs used .additions) before → Works (worked bytes version format glyphs used) before answer after
@@ -50,11 +50,11 @@ module _ (bytes : List ℕ) (version format : ℕ) (glyphs : List ℕ) (used : �
   works-machine n z a l = works-same (rw (ne-eqb format 0 n, eq-eqb format 1 z)) (record { answers = a; leaves = l })
 
   pub works-classes : {opened : Opened} {answer : Answer} {after : List ℤ} → (format ≡ 0 → ⊥) → (format ≡ 1 → ⊥) → format ≡ 2
-      → opened ≡ classesKerx bytes → answer ≡ Pairs′.worked bytes opened glyphs used .answer
-      → after ≡ addAll (Pairs′.worked bytes opened glyphs used .additions) before → Works (worked bytes version format glyphs used) before answer after
+      → opened ≡ classesKerx bytes → answer ≡ Pairs′.workedBy bytes opened glyphs used .answer
+      → after ≡ addAll (Pairs′.workedBy bytes opened glyphs used .additions) before → Works (worked bytes version format glyphs used) before answer after
   unfolding worked
   works-classes n m z o a l =
-      works-same (ap (λ (x : Opened). Pairs′.worked bytes x glyphs used) o ∙ rw (ne-eqb format 0 n, ne-eqb format 1 m, eq-eqb format 2 z))
+      works-same (ap (λ (x : Opened). Pairs′.workedBy bytes x glyphs used) o ∙ rw (ne-eqb format 0 n, ne-eqb format 1 m, eq-eqb format 2 z))
       (record { answers = a; leaves = l })
 
   pub works-none : (format ≡ 0 → ⊥) → (format ≡ 1 → ⊥) → (format ≡ 2 → ⊥)
@@ -81,9 +81,9 @@ worked-little bytes version format glyphs used b along h w = go (eqb format 0) (
   where
     go : (zero one two : Bool) → Within (b + 2 ^ 39)
         (addAll
-        (cond zero (Pairs′.worked bytes (orderedKerx bytes) glyphs used)
+        (cond zero (Pairs′.workedBy bytes (orderedKerx bytes) glyphs used)
         (cond one (Machine′.worked bytes version glyphs used)
-        (cond two (Pairs′.worked bytes (classesKerx bytes) glyphs used) (nothingAdded (Answer′.Refused Refusal′.Head)))) .additions)
+        (cond two (Pairs′.workedBy bytes (classesKerx bytes) glyphs used) (nothingAdded (Answer′.Refused Refusal′.Head)))) .additions)
         along)
     go true one two = PairLaws.worked-within bytes (orderedKerx bytes) glyphs used along h w
     go false true two = Bounds′.worked-within bytes version glyphs used along h w

@@ -25,9 +25,9 @@ use Rattle.kerx.specs.Heads.{headIn, listOf, walkOf}
 -- the pass by the subtable that begins with these bytes, of this format: ordered pairs, the machine, or class pairs; others are left out
 unfoldable pub worked : List ℕ → (version format : ℕ) → (glyphs : List ℕ) → (used : ℕ) → Kerned
 worked bytes version format glyphs used =
-    ifEq format 0 (Pairs′.worked bytes (orderedKerx bytes) glyphs used)
+    ifEq format 0 (Pairs′.workedBy bytes (orderedKerx bytes) glyphs used)
     (ifEq format 1 (Machine′.worked bytes version glyphs used)
-    (ifEq format 2 (Pairs′.worked bytes (classesKerx bytes) glyphs used) (nothingAdded (Answer′.Refused Refusal′.Head))))
+    (ifEq format 2 (Pairs′.workedBy bytes (classesKerx bytes) glyphs used) (nothingAdded (Answer′.Refused Refusal′.Head))))
 
 -- a lone pass, by the format that the head tells; HEAD where that can't be read. It is told no direction and turns nothing
 unfoldable pub passed : List ℕ → (version : ℕ) → (glyphs : List ℕ) → (used : ℕ) → Kerned

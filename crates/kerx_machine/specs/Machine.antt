@@ -45,7 +45,7 @@ opened bytes version =
 
 -- the pass by the subtable whose bytes begin at its head
 unfoldable pub worked : List ℕ → (version : ℕ) → (glyphs : List ℕ) → (used : ℕ) → Kerned
-worked bytes version glyphs used = Kerning′.worked (bodyOf bytes) (opened bytes version) glyphs used
+worked bytes version glyphs used = Kerning′.workedBy (bodyOf bytes) (opened bytes version) glyphs used
 
 -- a lone step by the subtable at `start`
 unfoldable pub stepCall : List ℕ → (start version : ℕ) → KerningState → (used index glyph : ℕ) → List ℤ → Stepped

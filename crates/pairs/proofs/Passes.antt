@@ -29,7 +29,7 @@ use Rattle.kerning.proofs.Adding.{length-addAll, addAll-none, addAll-append, wi
 use Rattle.pairs.specs.Pairs.{keyOf, numberAt, numberIn, orderedNumber, onClass, numberInRow, classNumber, numberOf}
 use Rattle.pairs.specs.Reply.{replyOf}
 use Rattle.pairs.specs.declared.PairReply.the-variants as Reply′
-use Rattle.pairs.specs.Pass.{additionOf, everyPlace, lastBelow, pairsBelow, worked}
+use Rattle.pairs.specs.Pass.{additionOf, everyPlace, lastBelow, pairsBelow, workedBy}
 use Rattle.pairs.specs.declared.PairTable.{PairTable}
 use Rattle.pairs.specs.declared.PairTable.the-variants.{Ordered, Classes}
 use Rattle.pairs.specs.declared.Opened.{Opened}
@@ -152,8 +152,8 @@ module _ (number : (left right : ℕ) → Number) (glyphs : List ℕ) (all : (le
       omega (arith, length-append (below (suc n)) one, few-below (suc n), few-addition n (number (getD glyphs n 0) (getD glyphs (suc n) 0)))
 
 pub worked-within : (bytes : List ℕ) (opened : Opened) (glyphs : List ℕ) (used : ℕ) {b : ℕ} (along : List ℤ) → used ≤ room → Within b along
-    → Within (b + 2 ^ 39) (addAll (worked bytes opened glyphs used .additions) along)
-unfolding worked
+    → Within (b + 2 ^ 39) (addAll (workedBy bytes opened glyphs used .additions) along)
+unfolding workedBy
 worked-within bytes (Ready pairs) glyphs used along h w =
     let all : (left right : ℕ) → Sized (numberOf bytes pairs left right) = sized bytes pairs in
     within-more (omega (arith, few-below (numberOf bytes pairs) glyphs all used, room-small))

@@ -44,7 +44,7 @@ abbrev pub everyPlace : ℕ → Bool
 everyPlace p = true
 
 -- the pass over the first `used` glyphs, by a subtable's pairs; HEAD where they can't be opened
-unfoldable pub worked : List ℕ → Opened → (glyphs : List ℕ) → (used : ℕ) → Kerned
-worked bytes (Ready pairs) glyphs used =
+unfoldable pub workedBy : List ℕ → Opened → (glyphs : List ℕ) → (used : ℕ) → Kerned
+workedBy bytes (Ready pairs) glyphs used =
     record { answer = Answer′.Done; additions = pairsBelow everyPlace (numberOf bytes pairs) glyphs used }
-worked bytes Short glyphs used = nothingAdded (Answer′.Refused Refusal′.Head)
+workedBy bytes Short glyphs used = nothingAdded (Answer′.Refused Refusal′.Head)

@@ -14,7 +14,7 @@ ghost use Rattle.answers.specs.Limits.{room};
 ghost use Rattle.kerning.specs.Additions.{addAll};
 ghost use Rattle.kerning.specs.Bounds.{Within};
 ghost use Rattle.pairs.specs.Reply.{replyOf};
-ghost use Rattle.pairs.specs.Pass.{additionOf, everyPlace, pairsBelow, worked};
+ghost use Rattle.pairs.specs.Pass.{additionOf, everyPlace, pairsBelow, workedBy};
 ghost use Rattle.pairs.specs.Pairs.{keyOf, orderedKern, orderedKerx, classesKerx, numberAt, orderedNumber, numberInRow, classNumber, numberOf};
 
 // Where a subtable's pairs lie, from its own start on: as many ordered pairs as counted, or the left glyphs' rows, the right
@@ -194,8 +194,8 @@ fn add_pairs(bytes: &[u8], pairs: PairTable, glyphs: &[u16], used: usize, along:
 // The pair pass by the subtable that begins with `bytes`, of which `opened` is what opening its pairs gives.
 pub fn work(bytes: &[u8], opened: Opened, glyphs: &[u16], used: usize, along: &mut [i64]) -> Answer
     requires { ⌜ (used ≤ length (now glyphs)) × (used ≤ length (now along)) × (used ≤ room) × Within (2 ^ 60) (now along) ⌝ }
-    ensures answer { λ r. ⌜ r ≡ worked (now (bytes .entry)) opened (now (glyphs .entry)) used .answer ⌝ }
-    ensures along { λ _. ⌜ now (along .exit) ≡ addAll (worked (now (bytes .entry)) opened (now (glyphs .entry)) used .additions) (now (along .entry)) ⌝ }
+    ensures answer { λ r. ⌜ r ≡ workedBy (now (bytes .entry)) opened (now (glyphs .entry)) used .answer ⌝ }
+    ensures along { λ _. ⌜ now (along .exit) ≡ addAll (workedBy (now (bytes .entry)) opened (now (glyphs .entry)) used .additions) (now (along .entry)) ⌝ }
 {
     let Opened::Ready(pairs) = opened else {
         return Answer::Refused(Refusal::Head);

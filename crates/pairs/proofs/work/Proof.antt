@@ -1,5 +1,5 @@
 use Rattle.kerning.specs.Additions.{addAll}
-use Rattle.pairs.specs.Pass.{worked}
+use Rattle.pairs.specs.Pass.{workedBy}
 use borrow.Author.Needs.{needs}
 use Rattle.pairs.proofs.work.Statement.{statement}
 use Rattle.pairs.proofs.work.Tie as tie
@@ -11,8 +11,8 @@ enum-told : tie.Need-enum-told
 enum-told c = search needs
 
 returns : tie.Need-returns
-unfolding worked addAll
-returns c = (rw (c .enum-told .given .1, worked), rw (c .enum-told .given .1, worked, addAll))
+unfolding workedBy addAll
+returns c = (rw (c .enum-told .given .1, workedBy), rw (c .enum-told .given .1, workedBy, addAll))
 
 add-pairs-requires : tie.Need-add-pairs-requires
 add-pairs-requires c κs = search needs
@@ -21,8 +21,8 @@ same-length : tie.Need-same-length
 same-length c = search needs
 
 returns-2 : tie.Need-returns-2
-unfolding worked
-returns-2 c = (rw (c .before .before .before .before .opened .given .1, worked), rw (c .before .before .before .before .opened .given .1, worked) (c .before .add-pairs .ensures))
+unfolding workedBy
+returns-2 c = (rw (c .before .before .before .before .opened .given .1, workedBy), rw (c .before .before .before .before .opened .given .1, workedBy) (c .before .add-pairs .ensures))
 
 pub work-spec : {M : Type 1} → statement M
 work-spec =
