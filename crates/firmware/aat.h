@@ -224,16 +224,16 @@ uint32_t aat_kerx_next_subtable(const uint8_t *table, size_t table_len, uint64_t
 /* Single steps of the machines
 
    A step is what a pass does at one place: index and glyph are those of the place, and ends is set at end of text, where a
-   pass gives the length and glyph 0xFFFF. state holds the machine's own numbers, in the order named; all are 0 at the start
+   pass gives used and glyph 0xFFFF. state holds the machine's own numbers, in the order named; all are 0 at the start
    of a pass.
    Answers of every step: AAT_DONE; AAT_ENDED, with what was done before the step broke off; AAT_TABLE, AAT_LINE; AAT_PLACE
-   (index above the length); AAT_STATE (no state that the machine can have on this line); AAT_HEAD.
+   (index above used); AAT_STATE (no state that the machine can have on this line); AAT_HEAD.
    Writes of every step: state; advance, how many places to go on, which is 0 with AAT_ENDED and AAT_FULL. */
 
-/* Rearrangement, on a line of length places. state: the state table's, the first and the last mark, and the steps in a row
+/* Rearrangement, on a line of used places. state: the state table's, the first and the last mark, and the steps in a row
    that did not advance. Writes, too: window, what aat_verb is to be called with: first and last place, and verb; 0 each
    where there is no edit. */
-uint32_t aat_rearrangement_step(uint64_t state[4], const uint8_t *table, size_t table_len, size_t start, size_t length,
+uint32_t aat_rearrangement_step(uint64_t state[4], const uint8_t *table, size_t table_len, size_t start, size_t used,
                                 size_t index, uint16_t glyph, uint32_t ends, size_t *advance, uint64_t window[3]);
 
 /* Contextual substitution. state: the state table's, whether a mark is set (1 or 0), its place, and the glyph remembered
@@ -249,19 +249,19 @@ uint32_t aat_ligature_step(uint64_t state[66], const uint8_t *table, size_t tabl
                            size_t glyphs_len, const uint16_t *tags, size_t tags_len, uint16_t *homes, size_t homes_len,
                            size_t used, size_t index, uint16_t glyph, uint32_t ends, size_t *advance);
 
-/* Insertion, on a line of length places in a room of room. AAT_FULL, too. state: the state table's, the mark, and the steps
+/* Insertion, on a line of used places in a room of room. AAT_FULL, too. state: the state table's, the mark, and the steps
    in a row that did not advance. Writes, too: edits, what is to be put in: how many times (0, 1 or 2), then each time the
    place, how many glyphs, and the byte of the table where they begin; the rest of it is 0. */
-uint32_t aat_insertion_step(uint64_t state[3], const uint8_t *table, size_t table_len, size_t start, size_t length,
+uint32_t aat_insertion_step(uint64_t state[3], const uint8_t *table, size_t table_len, size_t start, size_t used,
                             size_t room, size_t index, uint16_t glyph, uint32_t ends, size_t *advance, uint64_t edits[7]);
 
-/* Kerning by format 1 of kern or kerx, on a line of length places; it has no end of text. AAT_LINE is for an along_len above
-   AAT_LARGEST_ROOM or below length, and for an adjustment beyond 2^40 in size, and AAT_HEAD for every format but 1. state: the
+/* Kerning by format 1 of kern or kerx, on a line of used places; it has no end of text. AAT_LINE is for an along_len above
+   AAT_LARGEST_ROOM or below used, and for an adjustment beyond 2^40 in size, and AAT_HEAD for every format but 1. state: the
    state table's, how many slots of the stack are used, the steps in a row that did not advance, and 8 places. Writes, too:
    along. */
 uint32_t aat_kern_step(uint64_t state[11], const uint8_t *table, size_t table_len, size_t start, uint16_t version,
-                       size_t length, size_t index, uint16_t glyph, int64_t *along, size_t along_len, size_t *advance);
+                       size_t used, size_t index, uint16_t glyph, int64_t *along, size_t along_len, size_t *advance);
 uint32_t aat_kerx_step(uint64_t state[11], const uint8_t *table, size_t table_len, size_t start, uint16_t version,
-                       size_t length, size_t index, uint16_t glyph, int64_t *along, size_t along_len, size_t *advance);
+                       size_t used, size_t index, uint16_t glyph, int64_t *along, size_t along_len, size_t *advance);
 
 #endif

@@ -22,7 +22,7 @@ refuse (t ∷ ts) = cond (t .holds) (Refused (t .refusal)) (refuse ts)
 
 -- TABLE: the table is too long
 unfoldable pub tableTest : ℕ → Test
-tableTest length = record { holds = ltb tableLimit length; refusal = Table }
+tableTest tableLength = record { holds = ltb tableLimit tableLength; refusal = Table }
 
 -- a refused call is answered so, any other by its work
 abbrev pub checked : Check → Reply → Reply

@@ -75,18 +75,18 @@ pub fn number(answer: Answer) -> u32
 }
 
 // The one test of an entry that is lent a table and no line.
-pub fn refuse_table(length: usize) -> Check
-    ensures { λ r. ⌜ r ≡ refuse (tableTest length ∷ []) ⌝ }
+pub fn refuse_table(table_length: usize) -> Check
+    ensures { λ r. ⌜ r ≡ refuse (tableTest «table_length» ∷ []) ⌝ }
 {
-    if TABLE_LIMIT < length {
+    if TABLE_LIMIT < table_length {
         return Check::Refused(Refusal::Table);
     }
     Check::Passed
 }
 
 // Whether a length is more than any line has room for.
-pub fn above_room(length: usize) -> bool
-    ensures { λ r. ⌜ r ≡ ltb room length ⌝ }
+pub fn above_room(places: usize) -> bool
+    ensures { λ r. ⌜ r ≡ ltb room places ⌝ }
 {
-    ROOM < length
+    ROOM < places
 }

@@ -24,12 +24,12 @@ use Rattle.chains.specs.declared.SubtableReply.{SubtableReply}
 use Rattle.chains.specs.declared.SubtableReply.the-variants as Subtable′
 
 -- HEAD: the start is past the table
-unfoldable pub startTest : (length start : ℕ) → Test
-startTest length start = record { holds = ltb length start; refusal = Refusal′.Head }
+unfoldable pub startTest : (tableLength start : ℕ) → Test
+startTest tableLength start = record { holds = ltb tableLength start; refusal = Refusal′.Head }
 
 -- TABLE, HEAD
-unfoldable pub chainsTests : (length start : ℕ) → List Test
-chainsTests length start = tableTest length ∷ startTest length start ∷ []
+unfoldable pub chainsTests : (tableLength start : ℕ) → List Test
+chainsTests tableLength start = tableTest tableLength ∷ startTest tableLength start ∷ []
 
 abbrev pub chainsBy : Check → Cursor → ChainStart
 chainsBy Check′.Passed c = Chains′.From c

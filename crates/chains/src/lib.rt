@@ -329,13 +329,13 @@ pub fn subtable_from(table: &[u8], cursor: Cursor) -> NextSubtable
 }
 
 // The tests before a table's chains: TABLE, HEAD.
-fn refuse_chains(length: usize, start: usize) -> Check
-    ensures { λ r. ⌜ r ≡ refuse (chainsTests length start) ⌝ }
+fn refuse_chains(table_length: usize, start: usize) -> Check
+    ensures { λ r. ⌜ r ≡ refuse (chainsTests «table_length» start) ⌝ }
 {
-    if let Check::Refused(why) = answers::refuse_table(length) {
+    if let Check::Refused(why) = answers::refuse_table(table_length) {
         return Check::Refused(why);
     }
-    if length < start {
+    if table_length < start {
         return Check::Refused(Refusal::Head);
     }
     Check::Passed

@@ -40,8 +40,8 @@ unfoldable pub stateTest : Line → ContextualState → Test
 stateTest l s = record { holds = ltb (l .used) (s .«mark_index»); refusal = Refusal′.State }
 
 -- TABLE, LINE, PLACE, STATE, HEAD
-unfoldable pub stepTests : (length : ℕ) → Line → (index : ℕ) → ContextualState → Made → List Test
-stepTests length l index s made = lineStepTests length l index (stateTest l s ∷ headTest made ∷ [])
+unfoldable pub stepTests : (tableLength : ℕ) → Line → (index : ℕ) → ContextualState → Made → List Test
+stepTests tableLength l index s made = lineStepTests tableLength l index (stateTest l s ∷ headTest made ∷ [])
 
 -- a call of the step on the subtable at `start`
 unfoldable pub stepCall : List ℕ → (start : ℕ) → ContextualState → Line → (index glyph : ℕ) → (ends : Bool) → Stepped ContextualState

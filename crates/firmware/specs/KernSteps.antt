@@ -34,8 +34,8 @@ abbrev pub advanceAfter : KerningStep → ℕ → ℕ
 advanceAfter step was = unlessRefused (step .answer) was (step .advance)
 
 -- the step from the state that the numbers say, with what it adds
-unfoldable pub kernStepped : List ℕ → (start version : ℕ) → (slots : List ℕ) → (length index glyph : ℕ) → List ℤ → Stepped
-kernStepped table start version slots length index glyph along = Kern.stepCall table start version (kerningFrom slots) length index glyph along
+unfoldable pub kernStepped : List ℕ → (start version : ℕ) → (slots : List ℕ) → (used index glyph : ℕ) → List ℤ → Stepped
+kernStepped table start version slots used index glyph along = Kern.stepCall table start version (kerningFrom slots) used index glyph along
 
-unfoldable pub kerxStepped : List ℕ → (start version : ℕ) → (slots : List ℕ) → (length index glyph : ℕ) → List ℤ → Stepped
-kerxStepped table start version slots length index glyph along = Kerx.stepCall table start version (kerningFrom slots) length index glyph along
+unfoldable pub kerxStepped : List ℕ → (start version : ℕ) → (slots : List ℕ) → (used index glyph : ℕ) → List ℤ → Stepped
+kerxStepped table start version slots used index glyph along = Kerx.stepCall table start version (kerningFrom slots) used index glyph along

@@ -60,8 +60,8 @@ abbrev pub rearrangementSlots : RearrangementState → List ℕ
 rearrangementSlots s = s .state ∷ s .first ∷ s .last ∷ s .cycles ∷ []
 
 -- the step from the state that the numbers say
-unfoldable pub rearrangementStepped : List ℕ → (start : ℕ) → (slots : List ℕ) → (length index glyph ends : ℕ) → RearrangementStep
-rearrangementStepped table start slots length index glyph ends = Rearrangement.stepCall table start (rearrangementFrom slots) length index glyph (isFlag ends)
+unfoldable pub rearrangementStepped : List ℕ → (start : ℕ) → (slots : List ℕ) → (used index glyph ends : ℕ) → RearrangementStep
+rearrangementStepped table start slots used index glyph ends = Rearrangement.stepCall table start (rearrangementFrom slots) used index glyph (isFlag ends)
 
 -- first, last, verb; without an edit 0 each
 abbrev pub windowSlots : Window → List ℕ
@@ -104,8 +104,8 @@ abbrev pub insertionSlots : InsertionState → List ℕ
 insertionSlots s = s .state ∷ s .mark ∷ s .cycles ∷ []
 
 -- the step from the state that the numbers say
-unfoldable pub insertionStepped : List ℕ → (start : ℕ) → (slots : List ℕ) → (length room index glyph ends : ℕ) → InsertionStep
-insertionStepped table start slots length room index glyph ends = Insertion.stepCall table start (insertionFrom slots) length room index glyph (isFlag ends)
+unfoldable pub insertionStepped : List ℕ → (start : ℕ) → (slots : List ℕ) → (used room index glyph ends : ℕ) → InsertionStep
+insertionStepped table start slots used room index glyph ends = Insertion.stepCall table start (insertionFrom slots) used room index glyph (isFlag ends)
 
 -- how many insertions, then for each its place, its count and where its glyphs lie in the table; the rest is 0
 unfoldable pub editSlots : (marked current : Inserted) → List ℕ

@@ -143,19 +143,19 @@ pub extern "C" fn aat_kern_step(
     table: &[u8],
     start: usize,
     version: u16,
-    length: usize,
+    used: usize,
     index: usize,
     glyph: u16,
     along: &mut [i64],
     advance: &mut usize,
 ) -> u32
-    ensures answer { λ r. ⌜ r ≡ numberOf (kernStepped (now (table .entry)) start version (now (state .entry)) length index glyph (now (along .entry)) .step .answer) ⌝ }
-    ensures state { λ _. ⌜ now (state .exit) ≡ stateAfter (kernStepped (now (table .entry)) start version (now (state .entry)) length index glyph (now (along .entry)) .step) (now (state .entry)) ⌝ }
-    ensures along { λ _. ⌜ now (along .exit) ≡ addAll (kernStepped (now (table .entry)) start version (now (state .entry)) length index glyph (now (along .entry)) .additions) (now (along .entry)) ⌝ }
-    ensures advance { λ _. ⌜ now (advance .exit) ≡ advanceAfter (kernStepped (now (table .entry)) start version (now (state .entry)) length index glyph (now (along .entry)) .step) (now (advance .entry)) ⌝ }
+    ensures answer { λ r. ⌜ r ≡ numberOf (kernStepped (now (table .entry)) start version (now (state .entry)) used index glyph (now (along .entry)) .step .answer) ⌝ }
+    ensures state { λ _. ⌜ now (state .exit) ≡ stateAfter (kernStepped (now (table .entry)) start version (now (state .entry)) used index glyph (now (along .entry)) .step) (now (state .entry)) ⌝ }
+    ensures along { λ _. ⌜ now (along .exit) ≡ addAll (kernStepped (now (table .entry)) start version (now (state .entry)) used index glyph (now (along .entry)) .additions) (now (along .entry)) ⌝ }
+    ensures advance { λ _. ⌜ now (advance .exit) ≡ advanceAfter (kernStepped (now (table .entry)) start version (now (state .entry)) used index glyph (now (along .entry)) .step) (now (advance .entry)) ⌝ }
 {
     let given = kerning_from(state);
-    let step = kern_machine::step(given, table, start, version, length, index, glyph, along);
+    let step = kern_machine::step(given, table, start, version, used, index, glyph, along);
     put_step(step, state, advance)
 }
 
@@ -166,18 +166,18 @@ pub extern "C" fn aat_kerx_step(
     table: &[u8],
     start: usize,
     version: u16,
-    length: usize,
+    used: usize,
     index: usize,
     glyph: u16,
     along: &mut [i64],
     advance: &mut usize,
 ) -> u32
-    ensures answer { λ r. ⌜ r ≡ numberOf (kerxStepped (now (table .entry)) start version (now (state .entry)) length index glyph (now (along .entry)) .step .answer) ⌝ }
-    ensures state { λ _. ⌜ now (state .exit) ≡ stateAfter (kerxStepped (now (table .entry)) start version (now (state .entry)) length index glyph (now (along .entry)) .step) (now (state .entry)) ⌝ }
-    ensures along { λ _. ⌜ now (along .exit) ≡ addAll (kerxStepped (now (table .entry)) start version (now (state .entry)) length index glyph (now (along .entry)) .additions) (now (along .entry)) ⌝ }
-    ensures advance { λ _. ⌜ now (advance .exit) ≡ advanceAfter (kerxStepped (now (table .entry)) start version (now (state .entry)) length index glyph (now (along .entry)) .step) (now (advance .entry)) ⌝ }
+    ensures answer { λ r. ⌜ r ≡ numberOf (kerxStepped (now (table .entry)) start version (now (state .entry)) used index glyph (now (along .entry)) .step .answer) ⌝ }
+    ensures state { λ _. ⌜ now (state .exit) ≡ stateAfter (kerxStepped (now (table .entry)) start version (now (state .entry)) used index glyph (now (along .entry)) .step) (now (state .entry)) ⌝ }
+    ensures along { λ _. ⌜ now (along .exit) ≡ addAll (kerxStepped (now (table .entry)) start version (now (state .entry)) used index glyph (now (along .entry)) .additions) (now (along .entry)) ⌝ }
+    ensures advance { λ _. ⌜ now (advance .exit) ≡ advanceAfter (kerxStepped (now (table .entry)) start version (now (state .entry)) used index glyph (now (along .entry)) .step) (now (advance .entry)) ⌝ }
 {
     let given = kerning_from(state);
-    let step = kerx_machine::step(given, table, start, version, length, index, glyph, along);
+    let step = kerx_machine::step(given, table, start, version, used, index, glyph, along);
     put_step(step, state, advance)
 }

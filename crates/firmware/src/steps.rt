@@ -81,20 +81,20 @@ pub extern "C" fn aat_rearrangement_step(
     state: &mut [u64; 4],
     table: &[u8],
     start: usize,
-    length: usize,
+    used: usize,
     index: usize,
     glyph: u16,
     ends: u32,
     advance: &mut usize,
     window: &mut [u64; 3],
 ) -> u32
-    ensures answer { λ r. ⌜ r ≡ numberOf (rearrangementStepped (now (table .entry)) start (now (state .entry)) length index glyph ends .answer) ⌝ }
-    ensures state { λ _. ⌜ now (state .exit) ≡ unlessRefused (rearrangementStepped (now (table .entry)) start (now (state .entry)) length index glyph ends .answer) (now (state .entry)) (rearrangementSlots (rearrangementStepped (now (table .entry)) start (now (state .entry)) length index glyph ends .state)) ⌝ }
-    ensures advance { λ _. ⌜ now (advance .exit) ≡ unlessRefused (rearrangementStepped (now (table .entry)) start (now (state .entry)) length index glyph ends .answer) (now (advance .entry)) (rearrangementStepped (now (table .entry)) start (now (state .entry)) length index glyph ends .advance) ⌝ }
-    ensures window { λ _. ⌜ now (window .exit) ≡ unlessRefused (rearrangementStepped (now (table .entry)) start (now (state .entry)) length index glyph ends .answer) (now (window .entry)) (windowSlots (rearrangementStepped (now (table .entry)) start (now (state .entry)) length index glyph ends .edit)) ⌝ }
+    ensures answer { λ r. ⌜ r ≡ numberOf (rearrangementStepped (now (table .entry)) start (now (state .entry)) used index glyph ends .answer) ⌝ }
+    ensures state { λ _. ⌜ now (state .exit) ≡ unlessRefused (rearrangementStepped (now (table .entry)) start (now (state .entry)) used index glyph ends .answer) (now (state .entry)) (rearrangementSlots (rearrangementStepped (now (table .entry)) start (now (state .entry)) used index glyph ends .state)) ⌝ }
+    ensures advance { λ _. ⌜ now (advance .exit) ≡ unlessRefused (rearrangementStepped (now (table .entry)) start (now (state .entry)) used index glyph ends .answer) (now (advance .entry)) (rearrangementStepped (now (table .entry)) start (now (state .entry)) used index glyph ends .advance) ⌝ }
+    ensures window { λ _. ⌜ now (window .exit) ≡ unlessRefused (rearrangementStepped (now (table .entry)) start (now (state .entry)) used index glyph ends .answer) (now (window .entry)) (windowSlots (rearrangementStepped (now (table .entry)) start (now (state .entry)) used index glyph ends .edit)) ⌝ }
 {
     let given = rearrangement_from(state);
-    let step = given.step(table, start, length, index, glyph, ends != 0);
+    let step = given.step(table, start, used, index, glyph, ends != 0);
     let answer = step.answer;
     if is_refused(answer) {
         return answers::number(answer);
@@ -287,7 +287,7 @@ pub extern "C" fn aat_insertion_step(
     state: &mut [u64; 3],
     table: &[u8],
     start: usize,
-    length: usize,
+    used: usize,
     room: usize,
     index: usize,
     glyph: u16,
@@ -295,13 +295,13 @@ pub extern "C" fn aat_insertion_step(
     advance: &mut usize,
     edits: &mut [u64; 7],
 ) -> u32
-    ensures answer { λ r. ⌜ r ≡ numberOf (insertionStepped (now (table .entry)) start (now (state .entry)) length room index glyph ends .answer) ⌝ }
-    ensures state { λ _. ⌜ now (state .exit) ≡ unlessRefused (insertionStepped (now (table .entry)) start (now (state .entry)) length room index glyph ends .answer) (now (state .entry)) (insertionSlots (insertionStepped (now (table .entry)) start (now (state .entry)) length room index glyph ends .state)) ⌝ }
-    ensures advance { λ _. ⌜ now (advance .exit) ≡ unlessRefused (insertionStepped (now (table .entry)) start (now (state .entry)) length room index glyph ends .answer) (now (advance .entry)) (insertionStepped (now (table .entry)) start (now (state .entry)) length room index glyph ends .advance) ⌝ }
-    ensures edits { λ _. ⌜ now (edits .exit) ≡ unlessRefused (insertionStepped (now (table .entry)) start (now (state .entry)) length room index glyph ends .answer) (now (edits .entry)) (editSlots (insertionStepped (now (table .entry)) start (now (state .entry)) length room index glyph ends .marked) (insertionStepped (now (table .entry)) start (now (state .entry)) length room index glyph ends .current)) ⌝ }
+    ensures answer { λ r. ⌜ r ≡ numberOf (insertionStepped (now (table .entry)) start (now (state .entry)) used room index glyph ends .answer) ⌝ }
+    ensures state { λ _. ⌜ now (state .exit) ≡ unlessRefused (insertionStepped (now (table .entry)) start (now (state .entry)) used room index glyph ends .answer) (now (state .entry)) (insertionSlots (insertionStepped (now (table .entry)) start (now (state .entry)) used room index glyph ends .state)) ⌝ }
+    ensures advance { λ _. ⌜ now (advance .exit) ≡ unlessRefused (insertionStepped (now (table .entry)) start (now (state .entry)) used room index glyph ends .answer) (now (advance .entry)) (insertionStepped (now (table .entry)) start (now (state .entry)) used room index glyph ends .advance) ⌝ }
+    ensures edits { λ _. ⌜ now (edits .exit) ≡ unlessRefused (insertionStepped (now (table .entry)) start (now (state .entry)) used room index glyph ends .answer) (now (edits .entry)) (editSlots (insertionStepped (now (table .entry)) start (now (state .entry)) used room index glyph ends .marked) (insertionStepped (now (table .entry)) start (now (state .entry)) used room index glyph ends .current)) ⌝ }
 {
     let given = insertion_from(state);
-    let step = given.step(table, start, length, room, index, glyph, ends != 0);
+    let step = given.step(table, start, used, room, index, glyph, ends != 0);
     let answer = step.answer;
     if is_refused(answer) {
         return answers::number(answer);

@@ -45,18 +45,18 @@ callLeaves table start l = applyAll (passCall table start l .changes) l
 
 -- the tests of a lone step. LINE: the room is above the limit, or the length above the room; PLACE: the index is above the length;
 -- STATE: the mark is above the length, or the cycle count above 17
-unfoldable pub laterTests : (length room index : ℕ) → InsertionState → Made → List Test
-laterTests length room index s made =
+unfoldable pub laterTests : (used room index : ℕ) → InsertionState → Made → List Test
+laterTests used room index s made =
     record { holds = ltb Limits.room room; refusal = Refusal′.Line }
-    ∷ record { holds = ltb room length; refusal = Refusal′.Line }
-    ∷ record { holds = ltb length index; refusal = Refusal′.Place }
-    ∷ record { holds = ltb length (s .mark); refusal = Refusal′.State }
+    ∷ record { holds = ltb room used; refusal = Refusal′.Line }
+    ∷ record { holds = ltb used index; refusal = Refusal′.Place }
+    ∷ record { holds = ltb used (s .mark); refusal = Refusal′.State }
     ∷ record { holds = ltb 17 (s .cycles); refusal = Refusal′.State }
     ∷ headTest made
     ∷ []
 
-unfoldable pub stepTests : (tableLength length room index : ℕ) → InsertionState → Made → List Test
-stepTests tableLength length room index s made = tableTest tableLength ∷ laterTests length room index s made
+unfoldable pub stepTests : (tableLength used room index : ℕ) → InsertionState → Made → List Test
+stepTests tableLength used room index s made = tableTest tableLength ∷ laterTests used room index s made
 
 -- the step's insertions, with their glyphs counted from the table's beginning
 abbrev pub fromTable : ℕ → InsertionStep → InsertionStep
@@ -76,10 +76,10 @@ stepBy Check′.Passed Made′.Short s work = stopped (Answer′.Refused Refusal
 stepBy Check′.Passed (Made′.Ready states) s work = work states
 
 -- a lone step by the subtable at `start`, on a line of this length in this room
-unfoldable pub stepCall : List ℕ → (start : ℕ) → InsertionState → (length room index glyph : ℕ) → (ends : Bool) → InsertionStep
-stepCall table start s len room index glyph ends =
-    stepBy (refuse (stepTests (length table) len room index s (opened (drop start table)))) (opened (drop start table)) s
-    (λ states. fromTable (start + 12) (next (bodyOf (drop start table)) states s len room index glyph ends))
+unfoldable pub stepCall : List ℕ → (start : ℕ) → InsertionState → (used room index glyph : ℕ) → (ends : Bool) → InsertionStep
+stepCall table start s used room index glyph ends =
+    stepBy (refuse (stepTests (length table) used room index s (opened (drop start table)))) (opened (drop start table)) s
+    (λ states. fromTable (start + 12) (next (bodyOf (drop start table)) states s used room index glyph ends))
 
 -- a call of the pass, as one of a sequence of calls
 pub record PassCall : Type 0 where

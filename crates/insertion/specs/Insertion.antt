@@ -27,8 +27,8 @@ abbrev pub fresh : InsertionState
 fresh = record { state = 0; mark = 0; cycles = 0 }
 
 -- an insertion is before a place or behind it; above the length it is at the length
-unfoldable pub placeOf : (at : ℕ) → (before : Bool) → (length : ℕ) → ℕ
-placeOf at before length = min (cond before at (at + 1)) length
+unfoldable pub placeOf : (at : ℕ) → (before : Bool) → (used : ℕ) → ℕ
+placeOf at before used = min (cond before at (at + 1)) used
 
 -- the entry's flags: 0x8000 sets the mark, 0x4000 is don't advance, 0x0800 and 0x0400 put the current and the marked glyphs before their
 -- place; then five bits each, the counts of the current and of the marked glyphs
@@ -68,31 +68,31 @@ finished s flags marked current =
 
 -- after the marked glyphs the mark may be set, to the index as given; the current glyphs then go where the index stands after the
 -- marked ones, in a line that is longer by them
-unfoldable pub followed : List ℕ → InsertionState → (flags number : ℕ) → Inserted → (index length room : ℕ) → InsertionStep
-followed bytes s flags number marked index length room =
+unfoldable pub followed : List ℕ → InsertionState → (flags number : ℕ) → Inserted → (index used room : ℕ) → InsertionStep
+followed bytes s flags number marked index used room =
     let s′ : InsertionState = withMark s (isSet flags 0x8000) index in
     onTried
     (insertionOf bytes number (currentCount flags)
-    (placeOf (index + countOf marked) (isSet flags 0x800) (length + countOf marked))
-    (length + countOf marked) room)
+    (placeOf (index + countOf marked) (isSet flags 0x800) (used + countOf marked))
+    (used + countOf marked) room)
     (λ current. finished s′ flags marked current)
     (λ answer. stopped answer s′ marked)
 
 -- an entry leads to its state, and its payload is the numbers of two lists: the current glyphs', then the marked ones', which come first
-unfoldable pub acted : List ℕ → InsertionState → Entry → (index length room : ℕ) → InsertionStep
-acted bytes s entry index length room =
+unfoldable pub acted : List ℕ → InsertionState → Entry → (index used room : ℕ) → InsertionStep
+acted bytes s entry index used room =
     let s′ : InsertionState = withState s (entry .state) in
     onTried
     (insertionOf bytes (u16At bytes (entry .payload + 2)) (markedCount (entry .flags))
-    (placeOf (s .mark) (isSet (entry .flags) 0x400) length) length room)
-    (λ marked. followed bytes s′ (entry .flags) (u16At bytes (entry .payload)) marked index length room)
+    (placeOf (s .mark) (isSet (entry .flags) 0x400) used) used room)
+    (λ marked. followed bytes s′ (entry .flags) (u16At bytes (entry .payload)) marked index used room)
     (λ answer. stopped answer s′ Inserted′.None)
 
 -- a step: class, then entry, then what the entry does; without an entry it is ENDED and the state as it was
-unfoldable pub next : List ℕ → States → InsertionState → (length room index glyph : ℕ) → (ends : Bool) → InsertionStep
-next bytes states s length room index glyph ends =
+unfoldable pub next : List ℕ → States → InsertionState → (used room index glyph : ℕ) → (ends : Bool) → InsertionStep
+next bytes states s used room index glyph ends =
     onEntry (entryOf bytes states (s .state) (classHere bytes states glyph ends) 4)
-    (λ entry. acted bytes s entry index length room)
+    (λ entry. acted bytes s entry index used room)
     (stopped Answer′.Ended s Inserted′.None)
 
 -- the machine that passes are made of: its room is the line's

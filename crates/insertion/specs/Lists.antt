@@ -27,15 +27,15 @@ listOf bytes number count =
     Listed′.Short)
 
 -- a list that can't be read is ENDED; an insertion that makes the length exceed the room is FULL, so that one of no glyphs never is
-unfoldable pub enteredBy : Listed → (place count length room : ℕ) → Tried
-enteredBy Listed′.None place count length room = Tried′.Made Inserted′.None
-enteredBy Listed′.Short place count length room = Tried′.Over Answer′.Ended
-enteredBy (Listed′.At glyphs) place count length room =
-    ifLt room (length + count) (Tried′.Over Answer′.Full) (Tried′.Made (Inserted′.At place count glyphs))
+unfoldable pub enteredBy : Listed → (place count used room : ℕ) → Tried
+enteredBy Listed′.None place count used room = Tried′.Made Inserted′.None
+enteredBy Listed′.Short place count used room = Tried′.Over Answer′.Ended
+enteredBy (Listed′.At glyphs) place count used room =
+    ifLt room (used + count) (Tried′.Over Answer′.Full) (Tried′.Made (Inserted′.At place count glyphs))
 
 -- what becomes of an insertion of so many glyphs, from the one of this number on, at a place of a line of this length
-abbrev pub insertionOf : List ℕ → (number count place length room : ℕ) → Tried
-insertionOf bytes number count place length room = enteredBy (listOf bytes number count) place count length room
+abbrev pub insertionOf : List ℕ → (number count place used room : ℕ) → Tried
+insertionOf bytes number count place used room = enteredBy (listOf bytes number count) place count used room
 
 -- what is made of an insertion, and of an answer that ends the step before it
 abbrev pub onTried : {A : Type 0} → Tried → (Inserted → A) → (Answer → A) → A

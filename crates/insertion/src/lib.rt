@@ -355,12 +355,12 @@ impl InsertionState {
     fn refuse_step(
         self,
         table_length: usize,
-        length: usize,
+        used: usize,
         room: usize,
         index: usize,
         made: Made,
     ) -> Check
-        ensures { λ r. ⌜ r ≡ refuse (stepTests «table_length» length room index self made) ⌝ }
+        ensures { λ r. ⌜ r ≡ refuse (stepTests «table_length» used room index self made) ⌝ }
     {
         if let Check::Refused(why) = answers::refuse_table(table_length) {
             return Check::Refused(why);
@@ -368,13 +368,13 @@ impl InsertionState {
         if answers::above_room(room) {
             return Check::Refused(Refusal::Line);
         }
-        if room < length {
+        if room < used {
             return Check::Refused(Refusal::Line);
         }
-        if length < index {
+        if used < index {
             return Check::Refused(Refusal::Place);
         }
-        if length < self.mark {
+        if used < self.mark {
             return Check::Refused(Refusal::State);
         }
         if InsertionState::MOST_CYCLES < self.cycles {
@@ -391,17 +391,17 @@ impl InsertionState {
         self,
         table: &[u8],
         start: usize,
-        length: usize,
+        used: usize,
         room: usize,
         index: usize,
         glyph: u16,
         ends: bool,
     ) -> InsertionStep
-        ensures { λ r. ⌜ r ≡ stepCall (now (table .entry)) start self length room index glyph ends ⌝ }
+        ensures { λ r. ⌜ r ≡ stepCall (now (table .entry)) start self used room index glyph ends ⌝ }
     {
         let bytes = parse::from(table, start);
         let made = open(bytes);
-        if let Check::Refused(why) = self.refuse_step(table.len(), length, room, index, made) {
+        if let Check::Refused(why) = self.refuse_step(table.len(), used, room, index, made) {
             return stopped(Answer::Refused(why), self, Inserted::None);
         }
         let Made::Ready(states) = made else {
@@ -410,7 +410,7 @@ impl InsertionState {
         let step = self.next(
             parse::from(bytes, 12),
             states,
-            length,
+            used,
             room,
             index,
             glyph,

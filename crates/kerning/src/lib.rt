@@ -82,16 +82,16 @@ pub fn takes(glyphs: &[u16], tags: &[u16], homes: &[u16], used: usize, along: &[
 
 // The tests before a lone pass: TABLE, LINE. HEAD is an answer of the pass.
 pub fn refuse_pass(
-    length: usize,
+    table_length: usize,
     glyphs: &[u16],
     tags: &[u16],
     homes: &[u16],
     used: usize,
     along: &[i64],
 ) -> Check
-    ensures { λ r. ⌜ r ≡ refuse (kerningTests length (lineOf (now (glyphs .entry)) (now (tags .entry)) (now (homes .entry)) used) (now (along .entry))) ⌝ }
+    ensures { λ r. ⌜ r ≡ refuse (kerningTests «table_length» (lineOf (now (glyphs .entry)) (now (tags .entry)) (now (homes .entry)) used) (now (along .entry))) ⌝ }
 {
-    if let Check::Refused(why) = answers::refuse_table(length) {
+    if let Check::Refused(why) = answers::refuse_table(table_length) {
         return Check::Refused(why);
     }
     if !takes(glyphs, tags, homes, used, along) {

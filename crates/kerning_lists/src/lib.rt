@@ -120,13 +120,13 @@ pub fn next_by(head: Head, cursor: Cursor) -> NextSubtable
 }
 
 // The tests before a list's cursor: TABLE, HEAD.
-pub fn refuse_list(length: usize, start: usize) -> Check
-    ensures { λ r. ⌜ r ≡ refuse (listTests length start) ⌝ }
+pub fn refuse_list(table_length: usize, start: usize) -> Check
+    ensures { λ r. ⌜ r ≡ refuse (listTests «table_length» start) ⌝ }
 {
-    if let Check::Refused(why) = answers::refuse_table(length) {
+    if let Check::Refused(why) = answers::refuse_table(table_length) {
         return Check::Refused(why);
     }
-    if length < start {
+    if table_length < start {
         return Check::Refused(Refusal::Head);
     }
     Check::Passed
@@ -161,7 +161,7 @@ pub fn turn(along: &mut [i64], used: usize)
 
 // The tests before a run: TABLE, LINE, HEAD.
 pub fn refuse_run(
-    length: usize,
+    table_length: usize,
     start: usize,
     glyphs: &[u16],
     tags: &[u16],
@@ -169,15 +169,15 @@ pub fn refuse_run(
     used: usize,
     along: &[i64],
 ) -> Check
-    ensures { λ r. ⌜ r ≡ refuse (runTests length start (lineOf (now (glyphs .entry)) (now (tags .entry)) (now (homes .entry)) used) (now (along .entry))) ⌝ }
+    ensures { λ r. ⌜ r ≡ refuse (runTests «table_length» start (lineOf (now (glyphs .entry)) (now (tags .entry)) (now (homes .entry)) used) (now (along .entry))) ⌝ }
 {
-    if let Check::Refused(why) = answers::refuse_table(length) {
+    if let Check::Refused(why) = answers::refuse_table(table_length) {
         return Check::Refused(why);
     }
     if !kerning::kernable(glyphs, tags, homes, used, along) {
         return Check::Refused(Refusal::Line);
     }
-    if length < start {
+    if table_length < start {
         return Check::Refused(Refusal::Head);
     }
     Check::Passed

@@ -48,8 +48,8 @@ unfoldable pub stackTest : Line → LigatureState → Test
 stackTest l s = record { holds = not (areInside (s .places) (s .depth) (l .used)); refusal = Refusal′.State }
 
 -- TABLE, LINE, PLACE, STATE, HEAD
-unfoldable pub stepTests : (length : ℕ) → Line → (index : ℕ) → LigatureState → Made → List Test
-stepTests length l index s made = lineStepTests length l index (depthTest s ∷ stackTest l s ∷ headTest made ∷ [])
+unfoldable pub stepTests : (tableLength : ℕ) → Line → (index : ℕ) → LigatureState → Made → List Test
+stepTests tableLength l index s made = lineStepTests tableLength l index (depthTest s ∷ stackTest l s ∷ headTest made ∷ [])
 
 -- a call of the step on the subtable at `start`
 unfoldable pub stepCall : List ℕ → (start : ℕ) → LigatureState → Line → (index glyph : ℕ) → (ends : Bool) → Stepped LigatureState

@@ -407,7 +407,7 @@ impl LigatureState {
     // The tests before a step: TABLE, LINE, PLACE, STATE, HEAD.
     fn refuse_step(
         self,
-        length: usize,
+        table_length: usize,
         glyphs: &[u16],
         tags: &[u16],
         homes: &[u16],
@@ -415,9 +415,9 @@ impl LigatureState {
         index: usize,
         made: Made,
     ) -> Check
-        ensures { λ r. ⌜ r ≡ refuse (stepTests length (lineOf (now (glyphs .entry)) (now (tags .entry)) (now (homes .entry)) used) index self made) ⌝ }
+        ensures { λ r. ⌜ r ≡ refuse (stepTests «table_length» (lineOf (now (glyphs .entry)) (now (tags .entry)) (now (homes .entry)) used) index self made) ⌝ }
     {
-        if let Check::Refused(why) = answers::refuse_table(length) {
+        if let Check::Refused(why) = answers::refuse_table(table_length) {
             return Check::Refused(why);
         }
         if !line::valid::takes(glyphs, tags, homes, used) {

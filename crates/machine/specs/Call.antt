@@ -31,8 +31,8 @@ unfoldable pub headTest : Made → Test
 headTest made = record { holds = isShort made; refusal = Refusal′.Head }
 
 -- TABLE, LINE, HEAD
-unfoldable pub passTests : (length : ℕ) → Line → Made → List Test
-passTests length l made = tableTest length ∷ lineTest l ∷ headTest made ∷ []
+unfoldable pub passTests : (tableLength : ℕ) → Line → Made → List Test
+passTests tableLength l made = tableTest tableLength ∷ lineTest l ∷ headTest made ∷ []
 
 -- a refused call answers so and changes nothing
 abbrev pub refusedCall : Check → Passed → Passed
@@ -49,8 +49,8 @@ unfoldable pub placeTest : Line → (index : ℕ) → Test
 placeTest l index = record { holds = ltb (l .used) index; refusal = Refusal′.Place }
 
 -- TABLE, LINE, PLACE, and then the tests of the machine's own state and HEAD
-unfoldable pub lineStepTests : (length : ℕ) → Line → (index : ℕ) → (later : List Test) → List Test
-lineStepTests length l index later = tableTest length ∷ lineTest l ∷ placeTest l index ∷ later
+unfoldable pub lineStepTests : (tableLength : ℕ) → Line → (index : ℕ) → (later : List Test) → List Test
+lineStepTests tableLength l index later = tableTest tableLength ∷ lineTest l ∷ placeTest l index ∷ later
 
 -- a refused step hands its state back as given, and changes nothing
 abbrev pub refusedStep : {S : Type 0} → Refusal → S → Stepped S

@@ -100,16 +100,16 @@ pub fn open(bytes: &[u8], kind: u32) -> Made
 
 // The tests before a pass: TABLE, LINE, HEAD.
 pub fn refuse_pass(
-    length: usize,
+    table_length: usize,
     glyphs: &[u16],
     tags: &[u16],
     homes: &[u16],
     used: usize,
     made: Made,
 ) -> Check
-    ensures { λ r. ⌜ r ≡ refuse (passTests length (lineOf (now (glyphs .entry)) (now (tags .entry)) (now (homes .entry)) used) made) ⌝ }
+    ensures { λ r. ⌜ r ≡ refuse (passTests «table_length» (lineOf (now (glyphs .entry)) (now (tags .entry)) (now (homes .entry)) used) made) ⌝ }
 {
-    if let Check::Refused(why) = answers::refuse_table(length) {
+    if let Check::Refused(why) = answers::refuse_table(table_length) {
         return Check::Refused(why);
     }
     if !line::valid::takes(glyphs, tags, homes, used) {

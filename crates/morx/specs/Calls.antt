@@ -24,8 +24,8 @@ unfoldable pub openTest : (bytes : List ℕ) → Test
 openTest bytes = record { holds = not (isOpen (kindAt bytes) bytes); refusal = Refusal′.Head }
 
 -- TABLE, LINE, HEAD
-unfoldable pub passTests : (length : ℕ) → Line → (bytes : List ℕ) → List Test
-passTests length l bytes = tableTest length ∷ lineTest l ∷ openTest bytes ∷ []
+unfoldable pub passTests : (tableLength : ℕ) → Line → (bytes : List ℕ) → List Test
+passTests tableLength l bytes = tableTest tableLength ∷ lineTest l ∷ openTest bytes ∷ []
 
 -- a call of the pass on the subtable at `start`: its tests, then the pass by its kind
 unfoldable pub passCall : List ℕ → (start : ℕ) → Line → Passed
@@ -37,8 +37,8 @@ unfoldable pub passLeaves : List ℕ → (start : ℕ) → Line → Line
 passLeaves table start l = applyAll (passCall table start l .changes) l
 
 -- TABLE, LINE, HEAD: the start is past the table
-unfoldable pub runTests : (length start : ℕ) → Line → List Test
-runTests length start l = tableTest length ∷ lineTest l ∷ startTest length start ∷ []
+unfoldable pub runTests : (tableLength start : ℕ) → Line → List Test
+runTests tableLength start l = tableTest tableLength ∷ lineTest l ∷ startTest tableLength start ∷ []
 
 -- a refused run changes nothing and has counted no head
 abbrev pub refusedRun : Check → Ran → Ran

@@ -17,8 +17,8 @@ use Rattle.morx.specs.declared.PassReply.{PassReply}
 use Rattle.morx.specs.declared.RunReply.{RunReply}
 
 -- the tests that a pass and a run begin with: TABLE, LINE
-unfoldable pub lineTests : (length : ℕ) → Line → List Test
-lineTests length l = tableTest length ∷ lineTest l ∷ []
+unfoldable pub lineTests : (tableLength : ℕ) → Line → List Test
+lineTests tableLength l = tableTest tableLength ∷ lineTest l ∷ []
 
 -- what a pass answers: its answer, and the used length after its changes
 abbrev pub replyOf : Passed → Line → PassReply

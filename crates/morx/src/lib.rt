@@ -366,10 +366,16 @@ fn run_line(
 }
 
 // The tests before a pass: TABLE, LINE.
-fn refuse_line(length: usize, glyphs: &[u16], tags: &[u16], homes: &[u16], used: usize) -> Check
-    ensures { λ r. ⌜ r ≡ refuse (lineTests length (lineOf (now (glyphs .entry)) (now (tags .entry)) (now (homes .entry)) used)) ⌝ }
+fn refuse_line(
+    table_length: usize,
+    glyphs: &[u16],
+    tags: &[u16],
+    homes: &[u16],
+    used: usize,
+) -> Check
+    ensures { λ r. ⌜ r ≡ refuse (lineTests «table_length» (lineOf (now (glyphs .entry)) (now (tags .entry)) (now (homes .entry)) used)) ⌝ }
 {
-    if let Check::Refused(why) = answers::refuse_table(length) {
+    if let Check::Refused(why) = answers::refuse_table(table_length) {
         return Check::Refused(why);
     }
     if !line::valid::takes(glyphs, tags, homes, used) {
@@ -404,19 +410,19 @@ pub fn pass(
 
 // The tests before a run: TABLE, LINE, HEAD.
 fn refuse_run(
-    length: usize,
+    table_length: usize,
     start: usize,
     glyphs: &[u16],
     tags: &[u16],
     homes: &[u16],
     used: usize,
 ) -> Check
-    ensures { λ r. ⌜ r ≡ refuse (runTests length start (lineOf (now (glyphs .entry)) (now (tags .entry)) (now (homes .entry)) used)) ⌝ }
+    ensures { λ r. ⌜ r ≡ refuse (runTests «table_length» start (lineOf (now (glyphs .entry)) (now (tags .entry)) (now (homes .entry)) used)) ⌝ }
 {
-    if let Check::Refused(why) = refuse_line(length, glyphs, tags, homes, used) {
+    if let Check::Refused(why) = refuse_line(table_length, glyphs, tags, homes, used) {
         return Check::Refused(why);
     }
-    if length < start {
+    if table_length < start {
         return Check::Refused(Refusal::Head);
     }
     Check::Passed

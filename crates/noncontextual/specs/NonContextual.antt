@@ -39,8 +39,8 @@ unfoldable pub kindTest : (bytes : List ℕ) → Test
 kindTest bytes = record { holds = not (hasKind bytes 4); refusal = Refusal′.Head }
 
 -- TABLE, LINE, HEAD
-unfoldable pub passTests : (length : ℕ) → Line → (bytes : List ℕ) → List Test
-passTests length l bytes = tableTest length ∷ lineTest l ∷ kindTest bytes ∷ []
+unfoldable pub passTests : (tableLength : ℕ) → Line → (bytes : List ℕ) → List Test
+passTests tableLength l bytes = tableTest tableLength ∷ lineTest l ∷ kindTest bytes ∷ []
 
 -- a call of the pass on the subtable at `start`: its tests, then the pass
 unfoldable pub passCall : List ℕ → (start : ℕ) → Line → Passed

@@ -55,16 +55,16 @@ pub fn work(bytes: &[u8], glyphs: &mut [u16], tags: &[u16], homes: &[u16], used:
 
 // The tests before a pass: TABLE, LINE, HEAD.
 fn refuse_pass(
-    length: usize,
+    table_length: usize,
     glyphs: &[u16],
     tags: &[u16],
     homes: &[u16],
     used: usize,
     bytes: &[u8],
 ) -> Check
-    ensures { λ r. ⌜ r ≡ refuse (passTests length (lineOf (now (glyphs .entry)) (now (tags .entry)) (now (homes .entry)) used) (now (bytes .entry))) ⌝ }
+    ensures { λ r. ⌜ r ≡ refuse (passTests «table_length» (lineOf (now (glyphs .entry)) (now (tags .entry)) (now (homes .entry)) used) (now (bytes .entry))) ⌝ }
 {
-    if let Check::Refused(why) = answers::refuse_table(length) {
+    if let Check::Refused(why) = answers::refuse_table(table_length) {
         return Check::Refused(why);
     }
     if !line::valid::takes(glyphs, tags, homes, used) {

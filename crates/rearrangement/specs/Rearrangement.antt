@@ -104,18 +104,18 @@ callLeaves table start l = applyAll (passCall table start l .changes) l
 
 -- the tests of a lone step. LINE: the length is above the room; PLACE: the index is above the length; STATE: a mark above the length, or a
 -- cycle count above 17
-unfoldable pub laterTests : (length index : ℕ) → RearrangementState → Made → List Test
-laterTests length index s made =
-    record { holds = ltb room length; refusal = Refusal′.Line }
-    ∷ record { holds = ltb length index; refusal = Refusal′.Place }
-    ∷ record { holds = ltb length (s .first); refusal = Refusal′.State }
-    ∷ record { holds = ltb length (s .last); refusal = Refusal′.State }
+unfoldable pub laterTests : (used index : ℕ) → RearrangementState → Made → List Test
+laterTests used index s made =
+    record { holds = ltb room used; refusal = Refusal′.Line }
+    ∷ record { holds = ltb used index; refusal = Refusal′.Place }
+    ∷ record { holds = ltb used (s .first); refusal = Refusal′.State }
+    ∷ record { holds = ltb used (s .last); refusal = Refusal′.State }
     ∷ record { holds = ltb 17 (s .cycles); refusal = Refusal′.State }
     ∷ headTest made
     ∷ []
 
-unfoldable pub stepTests : (tableLength length index : ℕ) → RearrangementState → Made → List Test
-stepTests tableLength length index s made = tableTest tableLength ∷ laterTests length index s made
+unfoldable pub stepTests : (tableLength used index : ℕ) → RearrangementState → Made → List Test
+stepTests tableLength used index s made = tableTest tableLength ∷ laterTests used index s made
 
 -- a refused step hands the state back as given
 abbrev pub refusedStep : Check → RearrangementState → RearrangementStep → RearrangementStep
@@ -127,8 +127,8 @@ onMade (Made′.Ready states) s work = work states
 onMade Made′.Short s work = unmoved s (Answer′.Refused Refusal′.Head)
 
 -- a lone step by the subtable at `start`
-unfoldable pub stepCall : List ℕ → (start : ℕ) → RearrangementState → (length index glyph : ℕ) → (ends : Bool) → RearrangementStep
-stepCall table start s len index glyph ends =
+unfoldable pub stepCall : List ℕ → (start : ℕ) → RearrangementState → (used index glyph : ℕ) → (ends : Bool) → RearrangementStep
+stepCall table start s used index glyph ends =
     let made : Made = opened (drop start table) 0 in
-    refusedStep (refuse (stepTests (length table) len index s made)) s
+    refusedStep (refuse (stepTests (length table) used index s made)) s
     (onMade made s (λ states. next (bodyOf (drop start table)) states s index glyph ends))

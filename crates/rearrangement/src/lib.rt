@@ -95,22 +95,22 @@ impl RearrangementState {
     }
 
     // The tests before a lone step: TABLE, LINE, PLACE, STATE, HEAD.
-    fn refuse(self, table_length: usize, length: usize, index: usize, made: Made) -> Check
-        ensures { λ r. ⌜ r ≡ refuse (stepTests «table_length» length index self made) ⌝ }
+    fn refuse(self, table_length: usize, used: usize, index: usize, made: Made) -> Check
+        ensures { λ r. ⌜ r ≡ refuse (stepTests «table_length» used index self made) ⌝ }
     {
         if let Check::Refused(why) = answers::refuse_table(table_length) {
             return Check::Refused(why);
         }
-        if answers::above_room(length) {
+        if answers::above_room(used) {
             return Check::Refused(Refusal::Line);
         }
-        if length < index {
+        if used < index {
             return Check::Refused(Refusal::Place);
         }
-        if length < self.first {
+        if used < self.first {
             return Check::Refused(Refusal::State);
         }
-        if length < self.last {
+        if used < self.last {
             return Check::Refused(Refusal::State);
         }
         if RearrangementState::MOST_CYCLES < self.cycles {
@@ -139,16 +139,16 @@ impl RearrangementState {
         self,
         table: &[u8],
         start: usize,
-        length: usize,
+        used: usize,
         index: usize,
         glyph: u16,
         ends: bool,
     ) -> RearrangementStep
-        ensures { λ r. ⌜ r ≡ stepCall (now (table .entry)) start self length index glyph ends ⌝ }
+        ensures { λ r. ⌜ r ≡ stepCall (now (table .entry)) start self used index glyph ends ⌝ }
     {
         let bytes = parse::from(table, start);
         let made = machine::open(bytes, RearrangementState::KIND);
-        if let Check::Refused(why) = self.refuse(table.len(), length, index, made) {
+        if let Check::Refused(why) = self.refuse(table.len(), used, index, made) {
             return self.unmoved(Answer::Refused(why));
         }
         let Made::Ready(states) = made else {

@@ -54,7 +54,7 @@ headFails false Short = true
 headFails false (Ready states) = false
 
 unfoldable pub headTest : ℕ → ℕ → Made → Test
-headTest length start made = record { holds = headFails (ltb length start) made; refusal = Head }
+headTest tableLength start made = record { holds = headFails (ltb tableLength start) made; refusal = Head }
 
 -- the class of a glyph by what a head gives; without a head the call is refused before, so that its line here is never reached
 abbrev pub classBy : List ℕ → Made → ℕ → Reply
