@@ -6,8 +6,8 @@ unfoldable pub tableLimit : ℕ
 tableLimit = 16777216
 
 -- the most places of a line
-unfoldable pub room : ℕ
-room = 4096
+unfoldable pub roomLimit : ℕ
+roomLimit = 4096
 
 -- the most heads of a run
 unfoldable pub headLimit : ℕ

@@ -2,7 +2,7 @@
 ghost use mathlib.Core.Path.{_≡_};
 ghost use mathlib.Core.List.{[], _∷_};
 ghost use lib.Dec.{ltb};
-ghost use Rattle.answers.specs.Limits.{room};
+ghost use Rattle.answers.specs.Limits.{roomLimit};
 ghost use Rattle.answers.specs.Numbers.{numberOf};
 ghost use Rattle.answers.specs.Refuse.{refuse, tableTest};
 
@@ -86,7 +86,7 @@ pub fn refuse_table(table_length: usize) -> Check
 
 // Whether a length is more than any line has room for.
 pub fn above_room(places: usize) -> bool
-    ensures { λ r. ⌜ r ≡ ltb room places ⌝ }
+    ensures { λ r. ⌜ r ≡ ltb roomLimit places ⌝ }
 {
     ROOM < places
 }

@@ -26,7 +26,7 @@ use Rattle.machine.proofs.Calls as Machine′
 use Rattle.machine.proofs.Calls.{taken-line, past-place, stepped-line, head-refused, head-passed}
 use Rattle.contextual.specs.Contextual.{next, stepped, machine, passed}
 use Rattle.contextual.specs.Calls.{opened, worked, passCall, callLeaves, stateTest, stepTests, stepCall, stepLeaves}
-use Rattle.contextual.specs.Work.{writtenAll, stepOf, passLeaves, workLeaves}
+use Rattle.contextual.specs.Work.{writtenAll, stepOf, passedLeaves, workLeaves}
 use Rattle.contextual.specs.declared.ContextualState.{ContextualState}
 use Rattle.contextual.specs.declared.ContextualStep.{ContextualStep}
 use Rattle.contextual.proofs.Writes.{written-line}
@@ -51,8 +51,8 @@ module _ (bytes : List ℕ) (l : Line) {made : Made} (m : made ≡ opened bytes)
   work-headless s = ends-at _ (rw (sym m ∙ s, worked)) (unchanged (Answer′.Refused Refusal′.Head) l)
 
   pub work-passed : {states : States} {body glyphs : List ℕ} {answer : Answer} → made ≡ Made′.Ready states → body ≡ drop 12 bytes
-      → answer ≡ passed body states l .answer → glyphs ≡ passLeaves body states l .glyphs → Ends (worked bytes l) l answer glyphs
-  unfolding worked passLeaves
+      → answer ≡ passed body states l .answer → glyphs ≡ passedLeaves body states l .glyphs → Ends (worked bytes l) l answer glyphs
+  unfolding worked passedLeaves
   work-passed {states} {body} r d a g =
       ends-at (passed body states l) (rw (sym m ∙ r, worked) (ap (λ (x : List ℕ). passed x states l) (sym d))) (record { answers = a; left = g })
 

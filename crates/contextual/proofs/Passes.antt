@@ -13,7 +13,7 @@ use Rattle.machine.specs.Pass.{deleted, isDone}
 use Rattle.machine.proofs.Passing.{Passing, Over, passing-start, passing-step, passing-stop, passing-end}
 use Rattle.contextual.specs.Substitutes.{changesOf}
 use Rattle.contextual.specs.Contextual.{fresh, Ran, next, stepped, machine, rest, passed}
-use Rattle.contextual.specs.Work.{writtenAll, stepOf, passLeaves}
+use Rattle.contextual.specs.Work.{writtenAll, stepOf, passedLeaves}
 use Rattle.machine.specs.Pass.{advanceOf}
 use Rattle.contextual.specs.declared.ContextualState.{ContextualState}
 use Rattle.contextual.specs.declared.ContextualStep.{ContextualStep}
@@ -37,7 +37,7 @@ module _ (bytes : List ℕ) (states : States) (l₀ : Line) where
   -- what a pass that ends here answers and leaves
   pub record Ends (answer : Answer) (glyphs : List ℕ) : Type 0 where
     pub answers : answer ≡ passed bytes states l₀ .answer
-    pub left : glyphs ≡ passLeaves bytes states l₀ .glyphs
+    pub left : glyphs ≡ passedLeaves bytes states l₀ .glyphs
 
   module _ {glyphs tags homes : List ℕ} {used : ℕ} {s : ContextualState} {i : ℕ} (g : Going glyphs tags homes used s i) where
     some : 0 < rest s (lineOf glyphs tags homes used) i
@@ -51,7 +51,7 @@ module _ (bytes : List ℕ) (states : States) (l₀ : Line) where
     ends : {answer : Answer} {glyphs′ : List ℕ} (r : Ran)
         → Over (machine bytes states) rest l₀ (passed bytes states l₀) answer (applyAll (changesOf (r .writes)) (lineOf glyphs tags homes used))
         → glyphs′ ≡ writtenAll used (r .writes) glyphs → Ends answer glyphs′
-    unfolding passLeaves
+    unfolding passedLeaves
     ends r o p = record { answers = o .answers; left = ap (λ (l : Line). l .glyphs) (line r p ∙ o .leaves) }
 
     module _ {step : ContextualStep} where

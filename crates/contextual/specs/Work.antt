@@ -22,8 +22,8 @@ writtenAll used [] glyphs = glyphs
 writtenAll used (w ∷ ws) glyphs = writtenAll used ws (written used (w .at) (w .glyph) glyphs)
 
 -- the line that a pass leaves
-unfoldable pub passLeaves : List ℕ → States → Line → Line
-passLeaves bytes states l = applyAll (passed bytes states l .changes) l
+unfoldable pub passedLeaves : List ℕ → States → Line → Line
+passedLeaves bytes states l = applyAll (passed bytes states l .changes) l
 
 -- the line that the pass by the subtable that the bytes begin with leaves
 unfoldable pub workLeaves : List ℕ → Line → Line

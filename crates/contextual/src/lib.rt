@@ -18,7 +18,7 @@ ghost use Rattle.line.specs.Line.{lineOf};
 ghost use Rattle.contextual.specs.Substitutes.{substituteOf, glyphAfter, writesOf};
 ghost use Rattle.contextual.specs.Contextual.{fresh, idle, begun, seenGlyph, entered, acted, next, stepped, passed};
 ghost use Rattle.contextual.specs.Calls.{opened, worked, passCall, callLeaves, stepTests, stepCall, stepLeaves};
-ghost use Rattle.contextual.specs.Work.{writtenAll, stepOf, passLeaves, workLeaves};
+ghost use Rattle.contextual.specs.Work.{writtenAll, stepOf, passedLeaves, workLeaves};
 
 // The state of a pass: the state table's state, whether a mark was set, its place, and the glyph that is remembered for it.
 pub struct ContextualState {
@@ -365,7 +365,7 @@ fn pass_line(
 ) -> Answer
     requires { ⌜ used ≤ length (now glyphs) ⌝ }
     ensures answer { λ r. ⌜ r ≡ passed (now (bytes .entry)) states (lineOf (now (glyphs .entry)) (now (tags .entry)) (now (homes .entry)) used) .answer ⌝ }
-    ensures glyphs { λ _. ⌜ now (glyphs .exit) ≡ passLeaves (now (bytes .entry)) states (lineOf (now (glyphs .entry)) (now (tags .entry)) (now (homes .entry)) used) .glyphs ⌝ }
+    ensures glyphs { λ _. ⌜ now (glyphs .exit) ≡ passedLeaves (now (bytes .entry)) states (lineOf (now (glyphs .entry)) (now (tags .entry)) (now (homes .entry)) used) .glyphs ⌝ }
 {
     let mut state = ContextualState::new();
     let mut place = 0;

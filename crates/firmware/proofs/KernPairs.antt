@@ -49,7 +49,7 @@ small-number (Number′.Nothing why) s = record { small = tt }
 
 small-reply : (bytes : List ℕ) (opened : Opened) (left right : ℕ) → Small (replyOf bytes opened left right)
 unfolding replyOf
-small-reply bytes (Opened′.Ready pairs) left right = small-number (Pairs.numberOf bytes pairs left right) (sized bytes pairs left right)
+small-reply bytes (Opened′.Ready pairs) left right = small-number (Pairs.pairNumber bytes pairs left right) (sized bytes pairs left right)
 small-reply bytes Opened′.Short left right = small-refused
 
 small-if : (a b : ℕ) {yes no : PairReply} → Small yes → Small no → Small (ifEq a b yes no)

@@ -18,7 +18,7 @@ use Rattle.line.specs.Changes.{applyAll}
 use Rattle.machine.specs.Pass.{Passed}
 use Rattle.machine.specs.Call.{passTests}
 use Rattle.insertion.specs.Insertion.{passed}
-use Rattle.insertion.specs.Work.{passLeaves}
+use Rattle.insertion.specs.Work.{passedLeaves}
 use Rattle.insertion.specs.Calls.{opened, worked, passCall}
 use Rattle.insertion.proofs.Edits.{Left}
 
@@ -44,9 +44,9 @@ module _ (bytes : List ℕ) (l : Line) {made : Made} (m : made ≡ opened bytes)
   worked-is {states} {body} e d = rw (sym m ∙ e, worked) (ap (λ (b : List ℕ). passed b states l) (sym d))
 
   pub work-passes : {states : States} {body glyphs tags : List ℕ} {answer : Answer} {used : ℕ} → made ≡ Made′.Ready states → body ≡ drop 12 bytes
-      → answer ≡ passed body states l .answer → used ≡ passLeaves body states l .used → glyphs ≡ passLeaves body states l .glyphs
-      → tags ≡ passLeaves body states l .tags → Ends (worked bytes l) l answer glyphs tags used
-  unfolding passLeaves
+      → answer ≡ passed body states l .answer → used ≡ passedLeaves body states l .used → glyphs ≡ passedLeaves body states l .glyphs
+      → tags ≡ passedLeaves body states l .tags → Ends (worked bytes l) l answer glyphs tags used
+  unfolding passedLeaves
   work-passes {states} {body} {glyphs} {tags} {answer} {used} e d a u g t =
       subst⁻¹ (λ (q : Passed). Ends q l answer glyphs tags used) (worked-is e d)
       (record { answers = a; left = record { glyphs-left = g; tags-left = t; used-left = u } })

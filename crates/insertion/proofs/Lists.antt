@@ -19,9 +19,9 @@ use Rattle.parse.specs.declared.ReadU32.the-variants as U32
 use Rattle.parse.proofs.Laws.{inside-fits}
 use Rattle.line.specs.Changes.{glyphsOf}
 use Rattle.machine.specs.Pass.{isDone}
-use Rattle.insertion.specs.Lists.{listOf, enteredBy, insertionOf, countOf, glyphsAt}
+use Rattle.insertion.specs.Lists.{glyphList, enteredBy, insertionOf, countOf, glyphsAt}
 use Rattle.insertion.specs.Work.{endOf}
-use Rattle.insertion.specs.Insertion.{placeOf}
+use Rattle.insertion.specs.Insertion.{insertionPlace}
 use Rattle.insertion.specs.declared.Listed.{Listed}
 use Rattle.insertion.specs.declared.Listed.the-variants as Listed′
 use Rattle.insertion.specs.declared.Inserted.{Inserted}
@@ -35,8 +35,8 @@ pub data Lies (bytes : List ℕ) (count : ℕ) : Listed → Type 0 where
   short : Lies bytes count Listed′.Short
   here : (glyphs : ℕ) → glyphs + count * 2 ≤ length bytes → Lies bytes count (Listed′.At glyphs)
 
-pub list-lies : (bytes : List ℕ) (number count : ℕ) → Lies bytes count (listOf bytes number count)
-unfolding listOf
+pub list-lies : (bytes : List ℕ) (number count : ℕ) → Lies bytes count (glyphList bytes number count)
+unfolding glyphList
 list-lies bytes number count = go (eqb number 0xFFFF) (readU32 bytes 16)
   where
     at : (glyphs : ℕ) (t : Bool) → inside bytes (glyphs + number * 2) (count * 2) ≡ t
@@ -130,18 +130,18 @@ part-until from size bytes = let e : from + size - from ≡ size = omega arith i
 
 -- the place of an insertion, by the code's tests
 module _ (at : ℕ) (before : Bool) (used : ℕ) where
-  pub place-past : used ≤ at → used ≡ placeOf at before used
-  unfolding placeOf
+  pub place-past : used ≤ at → used ≡ insertionPlace at before used
+  unfolding insertionPlace
   place-past h = go before
     where
       go : (b : Bool) → used ≡ min (cond b at (at + 1)) used
       go true = omega arith
       go false = omega arith
 
-  pub place-before : at < used → before ≡ true → at ≡ placeOf at before used
-  unfolding placeOf
+  pub place-before : at < used → before ≡ true → at ≡ insertionPlace at before used
+  unfolding insertionPlace
   place-before h e = rw e (omega arith)
 
-  pub place-behind : at < used → before ≡ false → at + 1 ≡ placeOf at before used
-  unfolding placeOf
+  pub place-behind : at < used → before ≡ false → at + 1 ≡ insertionPlace at before used
+  unfolding insertionPlace
   place-behind h e = rw e (omega arith)

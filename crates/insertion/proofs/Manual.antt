@@ -9,7 +9,7 @@ use borrow.Author.Tests.{ne-eqb}
 use Rattle.laws.specs.Lists.{tab}
 use Rattle.parse.specs.Reads.{u16At, u32At}
 use Rattle.parse.proofs.Laws.{readU32-got, inside-yes, inside-past, inside-cut, u16-from}
-use Rattle.insertion.specs.Lists.{listOf, glyphsAt}
+use Rattle.insertion.specs.Lists.{glyphList, glyphsAt}
 use Rattle.insertion.specs.Manual.{glyphTable, glyphsFrom}
 use Rattle.insertion.specs.declared.Listed.the-variants as Listed′
 
@@ -30,19 +30,19 @@ glyphs-by-manual bytes number count = go count
 module _ (bytes : List ℕ) (number count : ℕ) (n : number ≡ 0xFFFF → ⊥) (h : 20 ≤ length bytes) where
   -- a list of some glyphs is read where they lie in the table
   pub list-by-manual : 0 < count → u32At bytes 16 + number * 2 + count * 2 ≤ length bytes
-      → listOf bytes number count ≡ Listed′.At (u32At bytes 16 + number * 2)
-  unfolding listOf
+      → glyphList bytes number count ≡ Listed′.At (u32At bytes 16 + number * 2)
+  unfolding glyphList
   list-by-manual some k =
-      rw (ne-eqb number 0xFFFF n, readU32-got bytes 16 h, inside-yes bytes (u32At bytes 16 + number * 2) (count * 2) (omega arith) (omega arith), listOf)
+      rw (ne-eqb number 0xFFFF n, readU32-got bytes 16 h, inside-yes bytes (u32At bytes 16 + number * 2) (count * 2) (omega arith) (omega arith), glyphList)
 
   -- not where they don't
-  pub list-past-manual : 0 < count → length bytes < u32At bytes 16 + number * 2 + count * 2 → listOf bytes number count ≡ Listed′.Short
-  unfolding listOf
+  pub list-past-manual : 0 < count → length bytes < u32At bytes 16 + number * 2 + count * 2 → glyphList bytes number count ≡ Listed′.Short
+  unfolding glyphList
   list-past-manual some k =
-      rw (ne-eqb number 0xFFFF n, readU32-got bytes 16 h, inside-cut bytes (u32At bytes 16 + number * 2) (count * 2) (omega arith), listOf)
+      rw (ne-eqb number 0xFFFF n, readU32-got bytes 16 h, inside-cut bytes (u32At bytes 16 + number * 2) (count * 2) (omega arith), glyphList)
 
   -- and none, not even one of no glyphs, that begins at or past the end
-  pub list-at-end : length bytes ≤ u32At bytes 16 + number * 2 → listOf bytes number count ≡ Listed′.Short
-  unfolding listOf
+  pub list-at-end : length bytes ≤ u32At bytes 16 + number * 2 → glyphList bytes number count ≡ Listed′.Short
+  unfolding glyphList
   list-at-end k =
-      rw (ne-eqb number 0xFFFF n, readU32-got bytes 16 h, inside-past bytes (u32At bytes 16 + number * 2) (count * 2) k, listOf)
+      rw (ne-eqb number 0xFFFF n, readU32-got bytes 16 h, inside-past bytes (u32At bytes 16 + number * 2) (count * 2) k, glyphList)

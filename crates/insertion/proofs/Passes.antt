@@ -13,7 +13,7 @@ use Rattle.machine.specs.Pass.{deleted, isDone}
 use Rattle.machine.proofs.Passing.{Passing, Over, passing-start, passing-step, passing-stop, passing-end}
 use Rattle.insertion.specs.Lists.{bothChanges}
 use Rattle.insertion.specs.Insertion.{fresh, next, machine, rest, passed}
-use Rattle.insertion.specs.Work.{passLeaves}
+use Rattle.insertion.specs.Work.{passedLeaves}
 use Rattle.insertion.specs.declared.InsertionState.{InsertionState}
 use Rattle.insertion.specs.declared.InsertionStep.{InsertionStep}
 use Rattle.insertion.proofs.Edits.{Left, both-grow, both-line}
@@ -36,9 +36,9 @@ module _ (bytes : List ℕ) (states : States) (l₀ : Line) where
   -- what a pass that ends here answers and leaves
   pub record Ends (answer : Answer) (glyphs tags : List ℕ) (used : ℕ) : Type 0 where
     pub answers : answer ≡ passed bytes states l₀ .answer
-    pub used-left : used ≡ passLeaves bytes states l₀ .used
-    pub glyphs-left : glyphs ≡ passLeaves bytes states l₀ .glyphs
-    pub tags-left : tags ≡ passLeaves bytes states l₀ .tags
+    pub used-left : used ≡ passedLeaves bytes states l₀ .used
+    pub glyphs-left : glyphs ≡ passedLeaves bytes states l₀ .glyphs
+    pub tags-left : tags ≡ passedLeaves bytes states l₀ .tags
 
   module _ {glyphs tags homes : List ℕ} {used : ℕ} {s : InsertionState} {i : ℕ} (g : Going glyphs tags homes used s i) where
     abbrev here : Line
@@ -50,7 +50,7 @@ module _ (bytes : List ℕ) (states : States) (l₀ : Line) where
     ends : {answer : Answer} {glyphs′ tags′ : List ℕ} {used′ : ℕ} (step : InsertionStep)
         → Over (machine bytes states) rest l₀ (passed bytes states l₀) answer (applyAll (bothChanges bytes (step .marked) (step .current)) here)
         → LeftBy bytes here step glyphs′ tags′ used′ → Ends answer glyphs′ tags′ used′
-    unfolding passLeaves
+    unfolding passedLeaves
     ends step o p =
         record {
           answers = o .answers;

@@ -23,7 +23,7 @@ use Rattle.machine.specs.Pass.{isDone}
 use Rattle.machine.proofs.Stalls.{stall-falls}
 use Rattle.insertion.specs.Lists.{onTried, countOf}
 use Rattle.insertion.specs.Work.{endOf}
-use Rattle.insertion.specs.Insertion.{advanceOf, withState, stopped, finished, followed, acted, next}
+use Rattle.insertion.specs.Insertion.{advanceOf, withState, stopped, finished, afterMarked, acted, next}
 use Rattle.insertion.specs.declared.Inserted.{Inserted}
 use Rattle.insertion.specs.declared.Inserted.the-variants as Inserted′
 use Rattle.insertion.specs.declared.Tried.{Tried}
@@ -46,8 +46,8 @@ module _ (bytes : List ℕ) (s : InsertionState) (index used room : ℕ) where
   second-shape s′ flags marked c f (over answer n) = stops answer s′ marked n f
 
   followed-shape : (s′ : InsertionState) (flags number : ℕ) (marked : Inserted) → s′ .cycles ≡ s .cycles → Fitting bytes used room marked
-      → Shape bytes s used room (followed bytes s′ flags number marked index used room)
-  unfolding followed
+      → Shape bytes s used room (afterMarked bytes s′ flags number marked index used room)
+  unfolding afterMarked
   followed-shape s′ flags number marked c f =
       second-shape _ flags marked c f (insertion-tries bytes number _ _ (used + countOf marked) room (f .within))
 
@@ -58,7 +58,7 @@ module _ (bytes : List ℕ) (s : InsertionState) (index used room : ℕ) where
       go : (t : Tried) → Tries bytes used room t
           → Shape bytes s used room
           (onTried t
-          (λ marked. followed bytes (withState s (entry .state)) (entry .flags) (u16At bytes (entry .payload)) marked index used room)
+          (λ marked. afterMarked bytes (withState s (entry .state)) (entry .flags) (u16At bytes (entry .payload)) marked index used room)
           (λ answer. stopped answer (withState s (entry .state)) Inserted′.None))
       go _ (made marked g) = followed-shape (withState s (entry .state)) (entry .flags) (u16At bytes (entry .payload)) marked refl g
       go _ (over answer n) = stops answer _ Inserted′.None n (fitting-none h)

@@ -42,7 +42,7 @@ module _ (n len room index : ℕ) (s : InsertionState) (made : Made) {r : Check}
 
   -- the tests that are left, one after the other
   pub past-table : r ≡ Passed → refuse (stepTests n len room index s made)
-      ≡ cond (ltb Limits.room room) (Refused Refusal′.Line)
+      ≡ cond (ltb Limits.roomLimit room) (Refused Refusal′.Line)
       (cond (ltb room len) (Refused Refusal′.Line)
       (cond (ltb len index) (Refused Refusal′.Place)
       (cond (ltb len (s .mark)) (Refused Refusal′.State)
@@ -54,7 +54,7 @@ module _ (n len room index : ℕ) (s : InsertionState) (made : Made) {r : Check}
 -- what a step that is not refused has of its length, room and index
 pub record Told (n len room index : ℕ) : Type 0 where
   pub short : n ≤ Limits.tableLimit
-  pub limited : room ≤ Limits.room
+  pub limited : room ≤ Limits.roomLimit
   pub within : len ≤ room
   pub at : index ≤ len
 

@@ -47,7 +47,7 @@ callLeaves table start l = applyAll (passCall table start l .changes) l
 -- STATE: the mark is above the length, or the cycle count above 17
 unfoldable pub laterTests : (used room index : ℕ) → InsertionState → Made → List Test
 laterTests used room index s made =
-    record { holds = ltb Limits.room room; refusal = Refusal′.Line }
+    record { holds = ltb Limits.roomLimit room; refusal = Refusal′.Line }
     ∷ record { holds = ltb room used; refusal = Refusal′.Line }
     ∷ record { holds = ltb used index; refusal = Refusal′.Place }
     ∷ record { holds = ltb used (s .mark); refusal = Refusal′.State }

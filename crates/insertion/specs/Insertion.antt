@@ -27,8 +27,8 @@ abbrev pub fresh : InsertionState
 fresh = record { state = 0; mark = 0; cycles = 0 }
 
 -- an insertion is before a place or behind it; above the length it is at the length
-unfoldable pub placeOf : (at : ℕ) → (before : Bool) → (used : ℕ) → ℕ
-placeOf at before used = min (cond before at (at + 1)) used
+unfoldable pub insertionPlace : (at : ℕ) → (before : Bool) → (used : ℕ) → ℕ
+insertionPlace at before used = min (cond before at (at + 1)) used
 
 -- the entry's flags: 0x8000 sets the mark, 0x4000 is don't advance, 0x0800 and 0x0400 put the current and the marked glyphs before their
 -- place; then five bits each, the counts of the current and of the marked glyphs
@@ -68,12 +68,12 @@ finished s flags marked current =
 
 -- after the marked glyphs the mark may be set, to the index as given; the current glyphs then go where the index stands after the
 -- marked ones, in a line that is longer by them
-unfoldable pub followed : List ℕ → InsertionState → (flags number : ℕ) → Inserted → (index used room : ℕ) → InsertionStep
-followed bytes s flags number marked index used room =
+unfoldable pub afterMarked : List ℕ → InsertionState → (flags number : ℕ) → Inserted → (index used room : ℕ) → InsertionStep
+afterMarked bytes s flags number marked index used room =
     let s′ : InsertionState = withMark s (isSet flags 0x8000) index in
     onTried
     (insertionOf bytes number (currentCount flags)
-    (placeOf (index + countOf marked) (isSet flags 0x800) (used + countOf marked))
+    (insertionPlace (index + countOf marked) (isSet flags 0x800) (used + countOf marked))
     (used + countOf marked) room)
     (λ current. finished s′ flags marked current)
     (λ answer. stopped answer s′ marked)
@@ -84,8 +84,8 @@ acted bytes s entry index used room =
     let s′ : InsertionState = withState s (entry .state) in
     onTried
     (insertionOf bytes (u16At bytes (entry .payload + 2)) (markedCount (entry .flags))
-    (placeOf (s .mark) (isSet (entry .flags) 0x400) used) used room)
-    (λ marked. followed bytes s′ (entry .flags) (u16At bytes (entry .payload)) marked index used room)
+    (insertionPlace (s .mark) (isSet (entry .flags) 0x400) used) used room)
+    (λ marked. afterMarked bytes s′ (entry .flags) (u16At bytes (entry .payload)) marked index used room)
     (λ answer. stopped answer s′ Inserted′.None)
 
 -- a step: class, then entry, then what the entry does; without an entry it is ENDED and the state as it was

@@ -19,8 +19,8 @@ use Rattle.insertion.specs.declared.Tried.the-variants as Tried′
 -- the bytes are those from the state table on: the number at 16 is where the glyphs begin, and a list begins with the glyph of its number.
 -- Number 0xFFFF means no insertion. A list can be read where it begins before the end and all its glyphs lie in the bytes; so one of no
 -- glyphs can't at or past the end
-unfoldable pub listOf : List ℕ → (number count : ℕ) → Listed
-listOf bytes number count =
+unfoldable pub glyphList : List ℕ → (number count : ℕ) → Listed
+glyphList bytes number count =
     ifEq number 0xFFFF Listed′.None
     (onU32 (readU32 bytes 16)
     (λ glyphs. cond (inside bytes (glyphs + number * 2) (count * 2)) (Listed′.At (glyphs + number * 2)) Listed′.Short)
@@ -35,7 +35,7 @@ enteredBy (Listed′.At glyphs) place count used room =
 
 -- what becomes of an insertion of so many glyphs, from the one of this number on, at a place of a line of this length
 abbrev pub insertionOf : List ℕ → (number count place used room : ℕ) → Tried
-insertionOf bytes number count place used room = enteredBy (listOf bytes number count) place count used room
+insertionOf bytes number count place used room = enteredBy (glyphList bytes number count) place count used room
 
 -- what is made of an insertion, and of an answer that ends the step before it
 abbrev pub onTried : {A : Type 0} → Tried → (Inserted → A) → (Answer → A) → A

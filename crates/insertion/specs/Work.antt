@@ -16,8 +16,8 @@ endOf Inserted′.None = 0
 endOf (Inserted′.At place count glyphs) = glyphs + count * 2
 
 -- the line that a pass leaves
-unfoldable pub passLeaves : List ℕ → States → Line → Line
-passLeaves bytes states l = applyAll (passed bytes states l .changes) l
+unfoldable pub passedLeaves : List ℕ → States → Line → Line
+passedLeaves bytes states l = applyAll (passed bytes states l .changes) l
 
 -- the line that the pass by the subtable that the bytes begin with leaves
 unfoldable pub workLeaves : List ℕ → Line → Line

@@ -14,10 +14,10 @@ ghost use Rattle.answers.specs.Limits as Limits;
 ghost use Rattle.answers.specs.Refuse.{refuse};
 ghost use Rattle.line.specs.Line.{lineOf};
 ghost use Rattle.line.specs.Changes.{applyAll};
-ghost use Rattle.insertion.specs.Lists.{listOf, insertionOf, countOf, changesOf, bothChanges, movedBy};
-ghost use Rattle.insertion.specs.Insertion.{fresh, placeOf, advanceOf, withState, withMark, stopped, finished, followed, acted, next, passed};
+ghost use Rattle.insertion.specs.Lists.{glyphList, insertionOf, countOf, changesOf, bothChanges, movedBy};
+ghost use Rattle.insertion.specs.Insertion.{fresh, insertionPlace, advanceOf, withState, withMark, stopped, finished, afterMarked, acted, next, passed};
 ghost use Rattle.insertion.specs.Calls.{opened, worked, passCall, callLeaves, stepTests, fromTable, stepCall};
-ghost use Rattle.insertion.specs.Work.{endOf, passLeaves, workLeaves};
+ghost use Rattle.insertion.specs.Work.{endOf, passedLeaves, workLeaves};
 
 // The state of a pass: the state table's state, the marked place, and how many steps in a row did not advance.
 pub struct InsertionState {
@@ -67,7 +67,7 @@ enum Tried {
 
 // Where a list of `count` glyphs lies, from the glyph of this number on. The bytes are those from the state table on.
 fn list_of(bytes: &[u8], number: u16, count: u16) -> Listed
-    ensures { λ r. ⌜ r ≡ listOf (now (bytes .entry)) number count ⌝ }
+    ensures { λ r. ⌜ r ≡ glyphList (now (bytes .entry)) number count ⌝ }
 {
     if number == InsertionState::NO_ACTION {
         return Listed::None;
@@ -91,7 +91,7 @@ fn insertion_of(
     used: usize,
     room: usize,
 ) -> Tried
-    requires { ⌜ (used ≤ room) × (room ≤ Limits.room) ⌝ }
+    requires { ⌜ (used ≤ room) × (room ≤ Limits.roomLimit) ⌝ }
     ensures { λ r. ⌜ r ≡ insertionOf (now (bytes .entry)) number count place used room ⌝ }
 {
     let listed = list_of(bytes, number, count);
@@ -113,7 +113,7 @@ fn insertion_of(
 
 // Before a place or behind it, but not above the length.
 fn place_of(at: usize, before: bool, used: usize) -> usize
-    ensures { λ r. ⌜ r ≡ placeOf at before used ⌝ }
+    ensures { λ r. ⌜ r ≡ insertionPlace at before used ⌝ }
 {
     if used <= at {
         return used;
@@ -270,8 +270,8 @@ impl InsertionState {
         used: usize,
         room: usize,
     ) -> InsertionStep
-        requires { ⌜ (index ≤ used) × (used + countOf marked ≤ room) × (room ≤ Limits.room) ⌝ }
-        ensures { λ r. ⌜ r ≡ followed (now (bytes .entry)) self flags number marked index used room ⌝ }
+        requires { ⌜ (index ≤ used) × (used + countOf marked ≤ room) × (room ≤ Limits.roomLimit) ⌝ }
+        ensures { λ r. ⌜ r ≡ afterMarked (now (bytes .entry)) self flags number marked index used room ⌝ }
     {
         let state = self.with_mark(machine::is_set(flags, InsertionState::SET_MARK), index);
         let inserted = count_of(marked) as usize;
@@ -300,7 +300,7 @@ impl InsertionState {
         used: usize,
         room: usize,
     ) -> InsertionStep
-        requires { ⌜ (entry .payload + 4 ≤ length (now bytes)) × (index ≤ used) × (used ≤ room) × (room ≤ Limits.room) ⌝ }
+        requires { ⌜ (entry .payload + 4 ≤ length (now bytes)) × (index ≤ used) × (used ≤ room) × (room ≤ Limits.roomLimit) ⌝ }
         ensures { λ r. ⌜ r ≡ acted (now (bytes .entry)) self entry index used room ⌝ }
     {
         let numbers = entries::two_numbers(bytes, entry.payload);
@@ -341,7 +341,7 @@ impl InsertionState {
         glyph: u16,
         ends: bool,
     ) -> InsertionStep
-        requires { ⌜ (index ≤ used) × (used ≤ room) × (room ≤ Limits.room) ⌝ }
+        requires { ⌜ (index ≤ used) × (used ≤ room) × (room ≤ Limits.roomLimit) ⌝ }
         ensures { λ r. ⌜ r ≡ next (now (bytes .entry)) states self used room index glyph ends ⌝ }
     {
         let class = machine::class_at(bytes, states, glyph, ends);
@@ -460,7 +460,7 @@ fn put_at(
     count: u16,
     from: usize,
 ) -> usize
-    requires { ⌜ (from + count * 2 ≤ length (now bytes)) × (used + count ≤ length (now glyphs)) × (length (now tags) ≡ length (now glyphs)) × (length (now glyphs) ≤ Limits.room) ⌝ }
+    requires { ⌜ (from + count * 2 ≤ length (now bytes)) × (used + count ≤ length (now glyphs)) × (length (now tags) ≡ length (now glyphs)) × (length (now glyphs) ≤ Limits.roomLimit) ⌝ }
     ensures glyphs { λ _. ⌜ now (glyphs .exit) ≡ applyAll (changesOf (now (bytes .entry)) (Inserted.At place count from)) (lineOf (now (glyphs .entry)) (now (tags .entry)) (now (homes .entry)) used) .glyphs ⌝ }
     ensures tags { λ _. ⌜ now (tags .exit) ≡ applyAll (changesOf (now (bytes .entry)) (Inserted.At place count from)) (lineOf (now (glyphs .entry)) (now (tags .entry)) (now (homes .entry)) used) .tags ⌝ }
     ensures used { λ r. ⌜ r ≡ applyAll (changesOf (now (bytes .entry)) (Inserted.At place count from)) (lineOf (now (glyphs .entry)) (now (tags .entry)) (now (homes .entry)) used) .used ⌝ }
@@ -477,7 +477,7 @@ fn put(
     used: usize,
     edit: Inserted,
 ) -> usize
-    requires { ⌜ (endOf edit ≤ length (now bytes)) × (used + countOf edit ≤ length (now glyphs)) × (length (now tags) ≡ length (now glyphs)) × (length (now glyphs) ≤ Limits.room) ⌝ }
+    requires { ⌜ (endOf edit ≤ length (now bytes)) × (used + countOf edit ≤ length (now glyphs)) × (length (now tags) ≡ length (now glyphs)) × (length (now glyphs) ≤ Limits.roomLimit) ⌝ }
     ensures glyphs { λ _. ⌜ now (glyphs .exit) ≡ applyAll (changesOf (now (bytes .entry)) edit) (lineOf (now (glyphs .entry)) (now (tags .entry)) (now (homes .entry)) used) .glyphs ⌝ }
     ensures tags { λ _. ⌜ now (tags .exit) ≡ applyAll (changesOf (now (bytes .entry)) edit) (lineOf (now (glyphs .entry)) (now (tags .entry)) (now (homes .entry)) used) .tags ⌝ }
     ensures used { λ r. ⌜ r ≡ applyAll (changesOf (now (bytes .entry)) edit) (lineOf (now (glyphs .entry)) (now (tags .entry)) (now (homes .entry)) used) .used ⌝ }
@@ -503,7 +503,7 @@ fn edit(
     marked: Inserted,
     current: Inserted,
 ) -> usize
-    requires { ⌜ (endOf marked ≤ length (now bytes)) × (endOf current ≤ length (now bytes)) × (used + countOf marked + countOf current ≤ length (now glyphs)) × (length (now tags) ≡ length (now glyphs)) × (length (now glyphs) ≤ Limits.room) ⌝ }
+    requires { ⌜ (endOf marked ≤ length (now bytes)) × (endOf current ≤ length (now bytes)) × (used + countOf marked + countOf current ≤ length (now glyphs)) × (length (now tags) ≡ length (now glyphs)) × (length (now glyphs) ≤ Limits.roomLimit) ⌝ }
     ensures glyphs { λ _. ⌜ now (glyphs .exit) ≡ applyAll (bothChanges (now (bytes .entry)) marked current) (lineOf (now (glyphs .entry)) (now (tags .entry)) (now (homes .entry)) used) .glyphs ⌝ }
     ensures tags { λ _. ⌜ now (tags .exit) ≡ applyAll (bothChanges (now (bytes .entry)) marked current) (lineOf (now (glyphs .entry)) (now (tags .entry)) (now (homes .entry)) used) .tags ⌝ }
     ensures used { λ r. ⌜ r ≡ applyAll (bothChanges (now (bytes .entry)) marked current) (lineOf (now (glyphs .entry)) (now (tags .entry)) (now (homes .entry)) used) .used ⌝ }
@@ -521,11 +521,11 @@ fn pass_line(
     homes: &[u16],
     used: usize,
 ) -> InsertionPass
-    requires { ⌜ (used ≤ length (now glyphs)) × (length (now tags) ≡ length (now glyphs)) × (length (now glyphs) ≤ Limits.room) ⌝ }
+    requires { ⌜ (used ≤ length (now glyphs)) × (length (now tags) ≡ length (now glyphs)) × (length (now glyphs) ≤ Limits.roomLimit) ⌝ }
     ensures answer { λ r. ⌜ r .answer ≡ passed (now (bytes .entry)) states (lineOf (now (glyphs .entry)) (now (tags .entry)) (now (homes .entry)) used) .answer ⌝ }
-    ensures used { λ r. ⌜ r .used ≡ passLeaves (now (bytes .entry)) states (lineOf (now (glyphs .entry)) (now (tags .entry)) (now (homes .entry)) used) .used ⌝ }
-    ensures glyphs { λ _. ⌜ now (glyphs .exit) ≡ passLeaves (now (bytes .entry)) states (lineOf (now (glyphs .entry)) (now (tags .entry)) (now (homes .entry)) used) .glyphs ⌝ }
-    ensures tags { λ _. ⌜ now (tags .exit) ≡ passLeaves (now (bytes .entry)) states (lineOf (now (glyphs .entry)) (now (tags .entry)) (now (homes .entry)) used) .tags ⌝ }
+    ensures used { λ r. ⌜ r .used ≡ passedLeaves (now (bytes .entry)) states (lineOf (now (glyphs .entry)) (now (tags .entry)) (now (homes .entry)) used) .used ⌝ }
+    ensures glyphs { λ _. ⌜ now (glyphs .exit) ≡ passedLeaves (now (bytes .entry)) states (lineOf (now (glyphs .entry)) (now (tags .entry)) (now (homes .entry)) used) .glyphs ⌝ }
+    ensures tags { λ _. ⌜ now (tags .exit) ≡ passedLeaves (now (bytes .entry)) states (lineOf (now (glyphs .entry)) (now (tags .entry)) (now (homes .entry)) used) .tags ⌝ }
 {
     let mut state = InsertionState::new();
     let mut place = 0;
@@ -583,7 +583,7 @@ pub fn work(
     homes: &[u16],
     used: usize,
 ) -> InsertionPass
-    requires { ⌜ (used ≤ length (now glyphs)) × (length (now tags) ≡ length (now glyphs)) × (length (now glyphs) ≤ Limits.room) ⌝ }
+    requires { ⌜ (used ≤ length (now glyphs)) × (length (now tags) ≡ length (now glyphs)) × (length (now glyphs) ≤ Limits.roomLimit) ⌝ }
     ensures answer { λ r. ⌜ r .answer ≡ worked (now (bytes .entry)) (lineOf (now (glyphs .entry)) (now (tags .entry)) (now (homes .entry)) used) .answer ⌝ }
     ensures used { λ r. ⌜ r .used ≡ workLeaves (now (bytes .entry)) (lineOf (now (glyphs .entry)) (now (tags .entry)) (now (homes .entry)) used) .used ⌝ }
     ensures glyphs { λ _. ⌜ now (glyphs .exit) ≡ workLeaves (now (bytes .entry)) (lineOf (now (glyphs .entry)) (now (tags .entry)) (now (homes .entry)) used) .glyphs ⌝ }

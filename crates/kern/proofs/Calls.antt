@@ -14,7 +14,7 @@ use Rattle.answers.specs.declared.Check.the-variants.{Passed, Refused}
 use Rattle.line.specs.Line.{Line}
 use Rattle.kerning.specs.Additions.{addAll}
 use Rattle.kerning.specs.Line.{kerningTests}
-use Rattle.kerning_lists.specs.Walk.{heads, visited, walkAnswer, listBytes}
+use Rattle.kerning_lists.specs.Walk.{headsFrom, visited, walkAnswer, listBytes}
 use Rattle.kerning_lists.specs.Run.{zeros, contributions, usedPart, runTests}
 use Rattle.kerning_lists.proofs.Calls.{Works, RunIs, call-refused, call-passed, run-refused, run-passed, ran-is}
 use Rattle.kern.specs.Heads.{headAt, listOf, walkOf}
@@ -46,19 +46,19 @@ pub record PartIs (bytes glyphs : List ℕ) (n : ℕ) (answer : Answer) (read : 
   pub leaves : after ≡ usedPart (walkOf bytes) (adds bytes (listOf bytes .version) n) glyphs n
 
 pub part-is : (bytes glyphs : List ℕ) (n : ℕ) {list : KernList} {start after : List ℤ} {answer : Answer} {read used : ℕ} → start ≡ zeros n → used ≡ n → list ≡ listOf bytes
-    → answer ≡ walkAnswer (heads (headAt bytes (list .version)) (list .count) (list .first))
-    → read ≡ length (visited (heads (headAt bytes (list .version)) (list .count) (list .first)))
-    → after ≡ addAll (contributions (adds bytes (list .version) used) glyphs used (visited (heads (headAt bytes (list .version)) (list .count) (list .first)))) start
+    → answer ≡ walkAnswer (headsFrom (headAt bytes (list .version)) (list .count) (list .first))
+    → read ≡ length (visited (headsFrom (headAt bytes (list .version)) (list .count) (list .first)))
+    → after ≡ addAll (contributions (adds bytes (list .version) used) glyphs used (visited (headsFrom (headAt bytes (list .version)) (list .count) (list .first)))) start
     → PartIs bytes glyphs n answer read after
 unfolding walkOf usedPart
 part-is bytes glyphs n {list} {start} {after} {answer} {read} {used} z u l a r p =
     record {
-      answers = a ∙ ap (λ (x : KernList). walkAnswer (heads (headAt bytes (x .version)) (x .count) (x .first))) l;
-      counts = r ∙ ap (λ (x : KernList). length (visited (heads (headAt bytes (x .version)) (x .count) (x .first)))) l;
+      answers = a ∙ ap (λ (x : KernList). walkAnswer (headsFrom (headAt bytes (x .version)) (x .count) (x .first))) l;
+      counts = r ∙ ap (λ (x : KernList). length (visited (headsFrom (headAt bytes (x .version)) (x .count) (x .first)))) l;
       leaves =
           p
-          ∙ ap (λ (m : ℕ). addAll (contributions (adds bytes (list .version) m) glyphs m (visited (heads (headAt bytes (list .version)) (list .count) (list .first)))) start) u
-          ∙ ap₂ (λ (x : KernList) (y : List ℤ). addAll (contributions (adds bytes (x .version) n) glyphs n (visited (heads (headAt bytes (x .version)) (x .count) (x .first)))) y) l z;
+          ∙ ap (λ (m : ℕ). addAll (contributions (adds bytes (list .version) m) glyphs m (visited (headsFrom (headAt bytes (list .version)) (list .count) (list .first)))) start) u
+          ∙ ap₂ (λ (x : KernList) (y : List ℤ). addAll (contributions (adds bytes (x .version) n) glyphs n (visited (headsFrom (headAt bytes (x .version)) (x .count) (x .first)))) y) l z;
     }
 
 -- a whole run

@@ -14,7 +14,7 @@ use Rattle.parse.specs.declared.ReadU16.the-variants as U16
 use Rattle.parse.specs.declared.ReadU32.{ReadU32}
 use Rattle.parse.specs.declared.ReadU32.the-variants as U32
 use Rattle.parse.proofs.Laws.{readU16-short}
-use Rattle.kerning_lists.specs.Walk.{u16OrZero, heads, listBytes}
+use Rattle.kerning_lists.specs.Walk.{u16OrZero, headsFrom, listBytes}
 use Rattle.kerning_lists.specs.Cursors.{cursor, followed, moved}
 use Rattle.kerning_lists.proofs.Cursors.{followed-heads, mapHead, heads-mapped}
 use Rattle.kern.specs.Heads.{oldSubtable, newSubtable, headIn, headAt, listOf, walkOf}
@@ -69,12 +69,12 @@ module _ (table : List ℕ) (start : ℕ) where
   unfolding listOf
   none-counted d = rw (d, readU16-short [] 0 (omega arith), readU16-short [] 2 (omega arith))
 
-  walk-there : heads (headAt table (list .version)) (list .count) (start + list .first) ≡ map (moved start) (walkOf bytes)
-  unfolding listBytes walkOf heads
+  walk-there : headsFrom (headAt table (list .version)) (list .count) (start + list .first) ≡ map (moved start) (walkOf bytes)
+  unfolding listBytes walkOf headsFrom
   walk-there = go (eqb start 0) refl
     where
-      go : (t : Bool) → eqb start 0 ≡ t → heads (headAt table (list .version)) (list .count) (start + list .first) ≡ map (moved start) (walkOf bytes)
-      go true p = let d : bytes ≡ [] = rw p in rw (none-counted d, walkOf, heads)
+      go : (t : Bool) → eqb start 0 ≡ t → headsFrom (headAt table (list .version)) (list .count) (start + list .first) ≡ map (moved start) (walkOf bytes)
+      go true p = let d : bytes ≡ [] = rw p in rw (none-counted d, walkOf, headsFrom)
       go false p =
           let d : bytes ≡ drop start table = rw p in
           heads-mapped (headAt bytes (list .version)) (headAt table (list .version)) (moved start) (λ at. start + at) (λ s. refl) (head-there d) (list .count) (list .first)

@@ -22,7 +22,7 @@ use Rattle.pairs.specs.declared.PairReply.{PairReply}
 use Rattle.pairs.specs.declared.PairTable.the-variants.{Ordered}
 use Rattle.pairs.specs.declared.Opened.the-variants.{Ready}
 use Rattle.pairs.proofs.Manual.{ordered-as-manual}
-use Rattle.kerning_lists.specs.Walk.{heads}
+use Rattle.kerning_lists.specs.Walk.{headsFrom}
 use Rattle.kerning_lists.specs.Manual.{told, NoneInPart, AsManual}
 use Rattle.kerning_lists.specs.declared.Subtable.{Subtable}
 use Rattle.kerning_lists.specs.declared.Head.the-variants.{At, Cut}
@@ -92,7 +92,7 @@ pub kern-as-manual : (edition : Edition) (bytes : List ℕ) → HasVersion editi
 unfolding walkOf
 kern-as-manual edition bytes v h whole =
     subst (AsManual bytes (headBytes edition) (subtableAt edition bytes) (lengthAt edition bytes) (firstOf edition) (countOf edition bytes))
-    (let e : heads (headAt bytes (versionNumber edition)) (countOf edition bytes) (firstOf edition) ≡ walkOf bytes = rw (list-is bytes edition v h, walkOf) in e)
+    (let e : headsFrom (headAt bytes (versionNumber edition)) (countOf edition bytes) (firstOf edition) ≡ walkOf bytes = rw (list-is bytes edition v h, walkOf) in e)
     (walk-as-manual bytes 6 (headBytes edition) (subtableAt edition bytes) (six-or-more edition) (λ at. told-same bytes at edition) whole
     (walk-read (headAt bytes (versionNumber edition)) (λ at. at + 6 ≤ length bytes) (readAt edition bytes) (lengthAt edition bytes)
     (λ at. behind bytes at edition) (λ at. head-reads bytes at edition) (λ at. head-only bytes at edition) (firstOf edition) (countOf edition bytes)))

@@ -8,7 +8,7 @@ use lib.Dec.{eqb}
 use lib.IntN.{ℤ}
 use lib.ListN.{drop}
 use borrow.Author.Tests.{eq-eqb, ne-eqb}
-use Rattle.answers.specs.Limits.{room}
+use Rattle.answers.specs.Limits.{roomLimit}
 use Rattle.answers.specs.declared.Answer.{Answer}
 use Rattle.answers.specs.declared.Answer.the-variants as Answer′
 use Rattle.answers.specs.declared.Refusal.the-variants as Refusal′
@@ -66,7 +66,7 @@ module _ (bytes : List ℕ) (version : ℕ) (glyphs : List ℕ) (used : ℕ) (be
   passes-by f w = works-same (rw (sym e ∙ f)) w
 
 -- whatever the format, little is added
-pub worked-little : (bytes : List ℕ) (version format : ℕ) (glyphs : List ℕ) (used b : ℕ) (along : List ℤ) → used ≤ room → Within b along
+pub worked-little : (bytes : List ℕ) (version format : ℕ) (glyphs : List ℕ) (used b : ℕ) (along : List ℤ) → used ≤ roomLimit → Within b along
     → Within (b + 2 ^ 39) (addAll (worked bytes version format glyphs used .additions) along)
 unfolding worked
 worked-little bytes version format glyphs used b along h w = go (eqb format 0) (eqb format 1)

@@ -8,7 +8,7 @@ use Rattle.laws.specs.Choose.{ifEq}
 use Rattle.parse.specs.Reads.{readU16, readU32}
 use Rattle.parse.specs.Use.{onU16, onU32}
 use Rattle.laws.specs.Bits.{isSet}
-use Rattle.kerning_lists.specs.Walk.{u16OrZero, u32OrZero, heads}
+use Rattle.kerning_lists.specs.Walk.{u16OrZero, u32OrZero, headsFrom}
 use Rattle.kerning_lists.specs.declared.Subtable.{Subtable}
 use Rattle.kerning_lists.specs.declared.Head.{Head}
 use Rattle.kerning_lists.specs.declared.Head.the-variants.{At, Cut}
@@ -55,4 +55,4 @@ listOf bytes =
 
 -- the walk of the list
 unfoldable pub walkOf : List ℕ → List Subtable
-walkOf bytes = heads (headAt bytes (listOf bytes .version)) (listOf bytes .count) (listOf bytes .first)
+walkOf bytes = headsFrom (headAt bytes (listOf bytes .version)) (listOf bytes .count) (listOf bytes .first)

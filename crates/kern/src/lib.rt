@@ -13,11 +13,11 @@ ghost use mathlib.Core.Path.{_≡_};
 ghost use mathlib.Core.Bool.{false};
 ghost use Prim.Native.Nat.{_<_, _≤_, _^_};
 ghost use lib.ListN.{length};
-ghost use Rattle.answers.specs.Limits.{room};
+ghost use Rattle.answers.specs.Limits.{roomLimit};
 ghost use Rattle.line.specs.Line.{lineOf};
 ghost use Rattle.kerning.specs.Additions.{addAll};
 ghost use Rattle.kerning.specs.Bounds.{Within};
-ghost use Rattle.kerning_lists.specs.Walk.{walkAnswer, visited, heads};
+ghost use Rattle.kerning_lists.specs.Walk.{walkAnswer, visited, headsFrom};
 ghost use Rattle.kerning_lists.specs.Run.{contribution, contributions, usedPart};
 ghost use Rattle.kern.specs.Heads.{oldSubtable, newSubtable, headIn, headAt, listOf, walkOf};
 ghost use Rattle.kern.specs.Cursors.{listFrom, listCall, subtableCall};
@@ -162,7 +162,7 @@ fn work(
     used: usize,
     along: &mut [i64],
 ) -> Answer
-    requires { ⌜ (used ≤ length (now glyphs)) × (used ≤ length (now along)) × (used ≤ room) × Within (2 ^ 60) (now along) ⌝ }
+    requires { ⌜ (used ≤ length (now glyphs)) × (used ≤ length (now along)) × (used ≤ roomLimit) × Within (2 ^ 60) (now along) ⌝ }
     ensures answer { λ r. ⌜ r ≡ worked (now (bytes .entry)) version format (now (glyphs .entry)) used .answer ⌝ }
     ensures along { λ _. ⌜ now (along .exit) ≡ addAll (worked (now (bytes .entry)) version format (now (glyphs .entry)) used .additions) (now (along .entry)) ⌝ }
 {
@@ -209,7 +209,7 @@ fn visit(
     used: usize,
     along: &mut [i64],
 )
-    requires { ⌜ (used ≤ length (now glyphs)) × (used ≤ length (now along)) × (used ≤ room) × Within (2 ^ 60) (now along) × (subtable .turned ≡ false) ⌝ }
+    requires { ⌜ (used ≤ length (now glyphs)) × (used ≤ length (now along)) × (used ≤ roomLimit) × Within (2 ^ 60) (now along) × (subtable .turned ≡ false) ⌝ }
     ensures { λ _. ⌜ now (along .exit) ≡ addAll (contribution (adds (now (bytes .entry)) version used) (now (glyphs .entry)) used subtable) (now (along .entry)) ⌝ }
 {
     if subtable.passed_over {
@@ -221,10 +221,10 @@ fn visit(
 
 // The subtables one after the other, from the first on.
 fn run_list(bytes: &[u8], list: List, glyphs: &[u16], used: usize, along: &mut [i64]) -> Run
-    requires { ⌜ (used ≤ length (now glyphs)) × (used ≤ length (now along)) × (used ≤ room) × Within 0 (now along) ⌝ }
-    ensures answer { λ r. ⌜ r .answer ≡ walkAnswer (heads (headAt (now (bytes .entry)) (list .version)) (list .count) (list .first)) ⌝ }
-    ensures heads { λ r. ⌜ r .heads ≡ length (visited (heads (headAt (now (bytes .entry)) (list .version)) (list .count) (list .first))) ⌝ }
-    ensures along { λ _. ⌜ now (along .exit) ≡ addAll (contributions (adds (now (bytes .entry)) (list .version) used) (now (glyphs .entry)) used (visited (heads (headAt (now (bytes .entry)) (list .version)) (list .count) (list .first)))) (now (along .entry)) ⌝ }
+    requires { ⌜ (used ≤ length (now glyphs)) × (used ≤ length (now along)) × (used ≤ roomLimit) × Within 0 (now along) ⌝ }
+    ensures answer { λ r. ⌜ r .answer ≡ walkAnswer (headsFrom (headAt (now (bytes .entry)) (list .version)) (list .count) (list .first)) ⌝ }
+    ensures heads { λ r. ⌜ r .heads ≡ length (visited (headsFrom (headAt (now (bytes .entry)) (list .version)) (list .count) (list .first))) ⌝ }
+    ensures along { λ _. ⌜ now (along .exit) ≡ addAll (contributions (adds (now (bytes .entry)) (list .version) used) (now (glyphs .entry)) used (visited (headsFrom (headAt (now (bytes .entry)) (list .version)) (list .count) (list .first)))) (now (along .entry)) ⌝ }
 {
     let mut heads = 0;
     let mut left = list.count;
@@ -255,7 +255,7 @@ fn run_list(bytes: &[u8], list: List, glyphs: &[u16], used: usize, along: &mut [
 
 // The used adjustments, zeroed first, with what the list's subtables add.
 fn run_part(bytes: &[u8], glyphs: &[u16], along: &mut [i64]) -> Run
-    requires { ⌜ (length (now along) ≤ length (now glyphs)) × (length (now along) ≤ room) ⌝ }
+    requires { ⌜ (length (now along) ≤ length (now glyphs)) × (length (now along) ≤ roomLimit) ⌝ }
     ensures answer { λ r. ⌜ r .answer ≡ walkAnswer (walkOf (now (bytes .entry))) ⌝ }
     ensures heads { λ r. ⌜ r .heads ≡ length (visited (walkOf (now (bytes .entry)))) ⌝ }
     ensures along { λ _. ⌜ now (along .exit) ≡ usedPart (walkOf (now (bytes .entry))) (adds (now (bytes .entry)) (listOf (now (bytes .entry)) .version) (length (now (along .entry)))) (now (glyphs .entry)) (length (now (along .entry))) ⌝ }
@@ -302,7 +302,7 @@ pub fn run(
 
 // The pass by the subtable that begins with `bytes`, its head included.
 fn pass_in(bytes: &[u8], version: u16, glyphs: &[u16], used: usize, along: &mut [i64]) -> Answer
-    requires { ⌜ (used ≤ length (now glyphs)) × (used ≤ length (now along)) × (used ≤ room) × Within (2 ^ 60) (now along) ⌝ }
+    requires { ⌜ (used ≤ length (now glyphs)) × (used ≤ length (now along)) × (used ≤ roomLimit) × Within (2 ^ 60) (now along) ⌝ }
     ensures answer { λ r. ⌜ r ≡ passed (now (bytes .entry)) version (now (glyphs .entry)) used .answer ⌝ }
     ensures along { λ _. ⌜ now (along .exit) ≡ addAll (passed (now (bytes .entry)) version (now (glyphs .entry)) used .additions) (now (along .entry)) ⌝ }
 {

@@ -19,7 +19,7 @@ use Rattle.kerning.specs.Lists.{amountOf, ruled, numberAt, Walk, leaves, before
 use Rattle.kerning.specs.declared.lists.Rule.the-variants.{Odd}
 use Rattle.kerning.specs.declared.lists.Number.{Number}
 use Rattle.kerning.specs.declared.lists.Number.the-variants.{Last, More}
-use Rattle.kerning_machine.specs.Machine.{kernStart, followed}
+use Rattle.kerning_machine.specs.Machine.{kernStart, walkedFrom}
 use Rattle.kerning_machine.specs.declared.Reading.the-variants.{Kern}
 use Rattle.kerning_machine.specs.declared.Start.{Start}
 use Rattle.kerning_machine.specs.declared.Start.the-variants as Start′
@@ -166,13 +166,13 @@ module _ (bytes : List ℕ) (crossed : Bool) (list : ℕ) (stack : List ℕ) (de
       (subst (λ (p : ℕ). walked depth p .left .ended ≡ false) (let e : list ≡ place 0 = omega arith in e) f)
 
 pub list-as-manual : (bytes : List ℕ) (crossed : Bool) (flags : ℕ) (stack : List ℕ) (depth used : ℕ) → WholeList bytes crossed flags stack depth used
-unfolding followed kernStart walked
+unfolding walkedFrom kernStart walked
 list-as-manual bytes crossed flags stack depth used =
     record {
-      none = λ e. rw (eq-eqb (listPlace flags) 0 e, kernStart, followed);
-      there = λ h count pops. rw (ne-eqb (listPlace flags) 0 (λ e. omega (arith, e, h)), kernStart, followed) (all-numbers bytes crossed (listPlace flags) stack depth used count pops);
+      none = λ e. rw (eq-eqb (listPlace flags) 0 e, kernStart, walkedFrom);
+      there = λ h count pops. rw (ne-eqb (listPlace flags) 0 (λ e. omega (arith, e, h)), kernStart, walkedFrom) (all-numbers bytes crossed (listPlace flags) stack depth used count pops);
       found = λ h f.
           count-found bytes crossed (listPlace flags) stack depth used
           (let e : kernStart flags ≡ Start′.At (listPlace flags) = rw (ne-eqb (listPlace flags) 0 (λ e. omega (arith, e, h)), kernStart) in
-          subst (λ (s : Start). followed bytes (Kern crossed) s stack depth used .left .ended ≡ false) e f);
+          subst (λ (s : Start). walkedFrom bytes (Kern crossed) s stack depth used .left .ended ≡ false) e f);
     }

@@ -24,8 +24,8 @@ abbrev pub headSize : (version : ℕ) → ℕ
 headSize version = ifEq version 0 6 8
 
 -- coverage, 16 bits at 4, has the format in its high byte, or in its low one
-unfoldable pub formatOf : (version coverage : ℕ) → ℕ
-formatOf version coverage = ifEq version 0 (coverage / 256) (coverage % 256)
+unfoldable pub coverageFormat : (version coverage : ℕ) → ℕ
+coverageFormat version coverage = ifEq version 0 (coverage / 256) (coverage % 256)
 
 -- and says whether the subtable goes across the stream
 unfoldable pub isCrossed : (version coverage : ℕ) → Bool
@@ -42,7 +42,7 @@ onMade Made′.Short version coverage = Short
 -- the machine of a subtable of format 1, where its head and the state table's own can be read
 unfoldable pub opened : List ℕ → (version : ℕ) → Opened
 opened bytes version =
-    onU16 (readU16 bytes 4) (λ coverage. ifEq (formatOf version coverage) 1 (onMade (classicAt (bodyOf bytes version)) version coverage) Short) Short
+    onU16 (readU16 bytes 4) (λ coverage. ifEq (coverageFormat version coverage) 1 (onMade (classicAt (bodyOf bytes version)) version coverage) Short) Short
 
 -- the pass by the subtable whose bytes begin at its head
 unfoldable pub worked : List ℕ → (version : ℕ) → (glyphs : List ℕ) → (used : ℕ) → Kerned

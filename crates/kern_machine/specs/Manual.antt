@@ -12,7 +12,7 @@ use Rattle.laws.specs.Signed.{signed16}
 use Rattle.parse.specs.Reads.{u16At}
 use Rattle.kerning.specs.Additions.{Addition, additionsAt}
 use Rattle.kerning.specs.Lists.{Walk, leaves}
-use Rattle.kerning_machine.specs.Machine.{kernStart, followed}
+use Rattle.kerning_machine.specs.Machine.{kernStart, walkedFrom}
 use Rattle.kerning_machine.specs.declared.Reading.the-variants.{Kern}
 
 -- a list begins at a byte offset from the state table on, and its numbers, of 16 bits, follow one another
@@ -55,7 +55,7 @@ listAdds bytes crossed list stack depth used (suc k) =
 
 -- what the crate's machine makes of an entry's list, in a subtable along the stream or across it
 abbrev pub listed : List ℕ → (crossed : Bool) → (flags : ℕ) → (stack : List ℕ) → (depth used : ℕ) → Walk
-listed bytes crossed flags stack depth used = followed bytes (Kern crossed) (kernStart flags) stack depth used
+listed bytes crossed flags stack depth used = walkedFrom bytes (Kern crossed) (kernStart flags) stack depth used
 
 -- it adds just what the manual's list does, and the step ends early exactly when a number that is to pop a place does not lie in the table. Behind a
 -- list the crate drops what is left of the stack, which the manual doesn't

@@ -7,7 +7,7 @@ use native.Mathlib.Omega.{arith}
 use lib.IntN.{ℤ}
 use lib.ListN.{length, take, drop}
 use lib.Seq.{length-take-le}
-use Rattle.answers.specs.Limits.{room}
+use Rattle.answers.specs.Limits.{roomLimit}
 use Rattle.answers.specs.Refuse.{Test, refuse}
 use Rattle.answers.specs.declared.Refusal.{Refusal}
 use Rattle.answers.specs.declared.Answer.{Answer}
@@ -31,7 +31,7 @@ pub record Ready (glyphs tags : List ℕ) (used : ℕ) (along : List ℤ) : Type
   pub inside : used ≤ length glyphs
   pub tagged : used ≤ length tags
   pub long : used ≤ length along
-  pub limited : used ≤ room
+  pub limited : used ≤ roomLimit
 
 ready-of : (glyphs tags homes : List ℕ) (used : ℕ) (along : List ℤ) → Kernable (lineOf glyphs tags homes used) along → Ready glyphs tags used along
 ready-of glyphs tags homes used along k =
@@ -115,14 +115,14 @@ unfolding ranOver
 ran-is walk work glyphs used along a r p = record { answers = a; counts = r; leaves = ap (λ (x : List ℤ). x ++ drop used along) p }
 
 -- so many zeroed adjustments may be run over
-pub zeroed-ready : {n m : ℕ} {zero : List ℤ} → zero ≡ zeros n → n ≤ m → n ≤ room
-    → (length zero ≤ m) × (length zero ≤ length zero) × (length zero ≤ room) × Within 0 zero
+pub zeroed-ready : {n m : ℕ} {zero : List ℤ} → zero ≡ zeros n → n ≤ m → n ≤ roomLimit
+    → (length zero ≤ m) × (length zero ≤ length zero) × (length zero ≤ roomLimit) × Within 0 zero
 zeroed-ready {n} {m} {zero} e h k =
     let long : length zero ≡ n = ap length e ∙ length-zeros n in
     (omega arith, omega arith, omega arith, subst (Within 0) (sym e) (zeros-within n))
 
-pub zeroed-ready-line : {n m k : ℕ} {zero : List ℤ} → zero ≡ zeros n → n ≤ m → n ≤ k → n ≤ room
-    → (length zero ≤ m) × (length zero ≤ k) × (length zero ≤ length zero) × (length zero ≤ room) × Within 0 zero
+pub zeroed-ready-line : {n m k : ℕ} {zero : List ℤ} → zero ≡ zeros n → n ≤ m → n ≤ k → n ≤ roomLimit
+    → (length zero ≤ m) × (length zero ≤ k) × (length zero ≤ length zero) × (length zero ≤ roomLimit) × Within 0 zero
 zeroed-ready-line {n} {m} {k} {zero} e h i j =
     let long : length zero ≡ n = ap length e ∙ length-zeros n in
     (omega arith, omega arith, omega arith, omega arith, subst (Within 0) (sym e) (zeros-within n))
@@ -138,8 +138,8 @@ module _ (glyphs tags : List ℕ) (used : ℕ) (along : List ℤ) (r : Ready gly
   lent-is : length lent ≡ used
   lent-is = length-take-le used along (r .long)
 
-  pub lent-ready : (length lent ≤ length glyphs) × (length lent ≤ room)
+  pub lent-ready : (length lent ≤ length glyphs) × (length lent ≤ roomLimit)
   lent-ready = (omega (arith, lent-is, r .inside), omega (arith, lent-is, r .limited))
 
-  pub lent-ready-line : (length lent ≤ length glyphs) × (length lent ≤ length tags) × (length lent ≤ room)
+  pub lent-ready-line : (length lent ≤ length glyphs) × (length lent ≤ length tags) × (length lent ≤ roomLimit)
   lent-ready-line = (omega (arith, lent-is, r .inside), omega (arith, lent-is, r .tagged), omega (arith, lent-is, r .limited))

@@ -11,7 +11,7 @@ use Rattle.answers.specs.declared.Refusal.{Refusal}
 use Rattle.answers.specs.declared.Refusal.the-variants as Refusal′
 use Rattle.answers.specs.declared.Check.{Check}
 use Rattle.answers.specs.declared.Check.the-variants.{Passed, Refused}
-use Rattle.kerning_lists.specs.Walk.{heads}
+use Rattle.kerning_lists.specs.Walk.{headsFrom}
 use Rattle.kerning_lists.specs.Run.{startTest}
 use Rattle.kerning_lists.specs.Cursors.{cursor, nextBy, followed, listTests}
 use Rattle.kerning_lists.specs.declared.Subtable.{Subtable}
@@ -51,8 +51,8 @@ module _ (headOf : (version place : ℕ) → Head) where
   abbrev next : Cursor → NextSubtable
   next c = nextBy (headOf (c .version) (c .place)) c
 
-  pub followed-heads : (version left place : ℕ) → followed next left (cursor place left version) ≡ heads (headOf version) left place
-  unfolding followed heads nextBy
+  pub followed-heads : (version left place : ℕ) → followed next left (cursor place left version) ≡ headsFrom (headOf version) left place
+  unfolding followed headsFrom nextBy
   followed-heads version zero place = refl
   followed-heads version (suc left) place = go (headOf version place) refl (followed-heads version left)
     where
@@ -62,14 +62,14 @@ module _ (headOf : (version place : ℕ) → Head) where
       left-behind : suc left - 1 ≡ left
       left-behind = omega arith
 
-      go : (head : Head) → headOf version place ≡ head → ((at : ℕ) → followed next left (cursor at left version) ≡ heads (headOf version) left at)
-          → followed next (suc left) (cursor place (suc left) version) ≡ heads (headOf version) (suc left) place
+      go : (head : Head) → headOf version place ≡ head → ((at : ℕ) → followed next left (cursor at left version) ≡ headsFrom (headOf version) left at)
+          → followed next (suc left) (cursor place (suc left) version) ≡ headsFrom (headOf version) (suc left) place
       go (At s) e more =
           let one : next (cursor place (suc left) version) ≡ Next′.At s (cursor (s .next) left version) = rw (ne-eqb (suc left) 0 is-more, e, left-behind, nextBy) in
-          rw (one, e, followed, heads) (ap (λ (walk : List Subtable). s ∷ walk) (more (s .next)))
+          rw (one, e, followed, headsFrom) (ap (λ (walk : List Subtable). s ∷ walk) (more (s .next)))
       go Cut e more =
           let none : next (cursor place (suc left) version) ≡ Next′.End = rw (ne-eqb (suc left) 0 is-more, e, nextBy) in
-          rw (none, e, followed, heads)
+          rw (none, e, followed, headsFrom)
 
 -- a head, if its subtable is told by a rule
 abbrev pub mapHead : (Subtable → Subtable) → Head → Head
@@ -79,13 +79,13 @@ mapHead f Cut = Cut
 -- heads that are the same but for f, at places of their own, make the same walk but for f
 module _ (near far : ℕ → Head) (f : Subtable → Subtable) (place : ℕ → ℕ) (follows : (s : Subtable) → f s .next ≡ place (s .next))
     (same : (at : ℕ) → far (place at) ≡ mapHead f (near at)) where
-  pub heads-mapped : (left at : ℕ) → heads far left (place at) ≡ map f (heads near left at)
-  unfolding heads
+  pub heads-mapped : (left at : ℕ) → headsFrom far left (place at) ≡ map f (headsFrom near left at)
+  unfolding headsFrom
   heads-mapped zero at = refl
   heads-mapped (suc left) at = go (near at) refl (heads-mapped left)
     where
-      go : (head : Head) → near at ≡ head → ((on : ℕ) → heads far left (place on) ≡ map f (heads near left on))
-          → heads far (suc left) (place at) ≡ map f (heads near (suc left) at)
+      go : (head : Head) → near at ≡ head → ((on : ℕ) → headsFrom far left (place on) ≡ map f (headsFrom near left on))
+          → headsFrom far (suc left) (place at) ≡ map f (headsFrom near (suc left) at)
       go (At s) e more =
-          rw (same at, e, heads) (ap (λ (walk : List Subtable). f s ∷ walk) (ap (heads far left) (follows s) ∙ more (s .next)))
-      go Cut e more = rw (same at, e, heads)
+          rw (same at, e, headsFrom) (ap (λ (walk : List Subtable). f s ∷ walk) (ap (headsFrom far left) (follows s) ∙ more (s .next)))
+      go Cut e more = rw (same at, e, headsFrom)

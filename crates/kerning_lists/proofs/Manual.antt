@@ -4,7 +4,7 @@ use mathlib.Core.Path.{_≡_, refl, sym, _∙_, ap, subst}
 use mathlib.Core.List.{List, [], _∷_}
 use native.Mathlib.Omega.{arith}
 use lib.ListN.{length, getD}
-use Rattle.kerning_lists.specs.Walk.{onHead, heads}
+use Rattle.kerning_lists.specs.Walk.{onHead, headsFrom}
 use Rattle.kerning_lists.specs.Manual.{Told, told, beginsAt, AsManual, NoneInPart}
 use Rattle.kerning_lists.specs.declared.Subtable.{Subtable}
 use Rattle.kerning_lists.specs.declared.Head.{Head}
@@ -26,46 +26,46 @@ module _ (headAt : ℕ → Head) (HeadLies : ℕ → Type 0) (subtableAt : ℕ �
     (behind : (at : ℕ) → subtableAt at .next ≡ at + lengthAt at)
     (reads : (at : ℕ) → HeadLies at → headAt at ≡ At (subtableAt at))
     (only : (at : ℕ) (s : Subtable) → headAt at ≡ At s → HeadLies at) where
-  walk-on : (left at : ℕ) → HeadLies at → heads headAt (suc left) at ≡ subtableAt at ∷ heads headAt left (at + lengthAt at)
-  unfolding heads
-  walk-on left at h = rw (reads at h, heads, behind at)
+  walk-on : (left at : ℕ) → HeadLies at → headsFrom headAt (suc left) at ≡ subtableAt at ∷ headsFrom headAt left (at + lengthAt at)
+  unfolding headsFrom
+  walk-on left at h = rw (reads at h, headsFrom, behind at)
 
-  head-lies : (left at k : ℕ) → k < length (heads headAt (suc left) at) → HeadLies at
-  unfolding heads
+  head-lies : (left at k : ℕ) → k < length (headsFrom headAt (suc left) at) → HeadLies at
+  unfolding headsFrom
   head-lies left at k h = go (headAt at) refl
     where
       go : (head : Head) → headAt at ≡ head → HeadLies at
       go (At s) e = only at s e
-      go Cut e = let none : heads headAt (suc left) at ≡ [] = rw (e, heads) in absurd (omega (arith, h, ap length none))
+      go Cut e = let none : headsFrom headAt (suc left) at ≡ [] = rw (e, headsFrom) in absurd (omega (arith, h, ap length none))
 
   -- behind the first head
-  later : (left at k : ℕ) → suc k < length (heads headAt (suc left) at) → k < length (heads headAt left (at + lengthAt at))
+  later : (left at k : ℕ) → suc k < length (headsFrom headAt (suc left) at) → k < length (headsFrom headAt left (at + lengthAt at))
   later left at k h =
       let n = ap length (walk-on left at (head-lies left at (suc k) h)) in
       omega (arith, h, n)
 
-  begins′ : (count at k : ℕ) → k < length (heads headAt count at) → (other : Subtable)
-      → getD (heads headAt count at) k other ≡ subtableAt (beginsAt lengthAt at k)
-  unfolding beginsAt heads
+  begins′ : (count at k : ℕ) → k < length (headsFrom headAt count at) → (other : Subtable)
+      → getD (headsFrom headAt count at) k other ≡ subtableAt (beginsAt lengthAt at k)
+  unfolding beginsAt headsFrom
   begins′ zero at k h other = absurd (omega (arith, h))
   begins′ (suc left) at zero h other = ap (λ (w : List Subtable). getD w 0 other) (walk-on left at (head-lies left at 0 h))
   begins′ (suc left) at (suc k) h other =
       ap (λ (w : List Subtable). getD w (suc k) other) (walk-on left at (head-lies left at (suc k) h))
       ∙ begins′ left (at + lengthAt at) k (later left at k h) other
 
-  counted′ : (count at k : ℕ) → k < length (heads headAt count at) → k < count
-  unfolding heads
+  counted′ : (count at k : ℕ) → k < length (headsFrom headAt count at) → k < count
+  unfolding headsFrom
   counted′ zero at k h = absurd (omega (arith, h))
   counted′ (suc left) at zero h = omega arith
   counted′ (suc left) at (suc k) h = let c = counted′ left (at + lengthAt at) k (later left at k h) in omega (arith, c)
 
-  lies′ : (count at k : ℕ) → k < length (heads headAt count at) → HeadLies (beginsAt lengthAt at k)
-  unfolding beginsAt heads
+  lies′ : (count at k : ℕ) → k < length (headsFrom headAt count at) → HeadLies (beginsAt lengthAt at k)
+  unfolding beginsAt headsFrom
   lies′ zero at k h = absurd (omega (arith, h))
   lies′ (suc left) at zero h = head-lies left at 0 h
   lies′ (suc left) at (suc k) h = lies′ left (at + lengthAt at) k (later left at k h)
 
-  there′ : (count at k : ℕ) → k < count → ((j : ℕ) → j ≤ k → HeadLies (beginsAt lengthAt at j)) → k < length (heads headAt count at)
+  there′ : (count at k : ℕ) → k < count → ((j : ℕ) → j ≤ k → HeadLies (beginsAt lengthAt at j)) → k < length (headsFrom headAt count at)
   unfolding beginsAt
   there′ zero at k h all = absurd (omega (arith, h))
   there′ (suc left) at zero h all = let n = ap length (walk-on left at (all 0 (omega arith))) in omega (arith, n)
@@ -74,7 +74,7 @@ module _ (headAt : ℕ → Head) (HeadLies : ℕ → Type 0) (subtableAt : ℕ �
       let more = there′ left (at + lengthAt at) k (omega (arith, h)) (λ j le. all (suc j) (omega (arith, le))) in
       omega (arith, n, more)
 
-  pub walk-read : (first count : ℕ) → Walked HeadLies subtableAt lengthAt first count (heads headAt count first)
+  pub walk-read : (first count : ℕ) → Walked HeadLies subtableAt lengthAt first count (headsFrom headAt count first)
   walk-read first count =
       record { begins = begins′ count first; counted = counted′ count first; lies = lies′ count first; there = there′ count first }
 

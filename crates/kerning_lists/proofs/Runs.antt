@@ -15,7 +15,7 @@ use Rattle.answers.specs.declared.Answer.the-variants as Answer′
 use Rattle.kerning.specs.Additions.{Addition, addAll}
 use Rattle.kerning.specs.Bounds.{Within}
 use Rattle.kerning.proofs.Adding.{addAll-none, addAll-append, length-addAll, within-more}
-use Rattle.kerning_lists.specs.Walk.{heads, visited, walkAnswer}
+use Rattle.kerning_lists.specs.Walk.{headsFrom, visited, walkAnswer}
 use Rattle.kerning_lists.specs.Run.{turnedBack, contribution, contributions}
 use Rattle.kerning_lists.specs.declared.Subtable.{Subtable}
 use Rattle.kerning_lists.specs.declared.Head.{Head}
@@ -64,8 +64,8 @@ module _ (work : Subtable → List ℕ → List Addition) (glyphs : List ℕ) (u
     -- `read` heads are counted, and at most `left` follow from a place on
     pub record Running (along : List ℤ) (read left at : ℕ) : Type 0 where
       pub within : read ≤ headLimit
-      pub counted : read + length (heads headAt left at) ≡ length whole
-      pub same : addAll (contributions work glyphs used (take (headLimit - read) (heads headAt left at))) along
+      pub counted : read + length (headsFrom headAt left at) ≡ length whole
+      pub same : addAll (contributions work glyphs used (take (headLimit - read) (headsFrom headAt left at))) along
           ≡ addAll (contributions work glyphs used (visited whole)) start
       pub long : length along ≡ length start
       pub small : Within (read * 2 ^ 39) along
@@ -77,15 +77,15 @@ module _ (work : Subtable → List ℕ → List Addition) (glyphs : List ℕ) (u
       pub leaves : along ≡ addAll (contributions work glyphs used (visited whole)) start
 
     -- the walk from here on, by the head that is read
-    goes-on : (left at : ℕ) {s : Subtable} → 0 < left → headAt at ≡ At s → heads headAt left at ≡ s ∷ heads headAt (left - 1) (s .next)
-    unfolding heads
+    goes-on : (left at : ℕ) {s : Subtable} → 0 < left → headAt at ≡ At s → headsFrom headAt left at ≡ s ∷ headsFrom headAt (left - 1) (s .next)
+    unfolding headsFrom
     goes-on zero at h e = absurd (omega arith)
-    goes-on (suc left) at h e = let f : suc left - 1 ≡ left = omega arith in rw (e, f, heads)
+    goes-on (suc left) at h e = let f : suc left - 1 ≡ left = omega arith in rw (e, f, headsFrom)
 
-    ends-cut : (left at : ℕ) → headAt at ≡ Cut → heads headAt left at ≡ []
-    unfolding heads
+    ends-cut : (left at : ℕ) → headAt at ≡ Cut → headsFrom headAt left at ≡ []
+    unfolding headsFrom
     ends-cut zero at e = refl
-    ends-cut (suc left) at e = rw (e, heads)
+    ends-cut (suc left) at e = rw (e, headsFrom)
 
     module _ {along : List ℤ} {read left at : ℕ} (r : Running along read left at) where
       pub running-next : {s : Subtable} {after : List ℤ} → 0 < left → headAt at ≡ At s → read < headLimit
@@ -94,9 +94,9 @@ module _ (work : Subtable → List ℕ → List Addition) (glyphs : List ℕ) (u
       unfolding contributions
       running-next {s} {after} h e k g w =
           let on = goes-on left at h e in
-          let rest : List Subtable = heads headAt (left - 1) (s .next) in
+          let rest : List Subtable = headsFrom headAt (left - 1) (s .next) in
           let n : headLimit - read ≡ suc (headLimit - (read + 1)) = omega arith in
-          let split : take (headLimit - read) (heads headAt left at) ≡ s ∷ take (headLimit - (read + 1)) rest =
+          let split : take (headLimit - read) (headsFrom headAt left at) ≡ s ∷ take (headLimit - (read + 1)) rest =
           ap (take (headLimit - read)) on ∙ ap (λ (m : ℕ). take m (s ∷ rest)) n in
           record {
             within = omega arith;
@@ -114,7 +114,7 @@ module _ (work : Subtable → List ℕ → List Addition) (glyphs : List ℕ) (u
       pub running-limit : {s : Subtable} → 0 < left → headAt at ≡ At s → read ≡ headLimit → Ends Answer′.Limit read along
       unfolding walkAnswer visited contributions
       running-limit {s} h e k =
-          let c : read + length (s ∷ heads headAt (left - 1) (s .next)) ≡ length whole = rw (goes-on left at h e) at (r .counted) in
+          let c : read + length (s ∷ headsFrom headAt (left - 1) (s .next)) ≡ length whole = rw (goes-on left at h e) at (r .counted) in
           let more : headLimit < length whole = omega (arith, c) in
           let none : headLimit - read ≡ 0 = omega arith in
           let n : length (take headLimit whole) ≡ read = length-take headLimit whole ∙ omega (arith, more) in
@@ -123,17 +123,17 @@ module _ (work : Subtable → List ℕ → List Addition) (glyphs : List ℕ) (u
             counts = sym n;
             leaves =
                 sym (addAll-none along)
-                ∙ ap (λ (m : ℕ). addAll (contributions work glyphs used (take m (heads headAt left at))) along) (sym none)
+                ∙ ap (λ (m : ℕ). addAll (contributions work glyphs used (take m (headsFrom headAt left at))) along) (sym none)
                 ∙ r .same;
           }
 
       -- the list is at its end
-      over : heads headAt left at ≡ [] → Ends Answer′.Done read along
+      over : headsFrom headAt left at ≡ [] → Ends Answer′.Done read along
       unfolding walkAnswer visited contributions
       over e =
           let c : read + 0 ≡ length whole = rw e at (r .counted) in
           let n : length (take headLimit whole) ≡ read = length-take headLimit whole ∙ omega (arith, c, r .within) in
-          let nothing : take (headLimit - read) (heads headAt left at) ≡ [] = ap (take (headLimit - read)) e ∙ take-none (headLimit - read) in
+          let nothing : take (headLimit - read) (headsFrom headAt left at) ≡ [] = ap (take (headLimit - read)) e ∙ take-none (headLimit - read) in
           record {
             answers = rw (le-ltb headLimit (length whole) (omega (arith, c, r .within)));
             counts = sym n;
@@ -151,19 +151,19 @@ module _ (work : Subtable → List ℕ → List Addition) (glyphs : List ℕ) (u
       running-cut e = over (ends-cut left at e)
 
       pub running-done : left ≤ 0 → Ends Answer′.Done read along
-      unfolding heads
-      running-done h = let z : left ≡ 0 = omega arith in over (ap (λ (n : ℕ). heads headAt n at) z)
+      unfolding headsFrom
+      running-done h = let z : left ≡ 0 = omega arith in over (ap (λ (n : ℕ). headsFrom headAt n at) z)
 
 -- the run begins with the whole walk, from zero
 pub running-start : (work : Subtable → List ℕ → List Addition) (glyphs : List ℕ) (used : ℕ) (headAt : ℕ → Head) (count first : ℕ) (start : List ℤ)
-    → Within 0 start → Running work glyphs used headAt (heads headAt count first) start start 0 count first
+    → Within 0 start → Running work glyphs used headAt (headsFrom headAt count first) start start 0 count first
 unfolding visited
 running-start work glyphs used headAt count first start w =
     let n : headLimit - 0 ≡ headLimit = omega arith in
     record {
       within = omega arith;
       counted = omega arith;
-      same = ap (λ (m : ℕ). addAll (contributions work glyphs used (take m (heads headAt count first))) start) n;
+      same = ap (λ (m : ℕ). addAll (contributions work glyphs used (take m (headsFrom headAt count first))) start) n;
       long = refl;
       small = within-more (omega arith) w;
     }

@@ -28,9 +28,9 @@ onHead (At subtable) use-it otherwise = use-it subtable
 onHead Cut use-it otherwise = otherwise
 
 -- the heads of a list: as many as it counts, the first at a place and each other where the one before says; a head that can't be read ends it
-unfoldable pub heads : (headAt : ℕ → Head) → (count at : ℕ) → List Subtable
-heads headAt zero at = []
-heads headAt (suc left) at = onHead (headAt at) (λ subtable. subtable ∷ heads headAt left (subtable .next)) []
+unfoldable pub headsFrom : (headAt : ℕ → Head) → (count at : ℕ) → List Subtable
+headsFrom headAt zero at = []
+headsFrom headAt (suc left) at = onHead (headAt at) (λ subtable. subtable ∷ headsFrom headAt left (subtable .next)) []
 
 -- those that a run visits: no more than the limit
 unfoldable pub visited : List Subtable → List Subtable

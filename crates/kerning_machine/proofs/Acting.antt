@@ -21,7 +21,7 @@ use Rattle.kerning_machine.specs.declared.Orders.{Orders}
 use Rattle.kerning_machine.specs.declared.Kerning.{Kerning}
 use Rattle.kerning_machine.specs.declared.KerningState.{KerningState}
 use Rattle.kerning_machine.specs.declared.KerningStep.{KerningStep}
-use Rattle.kerning_machine.specs.Machine.{isFull, popped, stacked, stopped, settled, followed, Stepped, behind, listed, entered, acted, payloadOf, ordersOf, next}
+use Rattle.kerning_machine.specs.Machine.{isFull, popped, stacked, stopped, settled, walkedFrom, Stepped, behind, listed, entered, acted, payloadOf, ordersOf, next}
 use Rattle.kerning_machine.specs.Work.{standing}
 use Rattle.kerning_machine.proofs.Readings.{room-left}
 
@@ -70,13 +70,13 @@ module _ (bytes : List ℕ) (reading : Reading) (orders : Orders) (stack : List 
   module _ {stack′ : List ℕ} {deep : ℕ} (h : full ≡ false)
       (g : (state cycles : ℕ) → standing state stack′ deep cycles ≡ stacked (standing state stack depth cycles) (orders .pushes) (orders .clears) index) where
     abbrev list : Walk
-    list = followed bytes reading (orders .start) stack′ deep used
+    list = walkedFrom bytes reading (orders .start) stack′ deep used
 
     acts : (cycles : ℕ) → acted bytes reading (led cycles) orders used index ≡ listed orders (standing (orders .state) stack′ deep cycles) list
     unfolding acted
     acts cycles =
         rw (sym f ∙ h, acted)
-        (ap (λ (x : KerningState). listed orders x (followed bytes reading (orders .start) (x .stack) (x .depth) used)) (sym (g (orders .state) cycles)))
+        (ap (λ (x : KerningState). listed orders x (walkedFrom bytes reading (orders .start) (x .stack) (x .depth) used)) (sym (g (orders .state) cycles)))
 
     pub act-follows : {walked : Walked} {along′ : List ℤ} → walked ≡ list .left → along′ ≡ addAll (list .additions) along → Acts walked stack′ along′
     unfolding listed behind

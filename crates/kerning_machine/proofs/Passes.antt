@@ -7,7 +7,7 @@ use native.Mathlib.Omega.{arith}
 use lib.IntN.{ℤ}
 use lib.ListN.{length, getD, length-append}
 use borrow.Author.Tests.{lt-ltb, le-ltb}
-use Rattle.answers.specs.Limits.{room}
+use Rattle.answers.specs.Limits.{roomLimit}
 use Rattle.answers.specs.declared.Answer.{Answer}
 use Rattle.answers.specs.declared.Answer.the-variants as Answer′
 use Rattle.line.proofs.Room.{room-small}
@@ -104,7 +104,7 @@ module _ (bytes : List ℕ) (kerning : Kerning) (glyphs : List ℕ) (used : ℕ)
     going-long = ap length (g .at) ∙ length-addAll (g .done) along₀
 
     -- no sum leaves 64 bits
-    pub going-within : used ≤ room → Within (2 ^ 60) along₀ → Within (2 ^ 61) along
+    pub going-within : used ≤ roomLimit → Within (2 ^ 60) along₀ → Within (2 ^ 61) along
     going-within h w =
         subst⁻¹ (λ (xs : List ℤ). Within (2 ^ 61) xs) (g .at) (within-more (omega (arith, g .few, room-small)) (within-addAll along₀ (g .small) w))
 

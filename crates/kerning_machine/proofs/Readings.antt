@@ -12,7 +12,7 @@ use Rattle.laws.proofs.Choices.{ifLt-yes, ifLt-no, ifEq-yes, ifEq-no}
 use Rattle.laws.specs.Lists.{both}
 use mathlib.Core.Logic.{_⊎_, ⊎-elim}
 use Rattle.kerning_machine.specs.declared.Start.the-variants as Start′
-use Rattle.kerning_machine.specs.Machine.{sizeOf, kerxStart, isFull}
+use Rattle.kerning_machine.specs.Machine.{tupleSize, kerxStart, isFull}
 
 -- a product is a 64-bit number exactly when the quotient says so
 product-past : (size number : ℕ) → 2 ≤ size → 0xFFFFFFFFFFFFFFFF / size < number → 2 ^ 64 ≤ number * size
@@ -31,12 +31,12 @@ module _ (values tuples index : ℕ) where
   unfolding kerxStart
   kerx-none e = rw (eq-eqb index 0xFFFF e)
 
-  module _ {size : ℕ} (n : index ≡ 0xFFFF → ⊥) (e : size ≡ sizeOf tuples) (h : 2 ≤ size) where
+  module _ {size : ℕ} (n : index ≡ 0xFFFF → ⊥) (e : size ≡ tupleSize tuples) (h : 2 ≤ size) where
     pub kerx-nowhere : 0xFFFFFFFFFFFFFFFF / size < values + index → Start′.Nowhere ≡ kerxStart values tuples index
     unfolding kerxStart
     kerx-nowhere q =
-        let p : 2 ^ 64 ≤ (values + index) * sizeOf tuples = rw (sym e) (product-past size (values + index) h q) in
-        rw (ne-eqb index 0xFFFF n, le-ltb ((values + index) * sizeOf tuples) (2 ^ 64) p)
+        let p : 2 ^ 64 ≤ (values + index) * tupleSize tuples = rw (sym e) (product-past size (values + index) h q) in
+        rw (ne-eqb index 0xFFFF n, le-ltb ((values + index) * tupleSize tuples) (2 ^ 64) p)
 
     pub kerx-fits : values + index ≤ 0xFFFFFFFFFFFFFFFF / size → (values + index) * size < 2 ^ 64
     kerx-fits q = product-fits size (values + index) h q
@@ -44,8 +44,8 @@ module _ (values tuples index : ℕ) where
     pub kerx-at : values + index ≤ 0xFFFFFFFFFFFFFFFF / size → Start′.At ((values + index) * size) ≡ kerxStart values tuples index
     unfolding kerxStart
     kerx-at q =
-        let p : (values + index) * sizeOf tuples < 2 ^ 64 = rw (sym e) (product-fits size (values + index) h q) in
-        rw (ne-eqb index 0xFFFF n, lt-ltb ((values + index) * sizeOf tuples) (2 ^ 64) p, e)
+        let p : (values + index) * tupleSize tuples < 2 ^ 64 = rw (sym e) (product-fits size (values + index) h q) in
+        rw (ne-eqb index 0xFFFF n, lt-ltb ((values + index) * tupleSize tuples) (2 ^ 64) p, e)
 
 -- a push that finds room
 pub room-left : (depth : ℕ) {pushes : Bool} → depth ≤ 8 → isFull pushes depth ≡ false → pushes ≡ true → depth < 8

@@ -7,7 +7,7 @@ use native.Mathlib.Omega.{arith}
 use lib.Dec.{ltb}
 use lib.IntN.{ℤ}
 use lib.ListN.{length, getD, length-append}
-use Rattle.answers.specs.Limits.{room}
+use Rattle.answers.specs.Limits.{roomLimit}
 use Rattle.answers.specs.declared.Answer.{Answer}
 use Rattle.answers.specs.declared.Answer.the-variants as Answer′
 use Rattle.line.proofs.Room.{room-small}
@@ -31,7 +31,7 @@ use Rattle.kerning_machine.specs.declared.Kerning.{Kerning}
 use Rattle.kerning_machine.specs.declared.Opened.{Opened}
 use Rattle.kerning_machine.specs.declared.Opened.the-variants as Opened′
 use Rattle.kerning_machine.specs.declared.KerningState.{KerningState}
-use Rattle.kerning_machine.specs.Machine.{fresh, ruleOf, strideOf, isFull, popped, stacked, settled, followed, Stepped, behind, listed, entered, acted, payloadOf, ordersOf, next, stepAt, passFrom, rest, passed, workedBy}
+use Rattle.kerning_machine.specs.Machine.{fresh, ruleOf, strideOf, isFull, popped, stacked, settled, walkedFrom, Stepped, behind, listed, entered, acted, payloadOf, ordersOf, next, stepAt, passFrom, rest, passed, workedBy}
 use Rattle.kerning_machine.proofs.Acting.{stacked-deep}
 
 -- a step from a state that took so many cycles
@@ -44,8 +44,8 @@ pub record Sound (cycles : ℕ) (r : Stepped) : Type 0 where
       → (r .step .state .cycles ≡ stalled cycles stays .cycles) × (r .step .advance ≡ stalled cycles stays .advance)
 
 followed-bounded : (bytes : List ℕ) (reading : Reading) (start : Start) (stack : List ℕ) (depth used : ℕ)
-    → Bounded depth (followed bytes reading start stack depth used)
-unfolding followed
+    → Bounded depth (walkedFrom bytes reading start stack depth used)
+unfolding walkedFrom
 followed-bounded bytes reading Start′.None stack depth used = record { small = small-none; few = omega arith; shallow = omega arith }
 followed-bounded bytes reading Start′.Nowhere stack depth used = record { small = small-none; few = omega arith; shallow = omega arith }
 followed-bounded bytes reading (Start′.At place) stack depth used = walk-bounded bytes (ruleOf reading) (strideOf reading) stack used depth place
@@ -90,7 +90,7 @@ acted-sound bytes reading s orders used index h = go (isFull (orders .pushes) (s
     on = stacked (entered s orders) (orders .pushes) (orders .clears) index
 
     w : Walk
-    w = followed bytes reading (orders .start) (on .stack) (on .depth) used
+    w = walkedFrom bytes reading (orders .start) (on .stack) (on .depth) used
 
     go : (t : Bool) → isFull (orders .pushes) (s .depth) ≡ t
         → Sound (s .cycles) (cond t (record { step = record { answer = Answer′.Ended; state = entered s orders; advance = 0 }; additions = [] }) (listed orders on w))
@@ -145,17 +145,17 @@ module _ (bytes : List ℕ) (kerning : Kerning) (glyphs : List ℕ) (used : ℕ)
           }
 
 -- at most 2^39 in sum, for any room up to 65,535
-pub modest-within : {b : ℕ} {turns used : ℕ} {r : Kerned} (along : List ℤ) → Modest turns r → turns ≤ used * 18 + 18 → used ≤ room → Within b along
+pub modest-within : {b : ℕ} {turns used : ℕ} {r : Kerned} (along : List ℤ) → Modest turns r → turns ≤ used * 18 + 18 → used ≤ roomLimit → Within b along
     → Within (b + 2 ^ 39) (addAll (r .additions) along)
 modest-within along m t h w = within-more (omega (arith, m .few, room-small)) (within-addAll along (m .small) w)
 
-pub passed-within : (bytes : List ℕ) (kerning : Kerning) (glyphs : List ℕ) (used : ℕ) {b : ℕ} (along : List ℤ) → used ≤ room → Within b along
+pub passed-within : (bytes : List ℕ) (kerning : Kerning) (glyphs : List ℕ) (used : ℕ) {b : ℕ} (along : List ℤ) → used ≤ roomLimit → Within b along
     → Within (b + 2 ^ 39) (addAll (passed bytes kerning glyphs used .additions) along)
 unfolding passed
 passed-within bytes kerning glyphs used along h w =
     modest-within along (pass-modest bytes kerning glyphs used (rest used fresh 0) fresh 0 (omega arith)) (omega arith) h w
 
-pub worked-within : (bytes : List ℕ) (opened : Opened) (glyphs : List ℕ) (used : ℕ) {b : ℕ} (along : List ℤ) → used ≤ room → Within b along
+pub worked-within : (bytes : List ℕ) (opened : Opened) (glyphs : List ℕ) (used : ℕ) {b : ℕ} (along : List ℤ) → used ≤ roomLimit → Within b along
     → Within (b + 2 ^ 39) (addAll (workedBy bytes opened glyphs used .additions) along)
 unfolding workedBy addAll
 worked-within bytes (Opened′.Ready kerning) glyphs used along h w = passed-within bytes kerning glyphs used along h w

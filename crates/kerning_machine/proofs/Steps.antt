@@ -9,7 +9,7 @@ use lib.IntN.{ℤ}
 use lib.ListN.{length}
 use borrow.Author.Tests.{not-false, ltb-false, lt-ltb, le-ltb}
 use Rattle.answers.proofs.Refusals.{alone-refused, alone-passed, passed-here, passed-later}
-use Rattle.answers.specs.Limits.{room}
+use Rattle.answers.specs.Limits.{roomLimit}
 use Rattle.answers.specs.Refuse.{refuse, tableTest}
 use Rattle.answers.specs.declared.Refusal.{Refusal}
 use Rattle.answers.specs.declared.Refusal.the-variants as Refusal′
@@ -48,7 +48,7 @@ module _ (n used index : ℕ) (s : KerningState) (along : List ℤ) (headless : 
 
 roomy-modest : (along : List ℤ) (used : ℕ) → isRoomy along used ≡ true → (used ≤ length along) × (isModest along ≡ true)
 unfolding isRoomy
-roomy-modest along used e = go (ltb room (length along)) (ltb (length along) used) refl e
+roomy-modest along used e = go (ltb roomLimit (length along)) (ltb (length along) used) refl e
   where
     go : (t u : Bool) → ltb (length along) used ≡ u → cond t false (cond u false (isModest along)) ≡ true → (used ≤ length along) × (isModest along ≡ true)
     go true u f g = let z : _≡_ {A = ℕ} 0 1 = cc in absurd (omega arith)

@@ -8,7 +8,7 @@ use lib.ListN.{length, getD, set}
 use Rattle.laws.specs.Choose.{ifLt, ifEq}
 use Rattle.laws.specs.Lists.{both, every}
 use Rattle.parse.specs.Reads.{u16At}
-use Rattle.answers.specs.Limits.{room}
+use Rattle.answers.specs.Limits.{roomLimit}
 use Rattle.answers.specs.Refuse.{Test, refuse, tableTest}
 use Rattle.answers.specs.declared.Answer.{Answer}
 use Rattle.answers.specs.declared.Answer.the-variants as Answer′
@@ -53,12 +53,12 @@ ruleOf (Kern crossed) = Odd crossed
 ruleOf (Kerx values tuples) = Never
 
 -- kerx: the tuple size is twice the tuple count, 0 of which counts as 1
-unfoldable pub sizeOf : ℕ → ℕ
-sizeOf tuples = ifEq tuples 0 2 (tuples * 2)
+unfoldable pub tupleSize : ℕ → ℕ
+tupleSize tuples = ifEq tuples 0 2 (tuples * 2)
 
 abbrev pub strideOf : Reading → ℕ
 strideOf (Kern crossed) = 2
-strideOf (Kerx values tuples) = sizeOf tuples
+strideOf (Kerx values tuples) = tupleSize tuples
 
 -- kern: the flags but the highest two are the list's place from the state table on; 0 is none
 unfoldable pub kernStart : ℕ → Start
@@ -68,7 +68,7 @@ kernStart flags = ifEq (flags % 0x4000) 0 Start′.None (Start′.At (flags % 0x
 unfoldable pub kerxStart : (values tuples index : ℕ) → Start
 kerxStart values tuples index =
     ifEq index 0xFFFF Start′.None
-    (ifLt ((values + index) * sizeOf tuples) (2 ^ 64) (Start′.At ((values + index) * sizeOf tuples)) Start′.Nowhere)
+    (ifLt ((values + index) * tupleSize tuples) (2 ^ 64) (Start′.At ((values + index) * tupleSize tuples)) Start′.Nowhere)
 
 -- an entry's flags: 0x8000 pushes the index, 0x4000 is don't advance; in kern, a whole flags word of 0 empties the stack, and in kerx 0x2000 does so
 -- behind the list
@@ -111,10 +111,10 @@ abbrev pub stopped : KerningState → Answer → KerningStep
 stopped s answer = record { answer = answer; state = s; advance = 0 }
 
 -- what a list does: none leaves the stack; one at no 64-bit place ends the step, with an empty stack too
-unfoldable pub followed : List ℕ → Reading → Start → (stack : List ℕ) → (depth used : ℕ) → Walk
-followed bytes reading Start′.None stack depth used = leaves false depth []
-followed bytes reading Start′.Nowhere stack depth used = leaves true depth []
-followed bytes reading (Start′.At place) stack depth used = walk bytes (ruleOf reading) (strideOf reading) stack used depth place
+unfoldable pub walkedFrom : List ℕ → Reading → Start → (stack : List ℕ) → (depth used : ℕ) → Walk
+walkedFrom bytes reading Start′.None stack depth used = leaves false depth []
+walkedFrom bytes reading Start′.Nowhere stack depth used = leaves true depth []
+walkedFrom bytes reading (Start′.At place) stack depth used = walk bytes (ruleOf reading) (strideOf reading) stack used depth place
 
 -- what a step answers, and its additions
 pub record Stepped : Type 0 where
@@ -154,7 +154,7 @@ acted bytes reading s orders used index =
     cond (isFull (orders .pushes) (s .depth))
     (record { step = stopped (entered s orders) Answer′.Ended; additions = [] })
     (let on : KerningState = stacked (entered s orders) (orders .pushes) (orders .clears) index in
-    listed orders on (followed bytes reading (orders .start) (on .stack) (on .depth) used))
+    listed orders on (walkedFrom bytes reading (orders .start) (on .stack) (on .depth) used))
 
 -- a step: class, then entry, then what the entry does
 unfoldable pub next : List ℕ → Kerning → KerningState → (used index glyph : ℕ) → Stepped
@@ -206,7 +206,7 @@ areWithin stack depth used = every (λ k. leb (getD stack k 0) used) depth
 
 -- the room of a step is its adjustments'
 unfoldable pub isRoomy : List ℤ → (used : ℕ) → Bool
-isRoomy along used = ifLt room (length along) false (ifLt (length along) used false (isModest along))
+isRoomy along used = ifLt roomLimit (length along) false (ifLt (length along) used false (isModest along))
 
 -- the tests of a lone step. LINE: a room above the limit, a length above the room, an adjustment beyond ±2^40; PLACE: the index is above the length;
 -- STATE: a stack above 8, a used slot's place above the length, a cycle count above 17

@@ -15,12 +15,12 @@ ghost use mathlib.Core.Bool.{false, cond};
 ghost use mathlib.Core.List.{List};
 ghost use Prim.Native.Nat.{ℕ, _+_, _<_, _≤_, _^_};
 ghost use lib.ListN.{length};
-ghost use Rattle.answers.specs.Limits.{room};
+ghost use Rattle.answers.specs.Limits.{roomLimit};
 ghost use Rattle.answers.specs.Refuse.{refuse};
 ghost use Rattle.answers.specs.declared.Answer.the-variants.{Ended};
 ghost use Rattle.kerning.specs.Additions.{addAll};
 ghost use Rattle.kerning.specs.Bounds.{Within};
-ghost use Rattle.kerning_machine.specs.Machine.{fresh, payloadOf, sizeOf, kernStart, kerxStart, ordersOf, isFull, stacked, stopped, settled, followed, behind, acted, next, passed, isRoomy, isShort, areWithin, stepTests, stepCall, workedBy};
+ghost use Rattle.kerning_machine.specs.Machine.{fresh, payloadOf, tupleSize, kernStart, kerxStart, ordersOf, isFull, stacked, stopped, settled, walkedFrom, behind, acted, next, passed, isRoomy, isShort, areWithin, stepTests, stepCall, workedBy};
 ghost use Rattle.kerning_machine.specs.Work.{standing, stepOf};
 
 // How a machine reads its entries: kern's flags hold where the list begins, and its subtable may go across the stream; kerx's entries hold
@@ -95,7 +95,7 @@ fn payload_of(reading: Reading) -> u16
 
 // The bytes of a tuple; no tuples count as one.
 fn size_of(tuples: u32) -> usize
-    ensures { λ r. ⌜ (r ≡ sizeOf tuples) × (2 ≤ r) × (r ≤ 2 ^ 33) ⌝ }
+    ensures { λ r. ⌜ (r ≡ tupleSize tuples) × (2 ≤ r) × (r ≤ 2 ^ 33) ⌝ }
 {
     if tuples == 0 {
         return 2;
@@ -167,8 +167,8 @@ fn follow(
     along: &mut [i64],
 ) -> Walked
     requires { ⌜ (depth ≤ 8) × (used ≤ length (now along)) × Within (2 ^ 61) (now along) ⌝ }
-    ensures left { λ r. ⌜ r ≡ followed (now (bytes .entry)) reading start (now (stack .entry)) depth used .left ⌝ }
-    ensures along { λ _. ⌜ now (along .exit) ≡ addAll (followed (now (bytes .entry)) reading start (now (stack .entry)) depth used .additions) (now (along .entry)) ⌝ }
+    ensures left { λ r. ⌜ r ≡ walkedFrom (now (bytes .entry)) reading start (now (stack .entry)) depth used .left ⌝ }
+    ensures along { λ _. ⌜ now (along .exit) ≡ addAll (walkedFrom (now (bytes .entry)) reading start (now (stack .entry)) depth used .additions) (now (along .entry)) ⌝ }
 {
     match start {
         Start::None => {
@@ -501,7 +501,7 @@ fn pass_line(
     used: usize,
     along: &mut [i64],
 ) -> Answer
-    requires { ⌜ (used ≤ length (now glyphs)) × (used ≤ length (now along)) × (used ≤ room) × Within (2 ^ 60) (now along) ⌝ }
+    requires { ⌜ (used ≤ length (now glyphs)) × (used ≤ length (now along)) × (used ≤ roomLimit) × Within (2 ^ 60) (now along) ⌝ }
     ensures answer { λ r. ⌜ r ≡ passed (now (bytes .entry)) kerning (now (glyphs .entry)) used .answer ⌝ }
     ensures along { λ _. ⌜ now (along .exit) ≡ addAll (passed (now (bytes .entry)) kerning (now (glyphs .entry)) used .additions) (now (along .entry)) ⌝ }
 {
@@ -551,7 +551,7 @@ fn pass_line(
 
 // The pass by what a head gives; HEAD where it gives none.
 pub fn work(bytes: &[u8], opened: Opened, glyphs: &[u16], used: usize, along: &mut [i64]) -> Answer
-    requires { ⌜ (used ≤ length (now glyphs)) × (used ≤ length (now along)) × (used ≤ room) × Within (2 ^ 60) (now along) ⌝ }
+    requires { ⌜ (used ≤ length (now glyphs)) × (used ≤ length (now along)) × (used ≤ roomLimit) × Within (2 ^ 60) (now along) ⌝ }
     ensures answer { λ r. ⌜ r ≡ workedBy (now (bytes .entry)) opened (now (glyphs .entry)) used .answer ⌝ }
     ensures along { λ _. ⌜ now (along .exit) ≡ addAll (workedBy (now (bytes .entry)) opened (now (glyphs .entry)) used .additions) (now (along .entry)) ⌝ }
 {

@@ -14,7 +14,7 @@ use Rattle.answers.specs.declared.Check.the-variants.{Passed, Refused}
 use Rattle.line.specs.Line.{Line}
 use Rattle.kerning.specs.Additions.{addAll}
 use Rattle.kerning.specs.Line.{kerningTests}
-use Rattle.kerning_lists.specs.Walk.{heads, visited, walkAnswer, listBytes}
+use Rattle.kerning_lists.specs.Walk.{headsFrom, visited, walkAnswer, listBytes}
 use Rattle.kerning_lists.specs.Run.{zeros, contributions, usedPart, runTests}
 use Rattle.kerning_lists.proofs.Calls.{Works, RunIs, call-refused, call-passed, run-refused, run-passed, ran-is}
 use Rattle.kerx.specs.Heads.{headAt, listOf, walkOf}
@@ -47,19 +47,19 @@ pub record PartIs (bytes : List ℕ) (rtl : Bool) (glyphs : List ℕ) (n : ℕ) 
 
 pub part-is : (bytes : List ℕ) (rtl : Bool) (glyphs : List ℕ) (n : ℕ) {list : KerxList} {start after : List ℤ} {answer : Answer} {read used : ℕ}
     → start ≡ zeros n → used ≡ n → list ≡ listOf bytes
-    → answer ≡ walkAnswer (heads (headAt rtl bytes (list .version)) (list .count) 8)
-    → read ≡ length (visited (heads (headAt rtl bytes (list .version)) (list .count) 8))
-    → after ≡ addAll (contributions (adds bytes (list .version) used) glyphs used (visited (heads (headAt rtl bytes (list .version)) (list .count) 8))) start
+    → answer ≡ walkAnswer (headsFrom (headAt rtl bytes (list .version)) (list .count) 8)
+    → read ≡ length (visited (headsFrom (headAt rtl bytes (list .version)) (list .count) 8))
+    → after ≡ addAll (contributions (adds bytes (list .version) used) glyphs used (visited (headsFrom (headAt rtl bytes (list .version)) (list .count) 8))) start
     → PartIs bytes rtl glyphs n answer read after
 unfolding walkOf usedPart
 part-is bytes rtl glyphs n {list} {start} {after} {answer} {read} {used} z u l a r p =
     record {
-      answers = a ∙ ap (λ (x : KerxList). walkAnswer (heads (headAt rtl bytes (x .version)) (x .count) 8)) l;
-      counts = r ∙ ap (λ (x : KerxList). length (visited (heads (headAt rtl bytes (x .version)) (x .count) 8))) l;
+      answers = a ∙ ap (λ (x : KerxList). walkAnswer (headsFrom (headAt rtl bytes (x .version)) (x .count) 8)) l;
+      counts = r ∙ ap (λ (x : KerxList). length (visited (headsFrom (headAt rtl bytes (x .version)) (x .count) 8))) l;
       leaves =
           p
-          ∙ ap (λ (m : ℕ). addAll (contributions (adds bytes (list .version) m) glyphs m (visited (heads (headAt rtl bytes (list .version)) (list .count) 8))) start) u
-          ∙ ap₂ (λ (x : KerxList) (y : List ℤ). addAll (contributions (adds bytes (x .version) n) glyphs n (visited (heads (headAt rtl bytes (x .version)) (x .count) 8))) y) l z;
+          ∙ ap (λ (m : ℕ). addAll (contributions (adds bytes (list .version) m) glyphs m (visited (headsFrom (headAt rtl bytes (list .version)) (list .count) 8))) start) u
+          ∙ ap₂ (λ (x : KerxList) (y : List ℤ). addAll (contributions (adds bytes (x .version) n) glyphs n (visited (headsFrom (headAt rtl bytes (x .version)) (x .count) 8))) y) l z;
     }
 
 -- a whole run

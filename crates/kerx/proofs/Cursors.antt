@@ -13,7 +13,7 @@ use Rattle.parse.specs.declared.ReadU32.{ReadU32}
 use Rattle.parse.specs.declared.ReadU32.the-variants as U32
 use Rattle.parse.proofs.Laws.{readU32-short}
 use Rattle.laws.specs.Bits.{isSet}
-use Rattle.kerning_lists.specs.Walk.{heads, listBytes}
+use Rattle.kerning_lists.specs.Walk.{headsFrom, listBytes}
 use Rattle.kerning_lists.specs.Cursors.{cursor, followed, moved}
 use Rattle.kerning_lists.specs.declared.Subtable.{Subtable}
 use Rattle.kerning_lists.specs.declared.Head.the-variants.{At}
@@ -58,12 +58,12 @@ module _ (table : List ℕ) (start : ℕ) where
   unfolding listOf
   none-counted d = rw (d, readU32-short [] 4 (omega arith))
 
-  walk-there : heads (headAt false table (list .version)) (list .count) (start + 8) ≡ map (moved start) (walkOf false bytes)
-  unfolding listBytes walkOf heads
+  walk-there : headsFrom (headAt false table (list .version)) (list .count) (start + 8) ≡ map (moved start) (walkOf false bytes)
+  unfolding listBytes walkOf headsFrom
   walk-there = go (eqb start 0) refl
     where
-      go : (t : Bool) → eqb start 0 ≡ t → heads (headAt false table (list .version)) (list .count) (start + 8) ≡ map (moved start) (walkOf false bytes)
-      go true p = let d : bytes ≡ [] = rw p in rw (none-counted d, walkOf, heads)
+      go : (t : Bool) → eqb start 0 ≡ t → headsFrom (headAt false table (list .version)) (list .count) (start + 8) ≡ map (moved start) (walkOf false bytes)
+      go true p = let d : bytes ≡ [] = rw p in rw (none-counted d, walkOf, headsFrom)
       go false p =
           let d : bytes ≡ drop start table = rw p in
           heads-mapped (headAt false bytes (list .version)) (headAt false table (list .version)) (moved start) (λ at. start + at) (λ s. refl) (head-there d) (list .count) 8

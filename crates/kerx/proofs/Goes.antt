@@ -6,10 +6,10 @@ use mathlib.Core.List.{List}
 use native.Mathlib.Omega.{arith}
 use lib.IntN.{ℤ}
 use lib.ListN.{length}
-use Rattle.answers.specs.Limits.{room, headLimit}
+use Rattle.answers.specs.Limits.{roomLimit, headLimit}
 use Rattle.kerning.specs.Additions.{addAll}
 use Rattle.kerning.specs.Bounds.{Within}
-use Rattle.kerning_lists.specs.Walk.{heads}
+use Rattle.kerning_lists.specs.Walk.{headsFrom}
 use Rattle.kerning_lists.specs.Run.{contribution}
 use Rattle.kerning_lists.specs.declared.Subtable.{Subtable}
 use Rattle.kerning_lists.specs.declared.Head.the-variants.{At}
@@ -23,7 +23,7 @@ module _ (bytes : List ℕ) (list : KerxList) (rtl : Bool) (glyphs₀ tags₀ : 
   -- the run goes on as any does, and the line is as it was
   pub record Going (glyphs tags : List ℕ) (along : List ℤ) (read left at : ℕ) : Type 0 where
     pub running : Running (adds bytes (list .version) used) glyphs₀ used (headAt rtl bytes (list .version))
-        (heads (headAt rtl bytes (list .version)) (list .count) 8) along₀ along read left at
+        (headsFrom (headAt rtl bytes (list .version)) (list .count) 8) along₀ along read left at
     pub sameGlyphs : glyphs ≡ glyphs₀
     pub sameTags : tags ≡ tags₀
 
@@ -31,7 +31,7 @@ module _ (bytes : List ℕ) (list : KerxList) (rtl : Bool) (glyphs₀ tags₀ : 
   going-start w = record { running = running-start _ glyphs₀ used _ (list .count) 8 along₀ w; sameGlyphs = refl; sameTags = refl }
 
   pub going-next : {glyphs tags glyphs′ tags′ : List ℕ} {along after : List ℤ} {read left at : ℕ} {s : Subtable} → Going glyphs tags along read left at
-      → used ≤ room → used ≤ length along₀ → 0 < left → headAt rtl bytes (list .version) at ≡ At s → read < headLimit
+      → used ≤ roomLimit → used ≤ length along₀ → 0 < left → headAt rtl bytes (list .version) at ≡ At s → read < headLimit
       → glyphs′ ≡ glyphs → tags′ ≡ tags → after ≡ addAll (contribution (adds bytes (list .version) used) glyphs used s) along
       → Going glyphs′ tags′ after (read + 1) (left - 1) (s .next)
   going-next {along = along} {s = s} g small fits h e k p q a =

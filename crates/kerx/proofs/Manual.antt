@@ -24,7 +24,7 @@ use Rattle.pairs.specs.declared.PairReply.{PairReply}
 use Rattle.pairs.specs.declared.PairTable.the-variants.{Ordered, Classes}
 use Rattle.pairs.specs.declared.Opened.the-variants.{Ready}
 use Rattle.pairs.proofs.Manual.{ordered-as-manual, class-as-manual}
-use Rattle.kerning_lists.specs.Walk.{heads}
+use Rattle.kerning_lists.specs.Walk.{headsFrom}
 use Rattle.kerning_lists.specs.Manual.{told, NoneInPart, AsManual}
 use Rattle.kerning_lists.specs.declared.Subtable.{Subtable}
 use Rattle.kerning_lists.specs.declared.Head.the-variants.{At, Cut}
@@ -105,7 +105,7 @@ pub kerx-as-manual : (rtl : Bool) (bytes : List ℕ) → 8 ≤ length bytes
 unfolding walkOf listOf
 kerx-as-manual rtl bytes h whole =
     subst (AsManual bytes headBytes (subtableAt bytes) (lengthAt bytes) 8 (countOf bytes))
-    (let e : heads (headAt rtl bytes (versionOf bytes)) (countOf bytes) 8 ≡ walkOf rtl bytes =
+    (let e : headsFrom (headAt rtl bytes (versionOf bytes)) (countOf bytes) 8 ≡ walkOf rtl bytes =
     rw (readU16-got bytes 0 (omega (arith, h)), readU32-got bytes 4 (omega (arith, h))) in e)
     (walk-as-manual bytes (fewOf (versionOf bytes)) headBytes (subtableAt bytes) (few-enough rtl bytes (versionOf bytes) 0)
     (λ at. told-same rtl bytes (versionOf bytes) at) whole
@@ -113,8 +113,8 @@ kerx-as-manual rtl bytes h whole =
     (behind rtl bytes (versionOf bytes)) (head-reads rtl bytes (versionOf bytes)) (head-only rtl bytes (versionOf bytes)) 8 (countOf bytes)))
 
 pub kerx-without-list : (rtl : Bool) (bytes : List ℕ) → length bytes < 8 → walkOf rtl bytes ≡ []
-unfolding walkOf listOf heads
-kerx-without-list rtl bytes h = rw (readU32-short bytes 4 (omega (arith, h)), heads)
+unfolding walkOf listOf headsFrom
+kerx-without-list rtl bytes h = rw (readU32-short bytes 4 (omega (arith, h)), headsFrom)
 
 -- the answer for a pair
 module _ (bytes : List ℕ) (version left right : ℕ) where

@@ -8,7 +8,7 @@ use lib.Dec.{eqb}
 use lib.IntN.{ℤ, pos}
 use lib.ListN.{length, drop}
 use borrow.Author.Tests.{eq-eqb, ne-eqb}
-use Rattle.answers.specs.Limits.{room}
+use Rattle.answers.specs.Limits.{roomLimit}
 use Rattle.answers.specs.declared.Answer.{Answer}
 use Rattle.answers.specs.declared.Answer.the-variants as Answer′
 use Rattle.answers.specs.declared.Refusal.the-variants as Refusal′
@@ -74,7 +74,7 @@ module _ (bytes : List ℕ) (version : ℕ) (glyphs : List ℕ) (used : ℕ) (be
   passes-by f w = works-same (rw (sym e ∙ f)) w
 
 -- whatever the format, little is added
-pub worked-little : (bytes : List ℕ) (version format : ℕ) (glyphs : List ℕ) (used b : ℕ) (along : List ℤ) → used ≤ room → Within b along
+pub worked-little : (bytes : List ℕ) (version format : ℕ) (glyphs : List ℕ) (used b : ℕ) (along : List ℤ) → used ≤ roomLimit → Within b along
     → Within (b + 2 ^ 39) (addAll (worked bytes version format glyphs used .additions) along)
 unfolding worked
 worked-little bytes version format glyphs used b along h w = go (eqb format 0) (eqb format 1) (eqb format 2)
@@ -146,8 +146,8 @@ module _ (bytes : List ℕ) (version left right : ℕ) {head : Head} (e : head �
 
 -- the line and the adjustments turned round may be worked on
 pub turned-ready : (used : ℕ) (glyphs : List ℕ) (along : List ℤ) {turned : List ℕ} {once : List ℤ} → turned ≡ backward used glyphs → once ≡ backward used along
-    → used ≤ length glyphs → used ≤ length along → used ≤ room → Within (2 ^ 60) along
-    → (used ≤ length turned) × (used ≤ length once) × (used ≤ room) × Within (2 ^ 60) once
+    → used ≤ length glyphs → used ≤ length along → used ≤ roomLimit → Within (2 ^ 60) along
+    → (used ≤ length turned) × (used ≤ length once) × (used ≤ roomLimit) × Within (2 ^ 60) once
 turned-ready used glyphs along {turned} {once} g a h k r w =
     let m : length turned ≡ length glyphs = ap length g ∙ length-backward 0 used glyphs h in
     let n : length once ≡ length along = ap length a ∙ length-backward (pos 0) used along k in

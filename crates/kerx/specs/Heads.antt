@@ -8,7 +8,7 @@ use Rattle.laws.specs.Choose.{ifLt}
 use Rattle.parse.specs.Reads.{readU32}
 use Rattle.parse.specs.Use.{onU32}
 use Rattle.laws.specs.Bits.{isSet}
-use Rattle.kerning_lists.specs.Walk.{u16OrZero, u32OrZero, heads}
+use Rattle.kerning_lists.specs.Walk.{u16OrZero, u32OrZero, headsFrom}
 use Rattle.kerning_lists.specs.declared.Subtable.{Subtable}
 use Rattle.kerning_lists.specs.declared.Head.{Head}
 use Rattle.kerning_lists.specs.declared.Head.the-variants.{At, Cut}
@@ -48,4 +48,4 @@ listOf bytes = record { version = u16OrZero bytes 0; count = u32OrZero bytes 4 }
 
 -- the walk of the list
 unfoldable pub walkOf : (rtl : Bool) → List ℕ → List Subtable
-walkOf rtl bytes = heads (headAt rtl bytes (listOf bytes .version)) (listOf bytes .count) 8
+walkOf rtl bytes = headsFrom (headAt rtl bytes (listOf bytes .version)) (listOf bytes .count) 8

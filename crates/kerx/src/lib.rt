@@ -13,12 +13,12 @@ ghost use mathlib.Core.Path.{_≡_};
 ghost use mathlib.Core.Bool.{false};
 ghost use Prim.Native.Nat.{_<_, _≤_, _^_};
 ghost use lib.ListN.{length};
-ghost use Rattle.answers.specs.Limits.{room};
+ghost use Rattle.answers.specs.Limits.{roomLimit};
 ghost use Rattle.laws.specs.Backward.{backward};
 ghost use Rattle.line.specs.Line.{lineOf};
 ghost use Rattle.kerning.specs.Additions.{addAll};
 ghost use Rattle.kerning.specs.Bounds.{Within};
-ghost use Rattle.kerning_lists.specs.Walk.{walkAnswer, visited, heads};
+ghost use Rattle.kerning_lists.specs.Walk.{walkAnswer, visited, headsFrom};
 ghost use Rattle.kerning_lists.specs.Run.{turnedBack, contribution, contributions, usedPart};
 ghost use Rattle.kerx.specs.Heads.{shouldReverse, subtableOf, headIn, headAt, listOf, walkOf};
 ghost use Rattle.kerx.specs.Cursors.{listFrom, listCall, subtableCall};
@@ -158,7 +158,7 @@ fn work(
     used: usize,
     along: &mut [i64],
 ) -> Answer
-    requires { ⌜ (used ≤ length (now glyphs)) × (used ≤ length (now along)) × (used ≤ room) × Within (2 ^ 60) (now along) ⌝ }
+    requires { ⌜ (used ≤ length (now glyphs)) × (used ≤ length (now along)) × (used ≤ roomLimit) × Within (2 ^ 60) (now along) ⌝ }
     ensures answer { λ r. ⌜ r ≡ worked (now (bytes .entry)) version format (now (glyphs .entry)) used .answer ⌝ }
     ensures along { λ _. ⌜ now (along .exit) ≡ addAll (worked (now (bytes .entry)) version format (now (glyphs .entry)) used .additions) (now (along .entry)) ⌝ }
 {
@@ -210,7 +210,7 @@ fn work_turned(
     used: usize,
     along: &mut [i64],
 )
-    requires { ⌜ (used ≤ length (now glyphs)) × (used ≤ length (now tags)) × (used ≤ length (now along)) × (used ≤ room) × Within (2 ^ 60) (now along) ⌝ }
+    requires { ⌜ (used ≤ length (now glyphs)) × (used ≤ length (now tags)) × (used ≤ length (now along)) × (used ≤ roomLimit) × Within (2 ^ 60) (now along) ⌝ }
     ensures glyphs { λ _. ⌜ now (glyphs .exit) ≡ now (glyphs .entry) ⌝ }
     ensures tags { λ _. ⌜ now (tags .exit) ≡ now (tags .entry) ⌝ }
     ensures along { λ _. ⌜ now (along .exit) ≡ addAll (turnedBack used (worked (now (part .entry)) version format (backward used (now (glyphs .entry))) used .additions)) (now (along .entry)) ⌝ }
@@ -232,7 +232,7 @@ fn visit(
     used: usize,
     along: &mut [i64],
 )
-    requires { ⌜ (used ≤ length (now glyphs)) × (used ≤ length (now tags)) × (used ≤ length (now along)) × (used ≤ room) × Within (2 ^ 60) (now along) ⌝ }
+    requires { ⌜ (used ≤ length (now glyphs)) × (used ≤ length (now tags)) × (used ≤ length (now along)) × (used ≤ roomLimit) × Within (2 ^ 60) (now along) ⌝ }
     ensures glyphs { λ _. ⌜ now (glyphs .exit) ≡ now (glyphs .entry) ⌝ }
     ensures tags { λ _. ⌜ now (tags .exit) ≡ now (tags .entry) ⌝ }
     ensures along { λ _. ⌜ now (along .exit) ≡ addAll (contribution (adds (now (bytes .entry)) version used) (now (glyphs .entry)) used subtable) (now (along .entry)) ⌝ }
@@ -258,12 +258,12 @@ fn run_list(
     used: usize,
     along: &mut [i64],
 ) -> Run
-    requires { ⌜ (used ≤ length (now glyphs)) × (used ≤ length (now tags)) × (used ≤ length (now along)) × (used ≤ room) × Within 0 (now along) ⌝ }
-    ensures answer { λ r. ⌜ r .answer ≡ walkAnswer (heads (headAt rtl (now (bytes .entry)) (list .version)) (list .count) 8) ⌝ }
-    ensures heads { λ r. ⌜ r .heads ≡ length (visited (heads (headAt rtl (now (bytes .entry)) (list .version)) (list .count) 8)) ⌝ }
+    requires { ⌜ (used ≤ length (now glyphs)) × (used ≤ length (now tags)) × (used ≤ length (now along)) × (used ≤ roomLimit) × Within 0 (now along) ⌝ }
+    ensures answer { λ r. ⌜ r .answer ≡ walkAnswer (headsFrom (headAt rtl (now (bytes .entry)) (list .version)) (list .count) 8) ⌝ }
+    ensures heads { λ r. ⌜ r .heads ≡ length (visited (headsFrom (headAt rtl (now (bytes .entry)) (list .version)) (list .count) 8)) ⌝ }
     ensures glyphs { λ _. ⌜ now (glyphs .exit) ≡ now (glyphs .entry) ⌝ }
     ensures tags { λ _. ⌜ now (tags .exit) ≡ now (tags .entry) ⌝ }
-    ensures along { λ _. ⌜ now (along .exit) ≡ addAll (contributions (adds (now (bytes .entry)) (list .version) used) (now (glyphs .entry)) used (visited (heads (headAt rtl (now (bytes .entry)) (list .version)) (list .count) 8))) (now (along .entry)) ⌝ }
+    ensures along { λ _. ⌜ now (along .exit) ≡ addAll (contributions (adds (now (bytes .entry)) (list .version) used) (now (glyphs .entry)) used (visited (headsFrom (headAt rtl (now (bytes .entry)) (list .version)) (list .count) 8))) (now (along .entry)) ⌝ }
 {
     let mut heads = 0;
     let mut left = list.count;
@@ -294,7 +294,7 @@ fn run_list(
 
 // The used adjustments, zeroed first, with what the list's subtables add.
 fn run_part(bytes: &[u8], rtl: bool, glyphs: &mut [u16], tags: &mut [u16], along: &mut [i64]) -> Run
-    requires { ⌜ (length (now along) ≤ length (now glyphs)) × (length (now along) ≤ length (now tags)) × (length (now along) ≤ room) ⌝ }
+    requires { ⌜ (length (now along) ≤ length (now glyphs)) × (length (now along) ≤ length (now tags)) × (length (now along) ≤ roomLimit) ⌝ }
     ensures answer { λ r. ⌜ r .answer ≡ walkAnswer (walkOf rtl (now (bytes .entry))) ⌝ }
     ensures heads { λ r. ⌜ r .heads ≡ length (visited (walkOf rtl (now (bytes .entry)))) ⌝ }
     ensures glyphs { λ _. ⌜ now (glyphs .exit) ≡ now (glyphs .entry) ⌝ }
@@ -348,7 +348,7 @@ pub fn run(
 
 // The pass by the subtable that begins with `bytes`, its head included.
 fn pass_in(bytes: &[u8], version: u16, glyphs: &[u16], used: usize, along: &mut [i64]) -> Answer
-    requires { ⌜ (used ≤ length (now glyphs)) × (used ≤ length (now along)) × (used ≤ room) × Within (2 ^ 60) (now along) ⌝ }
+    requires { ⌜ (used ≤ length (now glyphs)) × (used ≤ length (now along)) × (used ≤ roomLimit) × Within (2 ^ 60) (now along) ⌝ }
     ensures answer { λ r. ⌜ r ≡ passed (now (bytes .entry)) version (now (glyphs .entry)) used .answer ⌝ }
     ensures along { λ _. ⌜ now (along .exit) ≡ addAll (passed (now (bytes .entry)) version (now (glyphs .entry)) used .additions) (now (along .entry)) ⌝ }
 {

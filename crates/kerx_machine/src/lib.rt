@@ -10,7 +10,7 @@ use state_tables::Made;
 ghost use mathlib.Core.Path.{_≡_};
 ghost use Prim.Native.Nat.{_≤_, _^_};
 ghost use lib.ListN.{length};
-ghost use Rattle.answers.specs.Limits.{room};
+ghost use Rattle.answers.specs.Limits.{roomLimit};
 ghost use Rattle.kerning.specs.Additions.{addAll};
 ghost use Rattle.kerning.specs.Bounds.{Within};
 ghost use Rattle.kerx_machine.specs.Machine.{tuplesOf, opened, worked, stepCall};
@@ -59,7 +59,7 @@ pub fn open(bytes: &[u8], version: u16) -> Opened
 
 // The pass by the subtable whose bytes begin at its head; HEAD where it can't be opened.
 pub fn work(bytes: &[u8], version: u16, glyphs: &[u16], used: usize, along: &mut [i64]) -> Answer
-    requires { ⌜ (used ≤ length (now glyphs)) × (used ≤ length (now along)) × (used ≤ room) × Within (2 ^ 60) (now along) ⌝ }
+    requires { ⌜ (used ≤ length (now glyphs)) × (used ≤ length (now along)) × (used ≤ roomLimit) × Within (2 ^ 60) (now along) ⌝ }
     ensures answer { λ r. ⌜ r ≡ worked (now (bytes .entry)) version (now (glyphs .entry)) used .answer ⌝ }
     ensures along { λ _. ⌜ now (along .exit) ≡ addAll (worked (now (bytes .entry)) version (now (glyphs .entry)) used .additions) (now (along .entry)) ⌝ }
 {

@@ -28,7 +28,7 @@ use Rattle.machine.proofs.Calls.{taken-line, past-place, stepped-line, stepped-
 use Rattle.ligature.specs.Ligature.{stackIn, Ran, next, stateOf, stepped, machine, passed}
 use Rattle.machine.specs.Pass.{advanceOf}
 use Rattle.ligature.specs.Calls.{opened, worked, passCall, depthTest, areInside, stackTest, stepTests, stepCall, stepLeaves}
-use Rattle.ligature.specs.Work.{stepOf, passLeaves, workLeaves}
+use Rattle.ligature.specs.Work.{stepOf, passedLeaves, workLeaves}
 use Rattle.ligature.specs.declared.LigatureState.{LigatureState}
 use Rattle.ligature.specs.declared.LigatureStep.{LigatureStep}
 use Rattle.ligature.specs.declared.Reached.{Reached}
@@ -55,9 +55,9 @@ module _ (bytes : List ℕ) (l : Line) {made : Made} (m : made ≡ opened bytes)
   work-headless s = ends-at _ (rw (sym m ∙ s, worked)) (unchanged (Answer′.Refused Refusal′.Head) l)
 
   pub work-passed : {states : States} {body glyphs homes : List ℕ} {answer : Answer} → made ≡ Made′.Ready states → body ≡ drop 12 bytes
-      → answer ≡ passed body states l .answer → glyphs ≡ passLeaves body states l .glyphs → homes ≡ passLeaves body states l .homes
+      → answer ≡ passed body states l .answer → glyphs ≡ passedLeaves body states l .glyphs → homes ≡ passedLeaves body states l .homes
       → Ends (worked bytes l) l answer glyphs homes
-  unfolding worked passLeaves
+  unfolding worked passedLeaves
   work-passed {states} {body} r d a g h =
       ends-at (passed body states l) (rw (sym m ∙ r, worked) (ap (λ (x : List ℕ). passed x states l) (sym d)))
       (record { answers = a; left = g; joined = h })

@@ -11,7 +11,7 @@ use Rattle.line.specs.Line.{Line, lineOf}
 use Rattle.machine.specs.Pass.{deleted, isDone}
 use Rattle.machine.proofs.Passing.{Passing, Over, passing-start, passing-step, passing-stop, passing-end}
 use Rattle.ligature.specs.Ligature.{stackOf, fresh, Ran, next, stateOf, machine, rest, passed}
-use Rattle.ligature.specs.Work.{ligated, reached, passLeaves}
+use Rattle.ligature.specs.Work.{ligated, reached, passedLeaves}
 use Rattle.machine.specs.Pass.{advanceOf}
 use Rattle.ligature.specs.declared.LigatureState.{LigatureState}
 use Rattle.ligature.specs.declared.Reached.{Reached}
@@ -58,8 +58,8 @@ module _ (bytes : List ℕ) (states : States) (l₀ : Line) where
   -- what a pass that ends here answers and leaves
   pub record Ends (answer : Answer) (glyphs homes : List ℕ) : Type 0 where
     pub answers : answer ≡ passed bytes states l₀ .answer
-    pub left : glyphs ≡ passLeaves bytes states l₀ .glyphs
-    pub joined : homes ≡ passLeaves bytes states l₀ .homes
+    pub left : glyphs ≡ passedLeaves bytes states l₀ .glyphs
+    pub joined : homes ≡ passedLeaves bytes states l₀ .homes
 
   module _ {tags : List ℕ} {used : ℕ} {places stack glyphs homes : List ℕ} {state depth i : ℕ}
       (g : Going tags used places stack glyphs homes state depth i) where
@@ -69,7 +69,7 @@ module _ (bytes : List ℕ) (states : States) (l₀ : Line) where
     ends : {answer : Answer} {glyphs′ homes′ : List ℕ} (n : Ran)
         → Over (machine bytes states) rest l₀ (passed bytes states l₀) answer (ligated (n .made) (lineOf glyphs tags homes used))
         → lineOf glyphs′ tags homes′ used ≡ ligated (n .made) (lineOf glyphs tags homes used) → Ends answer glyphs′ homes′
-    unfolding passLeaves
+    unfolding passedLeaves
     ends n o p =
         record {
           answers = o .answers;

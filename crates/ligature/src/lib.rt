@@ -20,7 +20,7 @@ ghost use Rattle.line.specs.Line.{lineOf};
 ghost use Rattle.ligature.specs.Ligature.{stackOf, fresh, ligationsOf, storedIn, turnOf, acts, overflows, pushed, entered, next, passed};
 ghost use Rattle.machine.specs.Pass.{advanceOf};
 ghost use Rattle.ligature.specs.Calls.{opened, worked, passCall, callLeaves, areInside, stepTests, stepCall, stepLeaves};
-ghost use Rattle.ligature.specs.Work.{ligated, didActs, didWork, reached, stepOf, passLeaves, workLeaves};
+ghost use Rattle.ligature.specs.Work.{ligated, didActs, didWork, reached, stepOf, passedLeaves, workLeaves};
 
 // The state of a pass: the state table's state, and the stack, a place and a glyph for each slot, of which the first `depth` are used.
 pub struct LigatureState {
@@ -557,8 +557,8 @@ fn pass_line(
 ) -> Answer
     requires { ⌜ (used ≤ length (now glyphs)) × (used ≤ length (now tags)) ⌝ }
     ensures answer { λ r. ⌜ r ≡ passed (now (bytes .entry)) states (lineOf (now (glyphs .entry)) (now (tags .entry)) (now (homes .entry)) used) .answer ⌝ }
-    ensures glyphs { λ _. ⌜ now (glyphs .exit) ≡ passLeaves (now (bytes .entry)) states (lineOf (now (glyphs .entry)) (now (tags .entry)) (now (homes .entry)) used) .glyphs ⌝ }
-    ensures homes { λ _. ⌜ now (homes .exit) ≡ passLeaves (now (bytes .entry)) states (lineOf (now (glyphs .entry)) (now (tags .entry)) (now (homes .entry)) used) .homes ⌝ }
+    ensures glyphs { λ _. ⌜ now (glyphs .exit) ≡ passedLeaves (now (bytes .entry)) states (lineOf (now (glyphs .entry)) (now (tags .entry)) (now (homes .entry)) used) .glyphs ⌝ }
+    ensures homes { λ _. ⌜ now (homes .exit) ≡ passedLeaves (now (bytes .entry)) states (lineOf (now (glyphs .entry)) (now (tags .entry)) (now (homes .entry)) used) .homes ⌝ }
 {
     let fresh = LigatureState::new();
     let mut places = fresh.places;

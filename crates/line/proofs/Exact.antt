@@ -9,7 +9,7 @@ use native.Mathlib.Omega.{arith}
 use lib.Dec.{ltb, leb, eqb}
 use lib.ListN.{length, getD}
 use borrow.Author.Tests.{ltb-true, leb-true, eqb-true, eqb-false, lt-ltb, le-leb, eq-eqb, ne-eqb, not-true}
-use Rattle.answers.specs.Limits.{room}
+use Rattle.answers.specs.Limits.{roomLimit}
 use Rattle.laws.specs.Lists.{both, every}
 use Rattle.laws.proofs.Choices.{ifEq-yes, ifEq-no}
 use Rattle.laws.proofs.Lists.{both-left, both-right, every-at, every-none, every-more}
@@ -115,11 +115,11 @@ module _ (l : Line) where
   unfolding isValid
   valid-of e =
       let a = both-right (eqb (length (l .tags)) (length (l .glyphs))) _ e in
-      let b = both-right (leb (length (l .glyphs)) room) _ a in
+      let b = both-right (leb (length (l .glyphs)) roomLimit) _ a in
       let c = both-right (leb (l .used) (length (l .glyphs))) _ b in
       record {
         paired = eqb-true _ _ (both-left (eqb (length (l .tags)) (length (l .glyphs))) _ e);
-        limited = leb-true _ _ (both-left (leb (length (l .glyphs)) room) _ a);
+        limited = leb-true _ _ (both-left (leb (length (l .glyphs)) roomLimit) _ a);
         within = leb-true _ _ (both-left (leb (l .used) (length (l .glyphs))) _ b);
         legal = legal-of (l .tags) (l .homes) (l .used) c;
       }

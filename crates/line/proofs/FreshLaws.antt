@@ -9,7 +9,7 @@ use lib.ListN.{length, getD, take, drop, length-append, length-drop}
 use lib.Seq.{take-length, paste}
 use borrow.Author.Tests.{lt-ltb, le-ltb, eq-eqb, ne-eqb, ltb-false, eqb-true, not-false}
 use Rattle.answers.proofs.Refusals.{refuse-here, refuse-later, refuse-none, passed-here, passed-later}
-use Rattle.answers.specs.Limits.{room}
+use Rattle.answers.specs.Limits.{roomLimit}
 use Rattle.answers.specs.Refuse.{refuse}
 use Rattle.answers.specs.declared.Refusal.{Refusal}
 use Rattle.answers.specs.declared.Refusal.the-variants as Refusal
@@ -31,16 +31,16 @@ module _ (glyphs tags homes : List ℕ) where
   fresh-unpaired h = sym (refuse-here _ _ (ap not (ne-eqb _ _ h)))
 
   module _ (paired : length tags ≡ length glyphs) where
-    pub fresh-unlimited : room < length glyphs → Refused Refusal.Line ≡ refuse (freshTests glyphs tags homes)
+    pub fresh-unlimited : roomLimit < length glyphs → Refused Refusal.Line ≡ refuse (freshTests glyphs tags homes)
     unfolding freshTests
     fresh-unlimited h = sym (refuse-later _ _ (ap not (eq-eqb _ _ paired)) ∙ refuse-here _ _ (lt-ltb _ _ h))
 
-    pub fresh-crowded : length glyphs ≤ room → length glyphs < length homes → Refused Refusal.Line ≡ refuse (freshTests glyphs tags homes)
+    pub fresh-crowded : length glyphs ≤ roomLimit → length glyphs < length homes → Refused Refusal.Line ≡ refuse (freshTests glyphs tags homes)
     unfolding freshTests
     fresh-crowded h k =
         sym (refuse-later _ _ (ap not (eq-eqb _ _ paired)) ∙ refuse-later _ _ (le-ltb _ _ h) ∙ refuse-here _ _ (lt-ltb _ _ k))
 
-    pub fresh-passed : length glyphs ≤ room → length homes ≤ length glyphs → Passed ≡ refuse (freshTests glyphs tags homes)
+    pub fresh-passed : length glyphs ≤ roomLimit → length homes ≤ length glyphs → Passed ≡ refuse (freshTests glyphs tags homes)
     unfolding freshTests
     fresh-passed h k =
         sym
@@ -75,7 +75,7 @@ module _ (glyphs tags homes : List ℕ) (taken : refuse (freshTests glyphs tags 
   unfolding freshTests
   lengths = eqb-true _ _ (not-false _ (passed-here _ _ taken))
 
-  limited : length glyphs ≤ room
+  limited : length glyphs ≤ roomLimit
   unfolding freshTests
   limited = ltb-false _ _ (passed-here _ _ (passed-later _ _ taken))
 

@@ -8,7 +8,7 @@ use lib.ListN.{length, getD}
 use Rattle.line.specs.Line.{Line, Valid, Belongs}
 use Rattle.line.specs.Edits.{Edit, carry, added, carryAll, inserted}
 use Rattle.line.specs.Changes.{Change, editsOf, historyOf, apply, applyAll}
-use Rattle.line.specs.History.{Demand3, Fits, Honest, leftBy, historyBy, startOf}
+use Rattle.line.specs.History.{Accounted, Fits, Honest, leftBy, historyBy, startOf}
 use Rattle.line.proofs.Exact.{found}
 use Rattle.line.proofs.Once.{same-place}
 use Rattle.line.proofs.Moves.{Moved, change-moved}
@@ -75,7 +75,7 @@ module _ {Call : Type 0} (leaves : Call → Line → Line) (makes : Call → Lin
 -- so every character is where the history takes the place from which it started
 pub placed : (start : ℕ → ℕ) (history : List Edit) {l l′ : Line}
     → ((c : ℕ) → c < length (l .homes) → Belongs l c (start c)) → By l history l′
-    → Demand3 (length (l .glyphs)) (length (l .homes)) (l .used) start history l′
+    → Accounted (length (l .glyphs)) (length (l .homes)) (l .used) start history l′
 placed start history {l} {l′} starts m =
     let there : (c : ℕ) → c < length (l .homes) → Belongs l′ c (carryAll history (l .used) (start c)) =
     λ c h. m .goes c (start c) (starts c h) in

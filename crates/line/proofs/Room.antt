@@ -1,12 +1,12 @@
 -- What the proofs use of the room's limit: it is small, and the LINE test has a bit for each tag below it.
 use Prim.Native.Nat.{ℕ, _/_, _<_, _≤_}
 use native.Mathlib.Omega.{arith}
-use Rattle.answers.specs.Limits.{room}
+use Rattle.answers.specs.Limits.{roomLimit}
 
-pub room-small : room ≤ 65535
-unfolding room
+pub room-small : roomLimit ≤ 65535
+unfolding roomLimit
 room-small = omega arith
 
-pub word-inside : (tag : ℕ) → tag < room → tag / 64 < 64
-unfolding room
+pub word-inside : (tag : ℕ) → tag < roomLimit → tag / 64 < 64
+unfolding roomLimit
 word-inside tag h = omega arith

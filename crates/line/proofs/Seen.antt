@@ -13,7 +13,7 @@ use lib.ListN.{length, getD, replicate, length-set, length-replicate, getD-repli
 use lib.Pow.{shl-exact, shl-shr, pow-add, pow-lt, pow-pos}
 use lib.Seq.{getD-set-same, getD-set-other}
 use borrow.Author.Tests.{lt-ltb, le-ltb, eq-eqb, ne-eqb, not-true, not-false}
-use Rattle.answers.specs.Limits.{room}
+use Rattle.answers.specs.Limits.{roomLimit}
 use Rattle.laws.specs.Lists.{both, every}
 use Rattle.laws.proofs.Lists.{every-none, every-more, every-fails}
 use Rattle.laws.proofs.Numbers.{lt-or-ge, eq-or-ne}
@@ -86,11 +86,11 @@ seen-none count tag h = rw (getD-replicate {A = ℕ} count (tag / 64) 0 0 h) (ze
 -- The loop over the tags: each of the first p is below the used length and stands once, and the bits are theirs.
 pub record Marking (tags : List ℕ) (used : ℕ) (seen : List ℕ) (p : ℕ) : Type 0 where
   pub within : p ≤ used
-  pub enough : (t : ℕ) → t < room → t / 64 < length seen
+  pub enough : (t : ℕ) → t < roomLimit → t / 64 < length seen
   pub so-far : every (λ q. both (ltb (getD tags q 0) used) (isNew tags q (getD tags q 0))) p ≡ true
-  pub bits : (t : ℕ) → t < room → hasSeen seen t ≡ not (isNew tags p t)
+  pub bits : (t : ℕ) → t < roomLimit → hasSeen seen t ≡ not (isNew tags p t)
 
-pub marking-start : (tags : List ℕ) (used count : ℕ) → ((t : ℕ) → t < room → t / 64 < count) → Marking tags used (replicate count 0) 0
+pub marking-start : (tags : List ℕ) (used count : ℕ) → ((t : ℕ) → t < roomLimit → t / 64 < count) → Marking tags used (replicate count 0) 0
 unfolding isNew
 marking-start tags used count enough =
     record {
@@ -106,17 +106,17 @@ module _ (tags : List ℕ) (used : ℕ) (seen : List ℕ) (p : ℕ) (m : Marking
   unfolding isOnceEach
   marking-large h = sym (every-fails _ used p (rw (le-ltb (getD tags p 0) used h)) more)
 
-  pub marking-again : {met : Bool} → getD tags p 0 < used → used ≤ room → met ≡ hasSeen seen (getD tags p 0) → met ≡ true
+  pub marking-again : {met : Bool} → getD tags p 0 < used → used ≤ roomLimit → met ≡ hasSeen seen (getD tags p 0) → met ≡ true
       → false ≡ isOnceEach tags used
   unfolding isOnceEach
   marking-again h k e i =
       let old : isNew tags p (getD tags p 0) ≡ false = not-true _ (sym (m .bits (getD tags p 0) (omega arith)) ∙ sym e ∙ i) in
       sym (every-fails _ used p (rw (lt-ltb (getD tags p 0) used h) old) more)
 
-  marked : getD tags p 0 < used → used ≤ room → hasSeen seen (getD tags p 0) ≡ false → Marking tags used (withTag seen (getD tags p 0)) (p + 1)
+  marked : getD tags p 0 < used → used ≤ roomLimit → hasSeen seen (getD tags p 0) ≡ false → Marking tags used (withTag seen (getD tags p 0)) (p + 1)
   unfolding isNew withTag every
   marked h k e =
-      let here : getD tags p 0 < room = omega arith in
+      let here : getD tags p 0 < roomLimit = omega arith in
       let new : isNew tags p (getD tags p 0) ≡ true = not-false _ (sym (m .bits (getD tags p 0) here) ∙ e) in
       let wide = m .enough (getD tags p 0) here in
       record {
@@ -132,7 +132,7 @@ module _ (tags : List ℕ) (used : ℕ) (seen : List ℕ) (p : ℕ) (m : Marking
             (eq-or-ne (getD tags p 0) t));
       }
 
-  pub marking-next : {met : Bool} {after : List ℕ} → getD tags p 0 < used → used ≤ room → met ≡ hasSeen seen (getD tags p 0) → met ≡ false
+  pub marking-next : {met : Bool} {after : List ℕ} → getD tags p 0 < used → used ≤ roomLimit → met ≡ hasSeen seen (getD tags p 0) → met ≡ false
       → after ≡ withTag seen (getD tags p 0) → Marking tags used after (p + 1)
   marking-next h k e i a = rw a (marked h k (sym e ∙ i))
 

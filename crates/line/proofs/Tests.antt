@@ -10,7 +10,7 @@ use lib.ListN.{length, getD}
 use borrow.Author.Tests.{lt-ltb, le-leb, lt-leb, eq-eqb, ne-eqb, eqb-true, not-true, not-false}
 use Rattle.laws.specs.Lists.{both, every}
 use Rattle.laws.proofs.Lists.{every-at, every-none, every-more}
-use Rattle.answers.specs.Limits.{room}
+use Rattle.answers.specs.Limits.{roomLimit}
 use Rattle.line.specs.Line.{lineOf}
 use Rattle.line.specs.Test.{areHoused, isNew, isOnceEach, isLegal, isValid}
 use Rattle.line.specs.Seen.{areInOrder}
@@ -58,15 +58,15 @@ module _ (glyphs tags homes : List ℕ) (used : ℕ) where
   unfolding isValid
   valid-unpaired h = rw (ne-eqb _ _ h)
 
-  pub valid-unlimited : length tags ≡ length glyphs → room < length glyphs → false ≡ isValid (lineOf glyphs tags homes used)
+  pub valid-unlimited : length tags ≡ length glyphs → roomLimit < length glyphs → false ≡ isValid (lineOf glyphs tags homes used)
   unfolding isValid
   valid-unlimited h k = rw (eq-eqb _ _ h, lt-leb _ _ k)
 
-  pub valid-over : length tags ≡ length glyphs → length glyphs ≤ room → length glyphs < used → false ≡ isValid (lineOf glyphs tags homes used)
+  pub valid-over : length tags ≡ length glyphs → length glyphs ≤ roomLimit → length glyphs < used → false ≡ isValid (lineOf glyphs tags homes used)
   unfolding isValid
   valid-over h k i = rw (eq-eqb _ _ h, le-leb _ _ k, lt-leb _ _ i)
 
-  pub valid-rest : {legal : Bool} → length tags ≡ length glyphs → length glyphs ≤ room → used ≤ length glyphs
+  pub valid-rest : {legal : Bool} → length tags ≡ length glyphs → length glyphs ≤ roomLimit → used ≤ length glyphs
       → legal ≡ isLegal tags homes used → legal ≡ isValid (lineOf glyphs tags homes used)
   unfolding isValid
   valid-rest h k i e = rw (eq-eqb _ _ h, le-leb _ _ k, le-leb _ _ i) e

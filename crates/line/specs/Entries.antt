@@ -5,7 +5,7 @@ use mathlib.Core.List.{List, [], _∷_, _++_}
 use lib.Dec.{ltb, eqb}
 use lib.ListN.{length, drop}
 use Rattle.laws.specs.Choose.{ifEq}
-use Rattle.answers.specs.Limits.{room}
+use Rattle.answers.specs.Limits.{roomLimit}
 use Rattle.answers.specs.Refuse.{Test, refuse}
 use Rattle.answers.specs.declared.Refusal.the-variants as Refusal
 use Rattle.answers.specs.declared.Answer.{Answer}
@@ -27,7 +27,7 @@ freshOf glyphs tags homes =
 unfoldable pub freshTests : (glyphs tags homes : List ℕ) → List Test
 freshTests glyphs tags homes =
     record { holds = not (eqb (length tags) (length glyphs)); refusal = Refusal.Line }
-    ∷ record { holds = ltb room (length glyphs); refusal = Refusal.Line }
+    ∷ record { holds = ltb roomLimit (length glyphs); refusal = Refusal.Line }
     ∷ record { holds = ltb (length glyphs) (length homes); refusal = Refusal.Line }
     ∷ []
 

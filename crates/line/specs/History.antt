@@ -18,7 +18,7 @@ unfoldable pub startOf : Line → ℕ → ℕ
 startOf l c = placeOfTag (l .tags) (l .used) (getD (l .homes) c 0)
 
 -- what demand 3 says of the line l after a history: it began with n places, in a room, and with a start for each of the characters
-pub record Demand3 (room characters n : ℕ) (start : ℕ → ℕ) (history : List Edit) (l : Line) : Type 0 where
+pub record Accounted (room characters n : ℕ) (start : ℕ → ℕ) (history : List Edit) (l : Line) : Type 0 where
   -- the line is valid, and no character is lost or added
   pub valid : Valid l
   pub all : length (l .homes) ≡ characters
@@ -32,11 +32,11 @@ pub record Demand3 (room characters n : ℕ) (start : ℕ → ℕ) (history : Li
 
 -- the same, from a line as it was found
 abbrev pub FromLine : Line → List Edit → Line → Type 0
-FromLine l₀ = Demand3 (length (l₀ .glyphs)) (length (l₀ .homes)) (l₀ .used) (startOf l₀)
+FromLine l₀ = Accounted (length (l₀ .glyphs)) (length (l₀ .homes)) (l₀ .used) (startOf l₀)
 
 -- the same, from a fresh line of n characters: each starts at its own place
 abbrev pub FromFresh : (room n : ℕ) → List Edit → Line → Type 0
-FromFresh room n = Demand3 room n n (λ c. c)
+FromFresh room n = Accounted room n n (λ c. c)
 
 -- changes are legal on a line when no insertion makes the length exceed the room; lengths only grow, so that the last tells
 abbrev pub Fits : List Change → Line → Type 0

@@ -3,7 +3,7 @@ use Prim.Native.Nat.{ℕ, _<_, _≤_}
 use mathlib.Core.Path.{_≡_}
 use mathlib.Core.List.{List}
 use lib.ListN.{length, getD}
-use Rattle.answers.specs.Limits.{room}
+use Rattle.answers.specs.Limits.{roomLimit}
 
 pub record Line : Type 0 where
   pub glyphs : List ℕ
@@ -32,7 +32,7 @@ pub record Legal (tags homes : List ℕ) (used : ℕ) : Type 0 where
 -- a line that LINE does not refuse: equal lengths, a room within the limit, a used length within the room, legal tags and homes
 pub record Valid (l : Line) : Type 0 where
   pub paired : length (l .tags) ≡ length (l .glyphs)
-  pub limited : length (l .glyphs) ≤ room
+  pub limited : length (l .glyphs) ≤ roomLimit
   pub within : l .used ≤ length (l .glyphs)
   pub legal : Legal (l .tags) (l .homes) (l .used)
 

@@ -5,7 +5,7 @@ use mathlib.Core.List.{List}
 use lib.Dec.{ltb, leb, eqb}
 use lib.ListN.{length, getD}
 use Rattle.laws.specs.Lists.{both, every}
-use Rattle.answers.specs.Limits.{room}
+use Rattle.answers.specs.Limits.{roomLimit}
 use Rattle.answers.specs.Refuse.{Test}
 use Rattle.answers.specs.declared.Refusal.the-variants as Refusal
 use Rattle.line.specs.Line.{Line}
@@ -35,7 +35,7 @@ isLegal tags homes used = both (leb (length homes) used) (both (areHoused homes 
 unfoldable pub isValid : Line → Bool
 isValid l =
     both (eqb (length (l .tags)) (length (l .glyphs)))
-    (both (leb (length (l .glyphs)) room)
+    (both (leb (length (l .glyphs)) roomLimit)
     (both (leb (l .used) (length (l .glyphs)))
     (isLegal (l .tags) (l .homes) (l .used))))
 

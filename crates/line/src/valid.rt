@@ -3,7 +3,7 @@ ghost use mathlib.Core.Path.{_≡_};
 ghost use Prim.Native.Nat.{_<_, _≤_};
 ghost use lib.ListN.{length};
 ghost use Rattle.laws.specs.Lists.{both};
-ghost use Rattle.answers.specs.Limits.{room};
+ghost use Rattle.answers.specs.Limits.{roomLimit};
 ghost use Rattle.line.specs.Line.{lineOf};
 ghost use Rattle.line.specs.Test.{isOnceEach, areHoused, isLegal, isValid};
 ghost use Rattle.line.specs.Seen.{hasSeen, withTag, areInOrder};
@@ -14,7 +14,7 @@ const WORDS: usize = ROOM / 64;
 
 // Whether the tag was met.
 fn has_seen(seen: &[u64; WORDS], tag: u16) -> bool
-    requires { ⌜ tag < room ⌝ }
+    requires { ⌜ tag < roomLimit ⌝ }
     ensures { λ r. ⌜ r ≡ hasSeen (now (seen .entry)) tag ⌝ }
 {
     (seen[(tag / 64) as usize] >> (tag % 64)) % 2 == 1
@@ -22,7 +22,7 @@ fn has_seen(seen: &[u64; WORDS], tag: u16) -> bool
 
 // The tag is met.
 fn mark(seen: &mut [u64; WORDS], tag: u16)
-    requires { ⌜ tag < room ⌝ }
+    requires { ⌜ tag < roomLimit ⌝ }
     ensures { λ _. ⌜ now (seen .exit) ≡ withTag (now (seen .entry)) tag ⌝ }
 {
     let word = (tag / 64) as usize;
@@ -31,7 +31,7 @@ fn mark(seen: &mut [u64; WORDS], tag: u16)
 
 // Whether the used tags are 0 to `used` - 1 once each.
 fn once_each(tags: &[u16], used: usize) -> bool
-    requires { ⌜ (used ≤ length (now tags)) × (used ≤ room) ⌝ }
+    requires { ⌜ (used ≤ length (now tags)) × (used ≤ roomLimit) ⌝ }
     ensures { λ r. ⌜ r ≡ isOnceEach (now (tags .entry)) used ⌝ }
 {
     let mut seen = [0u64; WORDS];
@@ -62,7 +62,7 @@ fn both(one: bool, other: bool) -> bool
 
 // Whether the used tags count up from 0.
 fn in_order(tags: &[u16], used: usize) -> bool
-    requires { ⌜ (used ≤ length (now tags)) × (used ≤ room) ⌝ }
+    requires { ⌜ (used ≤ length (now tags)) × (used ≤ roomLimit) ⌝ }
     ensures { λ r. ⌜ r ≡ areInOrder (now (tags .entry)) used ⌝ }
 {
     let mut all = true;
@@ -89,7 +89,7 @@ fn housed(homes: &[u16], used: usize) -> bool
 
 // Whether tags and homes are those of a line of `used` places.
 pub fn legal(tags: &[u16], homes: &[u16], used: usize) -> bool
-    requires { ⌜ (used ≤ length (now tags)) × (used ≤ room) ⌝ }
+    requires { ⌜ (used ≤ length (now tags)) × (used ≤ roomLimit) ⌝ }
     ensures { λ r. ⌜ r ≡ isLegal (now (tags .entry)) (now (homes .entry)) used ⌝ }
 {
     if used < homes.len() {

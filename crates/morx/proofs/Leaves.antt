@@ -15,7 +15,7 @@ use Rattle.line.proofs.Exact.{valid-of, of-valid}
 use Rattle.line.proofs.Histories.{by-changes, inserted-append, history-append}
 use Rattle.machine.specs.Pass.{Passed}
 use Rattle.machine.proofs.Quiet.{Quiet, quiet-fits}
-use Rattle.morx.specs.Work.{replyOf}
+use Rattle.morx.specs.Work.{passReplyOf}
 use Rattle.morx.specs.declared.PassReply.{PassReply}
 
 pub record Leaves (p : Passed) (l : Line) (reply : PassReply) (glyphs tags homes : List ℕ) : Type 0 where
@@ -25,7 +25,7 @@ pub record Leaves (p : Passed) (l : Line) (reply : PassReply) (glyphs tags homes
 -- the same, as contracts say it
 abbrev pub Post : Passed → Line → PassReply → (glyphs tags homes : List ℕ) → Type 0
 Post p l reply glyphs tags homes =
-    (reply ≡ replyOf p l) × ((glyphs ≡ applyAll (p .changes) l .glyphs) × ((tags ≡ applyAll (p .changes) l .tags) × (homes ≡ applyAll (p .changes) l .homes)))
+    (reply ≡ passReplyOf p l) × ((glyphs ≡ applyAll (p .changes) l .glyphs) × ((tags ≡ applyAll (p .changes) l .tags) × (homes ≡ applyAll (p .changes) l .homes)))
 
 module _ (p : Passed) (l : Line) (reply : PassReply) (glyphs tags homes : List ℕ) where
   pub to-post : Leaves p l reply glyphs tags homes → Post p l reply glyphs tags homes
@@ -35,7 +35,7 @@ module _ (p : Passed) (l : Line) (reply : PassReply) (glyphs tags homes : List �
         (ap (λ (x : Line). x .glyphs) (e .line), (ap (λ (x : Line). x .tags) (e .line), ap (λ (x : Line). x .homes) (e .line))),
       )
     where
-      reply-is : reply .answer ≡ p .answer → reply .used ≡ applyAll (p .changes) l .used → reply ≡ replyOf p l
+      reply-is : reply .answer ≡ p .answer → reply .used ≡ applyAll (p .changes) l .used → reply ≡ passReplyOf p l
       reply-is a u = ap (λ (x : Answer). record { answer = x; used = reply .used }) a ∙ ap (λ (n : ℕ). record { answer = p .answer; used = n }) u
 
   pub of-post : Post p l reply glyphs tags homes → Leaves p l reply glyphs tags homes

@@ -5,7 +5,7 @@ use mathlib.Core.Bool.{Bool, true, false, not, cond}
 use mathlib.Core.List.{List, [], _∷_}
 use native.Mathlib.Omega.{arith}
 use lib.ListN.{length, getD, drop}
-use Rattle.answers.specs.Limits.{room}
+use Rattle.answers.specs.Limits.{roomLimit}
 use Rattle.answers.specs.declared.Answer.{Answer}
 use Rattle.answers.specs.declared.Answer.the-variants as Answer′
 use Rattle.answers.specs.declared.Refusal.the-variants as Refusal′
@@ -58,7 +58,7 @@ use Rattle.tables.specs.Lookup.{lookupAt}
 use Rattle.tables.specs.declared.lookup.Found.{Found}
 use Rattle.tables.specs.declared.lookup.Found.the-variants as Found′
 use Rattle.morx.specs.Kinds.{kindOf, kindAt, worked}
-use Rattle.morx.specs.Work.{workLeaves, replyOf}
+use Rattle.morx.specs.Work.{workLeaves, passReplyOf}
 use Rattle.morx.specs.declared.Kind.{Kind}
 use Rattle.morx.specs.declared.Kind.the-variants.{Rearrangement, Contextual, Ligature, NonContextual, Insertion, LeftOut}
 use Rattle.morx.specs.declared.PassReply.{PassReply}

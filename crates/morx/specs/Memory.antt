@@ -12,8 +12,8 @@ use Rattle.morx.specs.Calls.{passLeaves, runLeaves}
 use Rattle.morx.specs.Sequence.{Call}
 
 -- the slices that are written
-abbrev glyphsOf : Line → Line → Line
-glyphsOf left l = lineOf (left .glyphs) (l .tags) (l .homes) (l .used)
+abbrev glyphsAloneOf : Line → Line → Line
+glyphsAloneOf left l = lineOf (left .glyphs) (l .tags) (l .homes) (l .used)
 
 abbrev glyphsAndTagsOf : Line → Line → Line
 glyphsAndTagsOf left l = lineOf (left .glyphs) (left .tags) (l .homes) (l .used)
@@ -24,11 +24,11 @@ glyphsAndHomesOf left l = lineOf (left .glyphs) (l .tags) (left .homes) (l .used
 unfoldable pub inMemory : Call → Line → Line
 inMemory (Call.verb c) l = glyphsAndTagsOf (verbCall l (c .verb) (c .start) (c .end) .line) l
 inMemory (Call.rearrangement c) l = glyphsAndTagsOf (Rearrangement′.callLeaves (c .table) (c .start) l) l
-inMemory (Call.contextual c) l = glyphsOf (Contextual′.callLeaves (c .table) (c .start) l) l
-inMemory (Call.contextualStep c) l = glyphsOf (Contextual′.stepLeaves (c .table) (c .start) (c .state) l (c .index) (c .glyph) (c .ends)) l
+inMemory (Call.contextual c) l = glyphsAloneOf (Contextual′.callLeaves (c .table) (c .start) l) l
+inMemory (Call.contextualStep c) l = glyphsAloneOf (Contextual′.stepLeaves (c .table) (c .start) (c .state) l (c .index) (c .glyph) (c .ends)) l
 inMemory (Call.ligature c) l = glyphsAndHomesOf (Ligature′.callLeaves (c .table) (c .start) l) l
 inMemory (Call.ligatureStep c) l = glyphsAndHomesOf (Ligature′.stepLeaves (c .table) (c .start) (c .state) l (c .index) (c .glyph) (c .ends)) l
-inMemory (Call.noncontextual c) l = glyphsOf (NonContextual′.callLeaves (c .table) (c .start) l) l
+inMemory (Call.noncontextual c) l = glyphsAloneOf (NonContextual′.callLeaves (c .table) (c .start) l) l
 inMemory (Call.insertion c) l =
     let left : Line = Insertion′.callLeaves (c .table) (c .start) l in
     lineOf (left .glyphs) (left .tags) (l .homes) (left .used)

@@ -21,8 +21,8 @@ unfoldable pub lineTests : (tableLength : ℕ) → Line → List Test
 lineTests tableLength l = tableTest tableLength ∷ lineTest l ∷ []
 
 -- what a pass answers: its answer, and the used length after its changes
-abbrev pub replyOf : Passed → Line → PassReply
-replyOf p l = record { answer = p .answer; used = applyAll (p .changes) l .used }
+abbrev pub passReplyOf : Passed → Line → PassReply
+passReplyOf p l = record { answer = p .answer; used = applyAll (p .changes) l .used }
 
 -- the line that the pass of a subtable of a kind leaves
 unfoldable pub workLeaves : Kind → List ℕ → Line → Line

@@ -20,7 +20,7 @@ ghost use Rattle.machine.specs.Call.{isShort};
 ghost use Rattle.morx.specs.Kinds.{kindOf, kindAt, isOpen, worked};
 ghost use Rattle.morx.specs.Run.{shareBit, isPassedOver, turnedWork, settledAnswer, flagsAfter, visit, visitLeaves, visitSubtable, ran};
 ghost use Rattle.morx.specs.Calls.{passCall, passLeaves, runTests, runCall, runLeaves};
-ghost use Rattle.morx.specs.Work.{subtableLeaves, turnedLeaves, ranLeaves, runReplyOf, workLeaves, replyOf, lineTests};
+ghost use Rattle.morx.specs.Work.{subtableLeaves, turnedLeaves, ranLeaves, runReplyOf, workLeaves, passReplyOf, lineTests};
 
 // The kinds of subtables; those that are left out are one.
 pub enum Kind {
@@ -95,7 +95,7 @@ fn work(
     used: usize,
 ) -> PassReply
     requires { ⌜ isValid (lineOf (now glyphs) (now tags) (now homes) used) ≡ true ⌝ }
-    ensures reply { λ r. ⌜ r ≡ replyOf (worked kind (now (bytes .entry)) (lineOf (now (glyphs .entry)) (now (tags .entry)) (now (homes .entry)) used)) (lineOf (now (glyphs .entry)) (now (tags .entry)) (now (homes .entry)) used) ⌝ }
+    ensures reply { λ r. ⌜ r ≡ passReplyOf (worked kind (now (bytes .entry)) (lineOf (now (glyphs .entry)) (now (tags .entry)) (now (homes .entry)) used)) (lineOf (now (glyphs .entry)) (now (tags .entry)) (now (homes .entry)) used) ⌝ }
     ensures glyphs { λ _. ⌜ now (glyphs .exit) ≡ workLeaves kind (now (bytes .entry)) (lineOf (now (glyphs .entry)) (now (tags .entry)) (now (homes .entry)) used) .glyphs ⌝ }
     ensures tags { λ _. ⌜ now (tags .exit) ≡ workLeaves kind (now (bytes .entry)) (lineOf (now (glyphs .entry)) (now (tags .entry)) (now (homes .entry)) used) .tags ⌝ }
     ensures homes { λ _. ⌜ now (homes .exit) ≡ workLeaves kind (now (bytes .entry)) (lineOf (now (glyphs .entry)) (now (tags .entry)) (now (homes .entry)) used) .homes ⌝ }
@@ -190,7 +190,7 @@ fn turn_and_work(
     used: usize,
 ) -> PassReply
     requires { ⌜ isValid (lineOf (now glyphs) (now tags) (now homes) used) ≡ true ⌝ }
-    ensures reply { λ r. ⌜ r ≡ replyOf (turnedWork turned kind (now (bytes .entry)) (lineOf (now (glyphs .entry)) (now (tags .entry)) (now (homes .entry)) used)) (lineOf (now (glyphs .entry)) (now (tags .entry)) (now (homes .entry)) used) ⌝ }
+    ensures reply { λ r. ⌜ r ≡ passReplyOf (turnedWork turned kind (now (bytes .entry)) (lineOf (now (glyphs .entry)) (now (tags .entry)) (now (homes .entry)) used)) (lineOf (now (glyphs .entry)) (now (tags .entry)) (now (homes .entry)) used) ⌝ }
     ensures glyphs { λ _. ⌜ now (glyphs .exit) ≡ turnedLeaves turned kind (now (bytes .entry)) (lineOf (now (glyphs .entry)) (now (tags .entry)) (now (homes .entry)) used) .glyphs ⌝ }
     ensures tags { λ _. ⌜ now (tags .exit) ≡ turnedLeaves turned kind (now (bytes .entry)) (lineOf (now (glyphs .entry)) (now (tags .entry)) (now (homes .entry)) used) .tags ⌝ }
     ensures homes { λ _. ⌜ now (homes .exit) ≡ turnedLeaves turned kind (now (bytes .entry)) (lineOf (now (glyphs .entry)) (now (tags .entry)) (now (homes .entry)) used) .homes ⌝ }
@@ -250,7 +250,7 @@ fn visit_subtable(
     used: usize,
 ) -> PassReply
     requires { ⌜ isValid (lineOf (now glyphs) (now tags) (now homes) used) ≡ true ⌝ }
-    ensures reply { λ r. ⌜ r ≡ replyOf (visitSubtable (now (table .entry)) choices flags subtable (lineOf (now (glyphs .entry)) (now (tags .entry)) (now (homes .entry)) used)) (lineOf (now (glyphs .entry)) (now (tags .entry)) (now (homes .entry)) used) ⌝ }
+    ensures reply { λ r. ⌜ r ≡ passReplyOf (visitSubtable (now (table .entry)) choices flags subtable (lineOf (now (glyphs .entry)) (now (tags .entry)) (now (homes .entry)) used)) (lineOf (now (glyphs .entry)) (now (tags .entry)) (now (homes .entry)) used) ⌝ }
     ensures glyphs { λ _. ⌜ now (glyphs .exit) ≡ subtableLeaves (now (table .entry)) choices flags subtable (lineOf (now (glyphs .entry)) (now (tags .entry)) (now (homes .entry)) used) .glyphs ⌝ }
     ensures tags { λ _. ⌜ now (tags .exit) ≡ subtableLeaves (now (table .entry)) choices flags subtable (lineOf (now (glyphs .entry)) (now (tags .entry)) (now (homes .entry)) used) .tags ⌝ }
     ensures homes { λ _. ⌜ now (homes .exit) ≡ subtableLeaves (now (table .entry)) choices flags subtable (lineOf (now (glyphs .entry)) (now (tags .entry)) (now (homes .entry)) used) .homes ⌝ }
@@ -285,7 +285,7 @@ fn visit(
     used: usize,
 ) -> PassReply
     requires { ⌜ isValid (lineOf (now glyphs) (now tags) (now homes) used) ≡ true ⌝ }
-    ensures reply { λ r. ⌜ r ≡ replyOf (visit (now (table .entry)) choices flags head (lineOf (now (glyphs .entry)) (now (tags .entry)) (now (homes .entry)) used)) (lineOf (now (glyphs .entry)) (now (tags .entry)) (now (homes .entry)) used) ⌝ }
+    ensures reply { λ r. ⌜ r ≡ passReplyOf (visit (now (table .entry)) choices flags head (lineOf (now (glyphs .entry)) (now (tags .entry)) (now (homes .entry)) used)) (lineOf (now (glyphs .entry)) (now (tags .entry)) (now (homes .entry)) used) ⌝ }
     ensures glyphs { λ _. ⌜ now (glyphs .exit) ≡ visitLeaves (now (table .entry)) choices flags head (lineOf (now (glyphs .entry)) (now (tags .entry)) (now (homes .entry)) used) .glyphs ⌝ }
     ensures tags { λ _. ⌜ now (tags .exit) ≡ visitLeaves (now (table .entry)) choices flags head (lineOf (now (glyphs .entry)) (now (tags .entry)) (now (homes .entry)) used) .tags ⌝ }
     ensures homes { λ _. ⌜ now (homes .exit) ≡ visitLeaves (now (table .entry)) choices flags head (lineOf (now (glyphs .entry)) (now (tags .entry)) (now (homes .entry)) used) .homes ⌝ }
@@ -393,7 +393,7 @@ pub fn pass(
     homes: &mut [u16],
     used: usize,
 ) -> PassReply
-    ensures reply { λ r. ⌜ r ≡ replyOf (passCall (now (table .entry)) start (lineOf (now (glyphs .entry)) (now (tags .entry)) (now (homes .entry)) used)) (lineOf (now (glyphs .entry)) (now (tags .entry)) (now (homes .entry)) used) ⌝ }
+    ensures reply { λ r. ⌜ r ≡ passReplyOf (passCall (now (table .entry)) start (lineOf (now (glyphs .entry)) (now (tags .entry)) (now (homes .entry)) used)) (lineOf (now (glyphs .entry)) (now (tags .entry)) (now (homes .entry)) used) ⌝ }
     ensures glyphs { λ _. ⌜ now (glyphs .exit) ≡ passLeaves (now (table .entry)) start (lineOf (now (glyphs .entry)) (now (tags .entry)) (now (homes .entry)) used) .glyphs ⌝ }
     ensures tags { λ _. ⌜ now (tags .exit) ≡ passLeaves (now (table .entry)) start (lineOf (now (glyphs .entry)) (now (tags .entry)) (now (homes .entry)) used) .tags ⌝ }
     ensures homes { λ _. ⌜ now (homes .exit) ≡ passLeaves (now (table .entry)) start (lineOf (now (glyphs .entry)) (now (tags .entry)) (now (homes .entry)) used) .homes ⌝ }

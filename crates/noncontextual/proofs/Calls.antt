@@ -20,7 +20,7 @@ use Rattle.line.proofs.Refusals.{refuse-line, refuse-past-line, passed-line}
 use Rattle.machine.specs.Head.{hasKind, bodyOf}
 use Rattle.machine.specs.Pass as Pass
 use Rattle.noncontextual.specs.NonContextual.{passed, worked, kindTest, passTests, passCall}
-use Rattle.noncontextual.specs.Work.{passLeaves, workLeaves}
+use Rattle.noncontextual.specs.Work.{passedLeaves, workLeaves}
 
 module _ (length : ℕ) (l : Line) (bytes : List ℕ) {check : Check} (e : check ≡ refuse (tableTest length ∷ [])) where
   abbrev behind : List Test
@@ -70,13 +70,13 @@ module _ (bytes : List ℕ) (l : Line) {kind : Bool} (k : kind ≡ hasKind bytes
   unfolding worked applyAll
   work-headless n = record { answers = rw (sym k ∙ not-true _ n, worked); left = rw (sym k ∙ not-true _ n, worked) }
 
-  pub work-passed : {body glyphs : List ℕ} → not kind ≡ false → body ≡ drop 12 bytes → glyphs ≡ passLeaves body l .glyphs → Ends (worked bytes l) l Answer′.Done glyphs
-  unfolding worked passLeaves passed
+  pub work-passed : {body glyphs : List ℕ} → not kind ≡ false → body ≡ drop 12 bytes → glyphs ≡ passedLeaves body l .glyphs → Ends (worked bytes l) l Answer′.Done glyphs
+  unfolding worked passedLeaves passed
   work-passed {body} n d g =
       let r : worked bytes l ≡ passed (bodyOf bytes) l = rw (sym k ∙ not-false _ n, worked) in
       record {
         answers = ap (λ (w : Pass.Passed). w .answer) (sym r);
-        left = g ∙ ap (λ (x : List ℕ). passLeaves x l .glyphs) d ∙ ap (λ (w : Pass.Passed). applyAll (w .changes) l .glyphs) (sym r);
+        left = g ∙ ap (λ (x : List ℕ). passedLeaves x l .glyphs) d ∙ ap (λ (w : Pass.Passed). applyAll (w .changes) l .glyphs) (sym r);
       }
 
 module _ (table : List ℕ) (start : ℕ) (l : Line) {bytes : List ℕ} {check : Check} (b : bytes ≡ drop start table)

@@ -14,7 +14,7 @@ use Rattle.line.specs.Line.{Line, lineOf}
 use Rattle.line.specs.Changes.{written, apply, applyAll}
 use Rattle.line.proofs.Histories.{applyAll-append}
 use Rattle.noncontextual.specs.NonContextual.{writesOf, writesBelow, passed}
-use Rattle.noncontextual.specs.Work.{replaced, passLeaves}
+use Rattle.noncontextual.specs.Work.{replaced, passedLeaves}
 
 -- a replacement is the writes of its place
 replaced-line : (place : ℕ) (found : Found) (glyphs tags homes : List ℕ) (used : ℕ)
@@ -56,8 +56,8 @@ module _ (body glyphs₀ tags homes : List ℕ) (used : ℕ) where
         long = len ∙ g .long;
       }
 
-  pub going-done : {glyphs : List ℕ} {i : ℕ} → Going glyphs i → used ≤ i → glyphs ≡ passLeaves body (lineOf glyphs₀ tags homes used) .glyphs
-  unfolding passLeaves passed
+  pub going-done : {glyphs : List ℕ} {i : ℕ} → Going glyphs i → used ≤ i → glyphs ≡ passedLeaves body (lineOf glyphs₀ tags homes used) .glyphs
+  unfolding passedLeaves passed
   going-done {glyphs} {i} g h =
       let n : i ≡ used = omega (arith, g .within) in
       ap (λ (l : Line). l .glyphs) (g .made ∙ ap (λ (n : ℕ). applyAll (writesBelow body glyphs₀ n) (lineOf glyphs₀ tags homes used)) n)

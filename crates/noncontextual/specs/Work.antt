@@ -14,8 +14,8 @@ replaced used place (Found′.At glyph) glyphs = written used place glyph glyphs
 replaced used place (Found′.Nothing why) glyphs = glyphs
 
 -- the line that a pass leaves
-unfoldable pub passLeaves : List ℕ → Line → Line
-passLeaves body l = applyAll (passed body l .changes) l
+unfoldable pub passedLeaves : List ℕ → Line → Line
+passedLeaves body l = applyAll (passed body l .changes) l
 
 -- the line that the pass by the subtable that the bytes begin with leaves
 unfoldable pub workLeaves : List ℕ → Line → Line

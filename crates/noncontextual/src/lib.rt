@@ -11,7 +11,7 @@ ghost use Rattle.answers.specs.Refuse.{refuse};
 ghost use Rattle.line.specs.Line.{lineOf};
 ghost use Rattle.tables.specs.Lookup.{lookupAt};
 ghost use Rattle.noncontextual.specs.NonContextual.{passTests, worked, passCall, callLeaves};
-ghost use Rattle.noncontextual.specs.Work.{replaced, passLeaves, workLeaves};
+ghost use Rattle.noncontextual.specs.Work.{replaced, passedLeaves, workLeaves};
 
 // The kind of a non-contextual subtable.
 pub const KIND: u32 = 4;
@@ -30,7 +30,7 @@ fn replace(body: &[u8], glyphs: &mut [u16], used: usize, place: usize, glyph: u1
 // The pass over a line that LINE has taken, with the bytes of the lookup.
 fn pass_line(body: &[u8], glyphs: &mut [u16], tags: &[u16], homes: &[u16], used: usize)
     requires { ⌜ used ≤ length (now glyphs) ⌝ }
-    ensures { λ _. ⌜ now (glyphs .exit) ≡ passLeaves (now (body .entry)) (lineOf (now (glyphs .entry)) (now (tags .entry)) (now (homes .entry)) used) .glyphs ⌝ }
+    ensures { λ _. ⌜ now (glyphs .exit) ≡ passedLeaves (now (body .entry)) (lineOf (now (glyphs .entry)) (now (tags .entry)) (now (homes .entry)) used) .glyphs ⌝ }
 {
     let mut place = 0;
     while place < used {

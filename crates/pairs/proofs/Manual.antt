@@ -25,7 +25,7 @@ use Rattle.tables.specs.declared.lookup.Found.{Found}
 use Rattle.tables.specs.declared.lookup.Found.the-variants as Found′
 use Rattle.tables.proofs.Finding.{search-finds-pair}
 use Rattle.tables.proofs.ManualLookup.{lookup-as-manual}
-use Rattle.pairs.specs.Pairs.{keyOf, numberAt, numberIn, orderedNumber, numberInRow, classNumber, numberOf}
+use Rattle.pairs.specs.Pairs.{keyOf, numberAt, numberIn, orderedNumber, numberInRow, classNumber, pairNumber}
 use Rattle.pairs.specs.Reply.{numberReply, replyOf}
 use Rattle.pairs.specs.Manual.{pairKey, IsPair, pairValue, Rising, OrderedValue, ClassPair, ClassValue, Legible, AsManual}
 use Rattle.pairs.specs.declared.PairTable.the-variants.{Ordered, Classes}
@@ -91,7 +91,7 @@ module _ (bytes : List ℕ) (tuples first count left right : ℕ) (none : tuples
       ∙ ap By (sym (rw (eq-eqb tuples 0 none)))
 
   pub ordered-as-manual : AsManual (replyOf bytes (Ready (Ordered first count)) left right) (OrderedValue bytes tuples first count left right)
-  unfolding replyOf numberOf orderedNumber numberIn
+  unfolding replyOf pairNumber orderedNumber numberIn
   ordered-as-manual = go (searched bytes first Keys′.Pairs count (keyOf left right)) refl
     where
       right-one : (s : Spot) → searched bytes first Keys′.Pairs count (keyOf left right) ≡ s
@@ -162,5 +162,5 @@ module _ (bytes : List ℕ) (glyphs rows columns array left right : ℕ) (leftLa
       go (Found′.Nothing why) b f g = not-both (classNumber bytes rows columns array left right) why e (rw (f, classNumber))
 
   pub class-as-manual : AsManual (replyOf bytes (Ready (Classes rows columns array)) left right) Value
-  unfolding replyOf numberOf
+  unfolding replyOf pairNumber
   class-as-manual = joined (classNumber bytes rows columns array left right) Value class-found class-there

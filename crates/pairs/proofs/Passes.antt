@@ -10,7 +10,7 @@ use lib.ListN.{length, getD, drop, length-append}
 use mir.Syntax.{w16}
 use mir.Val.{SFits, toZ, ofZ}
 use mir.Facts.{toZ-ofZ}
-use Rattle.answers.specs.Limits.{room}
+use Rattle.answers.specs.Limits.{roomLimit}
 use Rattle.line.proofs.Room.{room-small}
 use Rattle.laws.proofs.Signed.{signed16-size}
 use Rattle.parse.specs.Reads.{inside, u16At, readI16}
@@ -26,7 +26,7 @@ use Rattle.kerning.specs.Additions.{Addition, addAt, addAll}
 use Rattle.kerning.specs.Bounds.{Within}
 use Rattle.kerning.proofs.Signs.{size-16}
 use Rattle.kerning.proofs.Adding.{length-addAll, addAll-none, addAll-append, within-addAll, within-more, Small, small-none, small-one, small-append}
-use Rattle.pairs.specs.Pairs.{keyOf, numberAt, numberIn, orderedNumber, onClass, numberInRow, classNumber, numberOf}
+use Rattle.pairs.specs.Pairs.{keyOf, numberAt, numberIn, orderedNumber, onClass, numberInRow, classNumber, pairNumber}
 use Rattle.pairs.specs.Reply.{replyOf}
 use Rattle.pairs.specs.declared.PairReply.the-variants as Reply′
 use Rattle.pairs.specs.Pass.{additionOf, everyPlace, lastBelow, pairsBelow, workedBy}
@@ -60,8 +60,8 @@ sized-class : (found : Found) (then : ℕ → Number) → ((class : ℕ) → Siz
 sized-class (Found′.At class) then s = s class
 sized-class (Found′.Nothing why) then s = tt
 
-pub sized : (bytes : List ℕ) (pairs : PairTable) (left right : ℕ) → Sized (numberOf bytes pairs left right)
-unfolding numberOf orderedNumber classNumber numberInRow
+pub sized : (bytes : List ℕ) (pairs : PairTable) (left right : ℕ) → Sized (pairNumber bytes pairs left right)
+unfolding pairNumber orderedNumber classNumber numberInRow
 sized bytes (Ordered first count) left right = sized-in bytes first (searched bytes first Keys′.Pairs count (keyOf left right))
 sized bytes (Classes rows columns array) left right =
     sized-class (lookupAt (drop rows bytes) left) _
@@ -78,11 +78,11 @@ few-addition place (Nothing why) = omega arith
 
 -- what the code adds
 pub added-by : (bytes : List ℕ) (pairs : PairTable) (left right place : ℕ) (along : List ℤ) {number : Number} {z : ℤ} {after : List ℤ}
-    → number ≡ numberOf bytes pairs left right → number ≡ By z → after ≡ addAt place (toZ w16 (ofZ w16 z)) along
-    → after ≡ addAll (additionOf place (numberOf bytes pairs left right)) along
+    → number ≡ pairNumber bytes pairs left right → number ≡ By z → after ≡ addAt place (toZ w16 (ofZ w16 z)) along
+    → after ≡ addAll (additionOf place (pairNumber bytes pairs left right)) along
 unfolding addAll
 added-by bytes pairs left right place along {number} {z} {after} e f g =
-    let h : numberOf bytes pairs left right ≡ By z = sym e ∙ f in
+    let h : pairNumber bytes pairs left right ≡ By z = sym e ∙ f in
     let fits : SFits w16 z = subst Sized h (sized bytes pairs left right) in
     rw h (g ∙ ap (λ (x : ℤ). addAt place x along) (toZ-ofZ fits))
 
@@ -151,20 +151,20 @@ module _ (number : (left right : ℕ) → Number) (glyphs : List ℕ) (all : (le
       let one : List Addition = additionOf n (number (getD glyphs n 0) (getD glyphs (suc n) 0)) in
       omega (arith, length-append (below (suc n)) one, few-below (suc n), few-addition n (number (getD glyphs n 0) (getD glyphs (suc n) 0)))
 
-pub worked-within : (bytes : List ℕ) (opened : Opened) (glyphs : List ℕ) (used : ℕ) {b : ℕ} (along : List ℤ) → used ≤ room → Within b along
+pub worked-within : (bytes : List ℕ) (opened : Opened) (glyphs : List ℕ) (used : ℕ) {b : ℕ} (along : List ℤ) → used ≤ roomLimit → Within b along
     → Within (b + 2 ^ 39) (addAll (workedBy bytes opened glyphs used .additions) along)
 unfolding workedBy
 worked-within bytes (Ready pairs) glyphs used along h w =
-    let all : (left right : ℕ) → Sized (numberOf bytes pairs left right) = sized bytes pairs in
-    within-more (omega (arith, few-below (numberOf bytes pairs) glyphs all used, room-small))
-    (within-addAll along (small-below (numberOf bytes pairs) glyphs all used) w)
+    let all : (left right : ℕ) → Sized (pairNumber bytes pairs left right) = sized bytes pairs in
+    within-more (omega (arith, few-below (pairNumber bytes pairs) glyphs all used, room-small))
+    (within-addAll along (small-below (pairNumber bytes pairs) glyphs all used) w)
 worked-within bytes Short glyphs used along h w = within-more (omega arith) (subst (Within _) (sym (addAll-none along)) w)
 
 -- the number of a reply
 pub reply-number : (bytes : List ℕ) (pairs : PairTable) (left right : ℕ) {opened : Opened} {number : Number} {z : ℤ} → opened ≡ Ready pairs
-    → number ≡ numberOf bytes pairs left right → number ≡ By z → Reply′.Number (toZ w16 (ofZ w16 z)) ≡ replyOf bytes opened left right
+    → number ≡ pairNumber bytes pairs left right → number ≡ By z → Reply′.Number (toZ w16 (ofZ w16 z)) ≡ replyOf bytes opened left right
 unfolding replyOf
 reply-number bytes pairs left right {opened} {number} {z} o e f =
-    let h : numberOf bytes pairs left right ≡ By z = sym e ∙ f in
+    let h : pairNumber bytes pairs left right ≡ By z = sym e ∙ f in
     let fits : SFits w16 z = subst Sized h (sized bytes pairs left right) in
     rw (o, replyOf, h) (ap Reply′.Number (toZ-ofZ fits))

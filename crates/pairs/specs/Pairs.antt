@@ -73,6 +73,6 @@ classNumber bytes rows columns array left right =
     onClass (lookupAt (drop rows bytes) left) (λ row. numberInRow bytes columns (array + row) right)
 
 -- the number of a pair of glyphs
-unfoldable pub numberOf : List ℕ → PairTable → (left right : ℕ) → Number
-numberOf bytes (Ordered first count) left right = orderedNumber bytes first count left right
-numberOf bytes (Classes rows columns array) left right = classNumber bytes rows columns array left right
+unfoldable pub pairNumber : List ℕ → PairTable → (left right : ℕ) → Number
+pairNumber bytes (Ordered first count) left right = orderedNumber bytes first count left right
+pairNumber bytes (Classes rows columns array) left right = classNumber bytes rows columns array left right

@@ -6,7 +6,7 @@ use lib.ListN.{getD}
 use Rattle.answers.specs.declared.Answer.the-variants as Answer′
 use Rattle.answers.specs.declared.Refusal.the-variants as Refusal′
 use Rattle.kerning.specs.Additions.{Addition, Kerned, nothingAdded}
-use Rattle.pairs.specs.Pairs.{numberOf}
+use Rattle.pairs.specs.Pairs.{pairNumber}
 use Rattle.pairs.specs.declared.Opened.{Opened}
 use Rattle.pairs.specs.declared.Opened.the-variants.{Ready, Short}
 use Rattle.pairs.specs.declared.Number.{Number}
@@ -46,5 +46,5 @@ everyPlace p = true
 -- the pass over the first `used` glyphs, by a subtable's pairs; HEAD where they can't be opened
 unfoldable pub workedBy : List ℕ → Opened → (glyphs : List ℕ) → (used : ℕ) → Kerned
 workedBy bytes (Ready pairs) glyphs used =
-    record { answer = Answer′.Done; additions = pairsBelow everyPlace (numberOf bytes pairs) glyphs used }
+    record { answer = Answer′.Done; additions = pairsBelow everyPlace (pairNumber bytes pairs) glyphs used }
 workedBy bytes Short glyphs used = nothingAdded (Answer′.Refused Refusal′.Head)

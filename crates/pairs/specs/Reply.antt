@@ -7,7 +7,7 @@ use Rattle.answers.specs.declared.Answer.the-variants as Answer′
 use Rattle.answers.specs.declared.Refusal.the-variants as Refusal′
 use Rattle.answers.specs.declared.Check.{Check}
 use Rattle.answers.specs.declared.Check.the-variants as Check′
-use Rattle.pairs.specs.Pairs.{numberOf}
+use Rattle.pairs.specs.Pairs.{pairNumber}
 use Rattle.pairs.specs.declared.Opened.{Opened}
 use Rattle.pairs.specs.declared.Opened.the-variants.{Ready, Short}
 use Rattle.pairs.specs.declared.Number as Pair′
@@ -34,7 +34,7 @@ numberReply (Number′.Nothing why) = Nothing
 
 -- HEAD where the pairs can't be opened
 unfoldable pub replyOf : List ℕ → Opened → (left right : ℕ) → PairReply
-replyOf bytes (Ready pairs) left right = numberReply (numberOf bytes pairs left right)
+replyOf bytes (Ready pairs) left right = numberReply (pairNumber bytes pairs left right)
 replyOf bytes Short left right = Refused Refusal′.Head
 
 -- a refused call is answered so, any other by its work

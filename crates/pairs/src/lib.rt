@@ -10,12 +10,12 @@ use tables::records::Spot;
 ghost use mathlib.Core.Path.{_≡_};
 ghost use Prim.Native.Nat.{_<_, _≤_, _^_};
 ghost use lib.ListN.{length};
-ghost use Rattle.answers.specs.Limits.{room};
+ghost use Rattle.answers.specs.Limits.{roomLimit};
 ghost use Rattle.kerning.specs.Additions.{addAll};
 ghost use Rattle.kerning.specs.Bounds.{Within};
 ghost use Rattle.pairs.specs.Reply.{replyOf};
 ghost use Rattle.pairs.specs.Pass.{additionOf, everyPlace, pairsBelow, workedBy};
-ghost use Rattle.pairs.specs.Pairs.{keyOf, orderedKern, orderedKerx, classesKerx, numberAt, orderedNumber, numberInRow, classNumber, numberOf};
+ghost use Rattle.pairs.specs.Pairs.{keyOf, orderedKern, orderedKerx, classesKerx, numberAt, orderedNumber, numberInRow, classNumber, pairNumber};
 
 // Where a subtable's pairs lie, from its own start on: as many ordered pairs as counted, or the left glyphs' rows, the right
 // ones' columns, and the array.
@@ -141,7 +141,7 @@ fn class_number(bytes: &[u8], rows: u32, columns: u32, array: u32, left: u16, ri
 
 // The number of a pair of glyphs.
 pub fn number_of(bytes: &[u8], pairs: PairTable, left: u16, right: u16) -> Number
-    ensures { λ r. ⌜ r ≡ numberOf (now (bytes .entry)) pairs left right ⌝ }
+    ensures { λ r. ⌜ r ≡ pairNumber (now (bytes .entry)) pairs left right ⌝ }
 {
     match pairs {
         PairTable::Ordered { first, count } => ordered_number(bytes, first, count, left, right),
@@ -169,7 +169,7 @@ pub fn reply(bytes: &[u8], opened: Opened, left: u16, right: u16) -> PairReply
 // The number of a pair is added to the place of its left glyph.
 fn add_pair(bytes: &[u8], pairs: PairTable, left: u16, right: u16, place: usize, along: &mut [i64])
     requires { ⌜ (place < length (now along)) × Within (2 ^ 62) (now along) ⌝ }
-    ensures { λ _. ⌜ now (along .exit) ≡ addAll (additionOf place (numberOf (now (bytes .entry)) pairs left right)) (now (along .entry)) ⌝ }
+    ensures { λ _. ⌜ now (along .exit) ≡ addAll (additionOf place (pairNumber (now (bytes .entry)) pairs left right)) (now (along .entry)) ⌝ }
 {
     let Number::By(number) = number_of(bytes, pairs, left, right) else {
         return;
@@ -179,8 +179,8 @@ fn add_pair(bytes: &[u8], pairs: PairTable, left: u16, right: u16, place: usize,
 
 // Neighbours, from the first two on.
 fn add_pairs(bytes: &[u8], pairs: PairTable, glyphs: &[u16], used: usize, along: &mut [i64])
-    requires { ⌜ (used ≤ length (now glyphs)) × (used ≤ length (now along)) × (used ≤ room) × Within (2 ^ 60) (now along) ⌝ }
-    ensures { λ _. ⌜ now (along .exit) ≡ addAll (pairsBelow everyPlace (numberOf (now (bytes .entry)) pairs) (now (glyphs .entry)) used) (now (along .entry)) ⌝ }
+    requires { ⌜ (used ≤ length (now glyphs)) × (used ≤ length (now along)) × (used ≤ roomLimit) × Within (2 ^ 60) (now along) ⌝ }
+    ensures { λ _. ⌜ now (along .exit) ≡ addAll (pairsBelow everyPlace (pairNumber (now (bytes .entry)) pairs) (now (glyphs .entry)) used) (now (along .entry)) ⌝ }
 {
     let mut place = 1;
     while place < used {
@@ -193,7 +193,7 @@ fn add_pairs(bytes: &[u8], pairs: PairTable, glyphs: &[u16], used: usize, along:
 
 // The pair pass by the subtable that begins with `bytes`, of which `opened` is what opening its pairs gives.
 pub fn work(bytes: &[u8], opened: Opened, glyphs: &[u16], used: usize, along: &mut [i64]) -> Answer
-    requires { ⌜ (used ≤ length (now glyphs)) × (used ≤ length (now along)) × (used ≤ room) × Within (2 ^ 60) (now along) ⌝ }
+    requires { ⌜ (used ≤ length (now glyphs)) × (used ≤ length (now along)) × (used ≤ roomLimit) × Within (2 ^ 60) (now along) ⌝ }
     ensures answer { λ r. ⌜ r ≡ workedBy (now (bytes .entry)) opened (now (glyphs .entry)) used .answer ⌝ }
     ensures along { λ _. ⌜ now (along .exit) ≡ addAll (workedBy (now (bytes .entry)) opened (now (glyphs .entry)) used .additions) (now (along .entry)) ⌝ }
 {

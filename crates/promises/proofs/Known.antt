@@ -1,6 +1,6 @@
 -- The known answers hold, by computation.
 use mathlib.Core.Path.{refl}
-use Rattle.answers.specs.Limits.{tableLimit, room}
+use Rattle.answers.specs.Limits.{tableLimit, roomLimit}
 use Rattle.answers.specs.Refuse.{refuse, tableTest}
 use Rattle.laws.specs.Lists.{tab, every}
 use Rattle.verbs.specs.Verbs.{groupsOf, across, moved, fromOf, rearranged}
@@ -17,5 +17,5 @@ use Rattle.tables.specs.Lookup.{lookupReply, lookupAt, inFormat, trimmedAt, ele
 use Rattle.promises.specs.Known.{rows, answerTo, AllKnown}
 
 pub known-answers : AllKnown
-unfolding rows answerTo offsetOf extendedAt readU32 classByLookup classOf classIn headTest classReply classExtended tab every groupsOf across moved fromOf rearranged room lineTest isValid isLegal areHoused isOnceEach isNew freshOf numbersFrom verbTests verbMakes madeBy answerBy verbChanges verbCall widthOf windowed apply applyAll tableLimit refuse tableTest inside readU16 formatOf lookupReply lookupAt inFormat trimmedAt elementAt
+unfolding rows answerTo offsetOf extendedAt readU32 classByLookup classOf classIn headTest classReply classExtended tab every groupsOf across moved fromOf rearranged roomLimit lineTest isValid isLegal areHoused isOnceEach isNew freshOf numbersFrom verbTests verbMakes madeBy answerBy verbChanges verbCall widthOf windowed apply applyAll tableLimit refuse tableTest inside readU16 formatOf lookupReply lookupAt inFormat trimmedAt elementAt
 known-answers = refl

@@ -35,7 +35,7 @@ use Rattle.contextual.specs.Manual.{lookupNumber}
 use Rattle.contextual.specs.declared.Substitute.the-variants as Substitute
 use Rattle.ligature.specs.Actions.{readAction, readNumber}
 use Rattle.ligature.specs.Manual.{actionNumber, componentNumber, ligatureNumber}
-use Rattle.insertion.specs.Lists.{listOf, glyphsAt}
+use Rattle.insertion.specs.Lists.{glyphList, glyphsAt}
 use Rattle.insertion.specs.Manual.{glyphsFrom}
 use Rattle.insertion.specs.declared.Listed.the-variants as Listed
 use Rattle.chains.specs.Orders.{orderOf, isReversed, isVertical}
@@ -131,12 +131,12 @@ pub record SubtableLists : Type 0 where
   pub glyphs-by-manual : (bytes : List ℕ) (number count : ℕ) → glyphsAt bytes (u32At bytes 16 + number * 2) count ≡ glyphsFrom bytes number count
   -- one of some glyphs is read exactly where they lie in the table
   pub list-by-manual : (bytes : List ℕ) (number count : ℕ) → (number ≡ 0xFFFF → ⊥) → 20 ≤ length bytes → 0 < count
-      → u32At bytes 16 + number * 2 + count * 2 ≤ length bytes → listOf bytes number count ≡ Listed.At (u32At bytes 16 + number * 2)
+      → u32At bytes 16 + number * 2 + count * 2 ≤ length bytes → glyphList bytes number count ≡ Listed.At (u32At bytes 16 + number * 2)
   pub list-past-manual : (bytes : List ℕ) (number count : ℕ) → (number ≡ 0xFFFF → ⊥) → 20 ≤ length bytes → 0 < count
-      → length bytes < u32At bytes 16 + number * 2 + count * 2 → listOf bytes number count ≡ Listed.Short
+      → length bytes < u32At bytes 16 + number * 2 + count * 2 → glyphList bytes number count ≡ Listed.Short
   -- and none, not even one of no glyphs, that begins at or past the end: there the crate ends the step
   pub list-at-end : (bytes : List ℕ) (number count : ℕ) → (number ≡ 0xFFFF → ⊥) → 20 ≤ length bytes
-      → length bytes ≤ u32At bytes 16 + number * 2 → listOf bytes number count ≡ Listed.Short
+      → length bytes ≤ u32At bytes 16 + number * 2 → glyphList bytes number count ≡ Listed.Short
 
 -- morx's coverage, chains, features and subtables.
 pub record Chains : Type 0 where

@@ -18,7 +18,7 @@ use Rattle.line.specs.Changes.{applyAll}
 use Rattle.machine.specs.Pass.{Passed}
 use Rattle.machine.specs.Call.{opened, passTests}
 use Rattle.rearrangement.specs.Rearrangement.{passed, worked, passCall, callLeaves}
-use Rattle.rearrangement.specs.Work.{passLeaves, workLeaves}
+use Rattle.rearrangement.specs.Work.{passedLeaves, workLeaves}
 
 -- an answer and slices that are what a pass gives
 pub record Ends (whole : Passed) (l : Line) (answer : Answer) (glyphs tags : List ℕ) : Type 0 where
@@ -45,9 +45,9 @@ module _ (bytes : List ℕ) (l : Line) {made : Made} (m : made ≡ opened bytes 
   work-headless s = ends-at _ (rw (sym m ∙ s, worked)) (unchanged (Answer′.Refused Refusal′.Head) l)
 
   pub work-passed : {states : States} {body glyphs tags : List ℕ} {answer : Answer} → made ≡ Made′.Ready states → body ≡ drop 12 bytes
-      → answer ≡ passed body states l .answer → glyphs ≡ passLeaves body states l .glyphs → tags ≡ passLeaves body states l .tags
+      → answer ≡ passed body states l .answer → glyphs ≡ passedLeaves body states l .glyphs → tags ≡ passedLeaves body states l .tags
       → Ends (worked bytes l) l answer glyphs tags
-  unfolding worked passLeaves
+  unfolding worked passedLeaves
   work-passed {states} {body} r d a g t =
       ends-at (passed body states l) (rw (sym m ∙ r, worked) (ap (λ (x : List ℕ). passed x states l) (sym d)))
       (record { answers = a; glyphs-left = g; tags-left = t })

@@ -22,7 +22,7 @@ use Rattle.machine.specs.Pass.{Stepped, Passed, deleted, isDone, stepAt, endCal
 use Rattle.machine.proofs.Stalls.{stall-falls}
 use Rattle.machine.proofs.Passing.{Passing, Over, passing-start, passing-step, passing-stop, passing-end}
 use Rattle.rearrangement.specs.Rearrangement.{fresh, acted, unmoved, next, changesOf, machine, rest, passed}
-use Rattle.rearrangement.specs.Work.{passLeaves}
+use Rattle.rearrangement.specs.Work.{passedLeaves}
 use Rattle.rearrangement.specs.declared.RearrangementState.{RearrangementState}
 use Rattle.rearrangement.specs.declared.RearrangementStep.{RearrangementStep}
 use Rattle.rearrangement.specs.declared.Window.{Window}
@@ -83,8 +83,8 @@ module _ (bytes : List ℕ) (states : States) (l₀ : Line) where
   -- what a pass that ends here answers and leaves
   pub record Ends (answer : Answer) (glyphs tags : List ℕ) : Type 0 where
     pub answers : answer ≡ passed bytes states l₀ .answer
-    pub glyphs-left : glyphs ≡ passLeaves bytes states l₀ .glyphs
-    pub tags-left : tags ≡ passLeaves bytes states l₀ .tags
+    pub glyphs-left : glyphs ≡ passedLeaves bytes states l₀ .glyphs
+    pub tags-left : tags ≡ passedLeaves bytes states l₀ .tags
 
   module _ {glyphs tags homes : List ℕ} {used : ℕ} {s : RearrangementState} {i : ℕ} (g : Going glyphs tags homes used s i) where
     some : 0 < rest s (lineOf glyphs tags homes used) i
@@ -94,7 +94,7 @@ module _ (bytes : List ℕ) (states : States) (l₀ : Line) where
         → Over (machine bytes states) rest l₀ (passed bytes states l₀) answer (applyAll (changesOf w) (lineOf glyphs tags homes used))
         → glyphs′ ≡ applyAll (changesOf w) (lineOf glyphs tags homes used) .glyphs
         → tags′ ≡ applyAll (changesOf w) (lineOf glyphs tags homes used) .tags → Ends answer glyphs′ tags′
-    unfolding passLeaves
+    unfolding passedLeaves
     ends w o p q =
         record {
           answers = o .answers;

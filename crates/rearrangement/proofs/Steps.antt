@@ -5,7 +5,7 @@ use mathlib.Core.Bool.{Bool, true, false, cond}
 use mathlib.Core.List.{List, [], _∷_}
 use lib.Dec.{ltb}
 use Rattle.answers.proofs.Refusals.{alone-refused, alone-passed}
-use Rattle.answers.specs.Limits.{room}
+use Rattle.answers.specs.Limits.{roomLimit}
 use Rattle.answers.specs.Refuse.{refuse, tableTest}
 use Rattle.answers.specs.declared.Refusal.{Refusal}
 use Rattle.answers.specs.declared.Refusal.the-variants as Refusal′
@@ -23,7 +23,7 @@ module _ (n len index : ℕ) (s : RearrangementState) (made : Made) {r : Check} 
 
   -- the tests that are left, one after the other
   pub past-table : r ≡ Passed → refuse (stepTests n len index s made)
-      ≡ cond (ltb room len) (Refused Refusal′.Line)
+      ≡ cond (ltb roomLimit len) (Refused Refusal′.Line)
       (cond (ltb len index) (Refused Refusal′.Place)
       (cond (ltb len (s .first)) (Refused Refusal′.State)
       (cond (ltb len (s .last)) (Refused Refusal′.State)

@@ -5,7 +5,7 @@ use mathlib.Core.List.{List, [], _∷_}
 use lib.Dec.{ltb}
 use lib.ListN.{length, drop}
 use Rattle.laws.specs.Choose.{ifLt, ifEq}
-use Rattle.answers.specs.Limits.{room}
+use Rattle.answers.specs.Limits.{roomLimit}
 use Rattle.answers.specs.Refuse.{Test, refuse, tableTest}
 use Rattle.answers.specs.declared.Answer.{Answer}
 use Rattle.answers.specs.declared.Answer.the-variants as Answer′
@@ -36,8 +36,8 @@ abbrev pub fresh : RearrangementState
 fresh = record { state = 0; first = 0; last = 0; cycles = 0 }
 
 -- a mark is set to the index as given where its flag says so
-abbrev pub marked : ℕ → ℕ → Bool → ℕ
-marked was index sets = cond sets index was
+abbrev pub markAfter : ℕ → ℕ → Bool → ℕ
+markAfter was index sets = cond sets index was
 
 -- a verb other than 0 works on the marked window, unless its start is above its end
 unfoldable pub windowOf : (first last verb : ℕ) → Window
@@ -51,14 +51,14 @@ acted s entry index =
       state =
           record {
             state = entry .state;
-            first = marked (s .first) index (isSet (entry .flags) 0x8000);
-            last = marked (s .last) index (isSet (entry .flags) 0x2000);
+            first = markAfter (s .first) index (isSet (entry .flags) 0x8000);
+            last = markAfter (s .last) index (isSet (entry .flags) 0x2000);
             cycles = stalled (s .cycles) (isSet (entry .flags) 0x4000) .cycles;
           };
       advance = stalled (s .cycles) (isSet (entry .flags) 0x4000) .advance;
       edit =
-          windowOf (marked (s .first) index (isSet (entry .flags) 0x8000))
-          (marked (s .last) index (isSet (entry .flags) 0x2000))
+          windowOf (markAfter (s .first) index (isSet (entry .flags) 0x8000))
+          (markAfter (s .last) index (isSet (entry .flags) 0x2000))
           (entry .flags % 16);
     }
 
@@ -106,7 +106,7 @@ callLeaves table start l = applyAll (passCall table start l .changes) l
 -- cycle count above 17
 unfoldable pub laterTests : (used index : ℕ) → RearrangementState → Made → List Test
 laterTests used index s made =
-    record { holds = ltb room used; refusal = Refusal′.Line }
+    record { holds = ltb roomLimit used; refusal = Refusal′.Line }
     ∷ record { holds = ltb used index; refusal = Refusal′.Place }
     ∷ record { holds = ltb used (s .first); refusal = Refusal′.State }
     ∷ record { holds = ltb used (s .last); refusal = Refusal′.State }

@@ -13,12 +13,12 @@ ghost use mathlib.Core.Path.{_≡_};
 ghost use Prim.Native.Nat.{ℕ, _%_, _≤_};
 ghost use lib.ListN.{length};
 ghost use Rattle.answers.specs.Refuse.{refuse};
-ghost use Rattle.answers.specs.Limits.{room};
+ghost use Rattle.answers.specs.Limits.{roomLimit};
 ghost use Rattle.line.specs.Line.{lineOf};
 ghost use Rattle.line.specs.Changes.{applyAll};
 ghost use Rattle.machine.specs.Pass.{Passed};
-ghost use Rattle.rearrangement.specs.Rearrangement.{fresh, marked, windowOf, acted, next, changesOf, passed, worked, passCall, callLeaves, unmoved, stepTests, stepCall};
-ghost use Rattle.rearrangement.specs.Work.{passLeaves, workLeaves};
+ghost use Rattle.rearrangement.specs.Rearrangement.{fresh, markAfter, windowOf, acted, next, changesOf, passed, worked, passCall, callLeaves, unmoved, stepTests, stepCall};
+ghost use Rattle.rearrangement.specs.Work.{passedLeaves, workLeaves};
 
 // The state of a pass: the state table's state, the marked window, and how many steps in a row did not advance.
 pub struct RearrangementState {
@@ -48,7 +48,7 @@ pub struct RearrangementStep {
 
 // A mark is set to the index where its flag says so.
 fn marked(was: usize, index: usize, sets: bool) -> usize
-    ensures { λ r. ⌜ r ≡ marked was index sets ⌝ }
+    ensures { λ r. ⌜ r ≡ markAfter was index sets ⌝ }
 {
     if sets { index } else { was }
 }
@@ -230,10 +230,10 @@ fn pass_line(
     homes: &[u16],
     used: usize,
 ) -> Answer
-    requires { ⌜ (used ≤ length (now glyphs)) × (used ≤ length (now tags)) × (used ≤ room) ⌝ }
+    requires { ⌜ (used ≤ length (now glyphs)) × (used ≤ length (now tags)) × (used ≤ roomLimit) ⌝ }
     ensures answer { λ r. ⌜ r ≡ passed (now (bytes .entry)) states (lineOf (now (glyphs .entry)) (now (tags .entry)) (now (homes .entry)) used) .answer ⌝ }
-    ensures glyphs { λ _. ⌜ now (glyphs .exit) ≡ passLeaves (now (bytes .entry)) states (lineOf (now (glyphs .entry)) (now (tags .entry)) (now (homes .entry)) used) .glyphs ⌝ }
-    ensures tags { λ _. ⌜ now (tags .exit) ≡ passLeaves (now (bytes .entry)) states (lineOf (now (glyphs .entry)) (now (tags .entry)) (now (homes .entry)) used) .tags ⌝ }
+    ensures glyphs { λ _. ⌜ now (glyphs .exit) ≡ passedLeaves (now (bytes .entry)) states (lineOf (now (glyphs .entry)) (now (tags .entry)) (now (homes .entry)) used) .glyphs ⌝ }
+    ensures tags { λ _. ⌜ now (tags .exit) ≡ passedLeaves (now (bytes .entry)) states (lineOf (now (glyphs .entry)) (now (tags .entry)) (now (homes .entry)) used) .tags ⌝ }
 {
     let mut state = RearrangementState::new();
     let mut place = 0;
@@ -263,7 +263,7 @@ pub fn work(
     homes: &[u16],
     used: usize,
 ) -> Answer
-    requires { ⌜ (used ≤ length (now glyphs)) × (used ≤ length (now tags)) × (used ≤ room) ⌝ }
+    requires { ⌜ (used ≤ length (now glyphs)) × (used ≤ length (now tags)) × (used ≤ roomLimit) ⌝ }
     ensures answer { λ r. ⌜ r ≡ worked (now (bytes .entry)) (lineOf (now (glyphs .entry)) (now (tags .entry)) (now (homes .entry)) used) .answer ⌝ }
     ensures glyphs { λ _. ⌜ now (glyphs .exit) ≡ workLeaves (now (bytes .entry)) (lineOf (now (glyphs .entry)) (now (tags .entry)) (now (homes .entry)) used) .glyphs ⌝ }
     ensures tags { λ _. ⌜ now (tags .exit) ≡ workLeaves (now (bytes .entry)) (lineOf (now (glyphs .entry)) (now (tags .entry)) (now (homes .entry)) used) .tags ⌝ }

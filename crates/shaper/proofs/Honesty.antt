@@ -25,7 +25,7 @@ use Rattle.morx.specs.Run.{Ran, ran}
 use Rattle.morx.specs.Calls.{runTests, runCall}
 use Rattle.morx.specs.declared.Choices.{Choices}
 use Rattle.morx.proofs.Heads.{heads-counted}
-use Rattle.shaper.specs.Shaper.{shaperTable, shaperRoom, inputOf, leftToRight, startOf, shapedIn, shapedBy, shaped}
+use Rattle.shaper.specs.Shaper.{shaperTable, shaperRoom, inputOf, leftToRight, startLine, shapedIn, shapedBy, shaped}
 use Rattle.shaper.specs.declared.Input.the-variants.{TableUntil}
 use Rattle.shaper.proofs.Shaping.{Taken, taken, shaper-room-fits}
 
@@ -53,8 +53,8 @@ module _ (new glyphs tags homes : List ℕ) (few : length new / 2 ≤ shaperRoom
       length-append (glyphsOf new) (drop (length new / 2) glyphs)
       ∙ rw (length-glyphsOf new, length-drop (length new / 2) glyphs) (omega arith)
 
-  pub start-valid : Valid (startOf new glyphs tags (take (length new / 2) homes))
-  unfolding startOf
+  pub start-valid : Valid (startLine new glyphs tags (take (length new / 2) homes))
+  unfolding startLine
   start-valid =
       fresh-valid _ tags (take (length new / 2) homes)
       (sym

@@ -11,7 +11,7 @@ use lib.Seq.{paste, slice-empty, length-take-le}
 use borrow.Author.Tests.{ltb-false, eqb-true}
 use Rattle.laws.specs.Choose.{ifLt, ifEq}
 use Rattle.laws.proofs.Parts.{part-is}
-use Rattle.answers.specs.Limits.{room}
+use Rattle.answers.specs.Limits.{roomLimit}
 use Rattle.answers.specs.declared.Answer.the-variants as Answer′
 use Rattle.answers.specs.declared.Refusal.{Refusal}
 use Rattle.answers.specs.declared.Refusal.the-variants as Refusal′
@@ -29,13 +29,13 @@ use Rattle.line.proofs.Loops.{paste-over, length-glyphsOf}
 use Rattle.morx.specs.Work.{runReplyOf}
 use Rattle.morx.specs.Calls.{runCall, runLeaves}
 use Rattle.morx.specs.declared.RunReply.{RunReply}
-use Rattle.shaper.specs.Shaper.{shaperTable, shaperRoom, lineIn, inputOf, leftToRight, startOf, shapedIn, shapedBy, shaped}
+use Rattle.shaper.specs.Shaper.{shaperTable, shaperRoom, lineIn, inputOf, leftToRight, startLine, shapedIn, shapedBy, shaped}
 use Rattle.shaper.specs.declared.Input.{Input}
 use Rattle.shaper.specs.declared.Input.the-variants.{TableUntil, Refused}
 use Rattle.shaper.specs.declared.Shaped.{Shaped}
 
-pub shaper-room-fits : shaperRoom ≤ room
-unfolding shaperRoom room
+pub shaper-room-fits : shaperRoom ≤ roomLimit
+unfolding shaperRoom roomLimit
 shaper-room-fits = omega arith
 
 -- where the parts of an input lie whose table ends at `end`
@@ -113,8 +113,8 @@ module _ (new glyphs tags homes : List ℕ) (e : length homes ≡ length new / 2
   homes-are : homes′ ≡ numbersFrom 0 (length homes)
   homes-are = h ∙ paste-over homes (numbersFrom 0 (length homes)) (length-numbersFrom 0 (length homes))
 
-  start-is : lineOf glyphs′ tags′ homes′ (length homes) ≡ startOf new glyphs tags homes
-  unfolding startOf freshOf
+  start-is : lineOf glyphs′ tags′ homes′ (length homes) ≡ startLine new glyphs tags homes
+  unfolding startLine freshOf
   start-is =
       ap (λ (x : List ℕ). lineOf x tags′ homes′ (length homes)) glyphs-are
       ∙ ap (λ (x : List ℕ). lineOf (glyphsOf new ++ drop (length new / 2) glyphs) x homes′ (length homes)) tags-are
@@ -122,7 +122,7 @@ module _ (new glyphs tags homes : List ℕ) (e : length homes ≡ length new / 2
 
   pub started : (table : List ℕ) (reply : RunReply) (glyphs″ tags″ homes″ : List ℕ)
       → RunsTo table (lineOf glyphs′ tags′ homes′ (length homes)) reply glyphs″ tags″ homes″
-      → RunsTo table (startOf new glyphs tags homes) reply glyphs″ tags″ homes″
+      → RunsTo table (startLine new glyphs tags homes) reply glyphs″ tags″ homes″
   started table reply glyphs″ tags″ homes″ r = subst (λ (l : Line). RunsTo table l reply glyphs″ tags″ homes″) start-is r
 
 -- what the shaper answers and leaves
@@ -135,7 +135,7 @@ ShapesTo input end glyphs tags homes reply glyphs′ tags′ homes′ =
 
 shapes-by : (input : List ℕ) (end : ℕ) (glyphs tags homes : List ℕ) {new glyphs′ tags′ homes′ : List ℕ} {reply : RunReply}
     → drop (end + 2) input ≡ new
-    → RunsTo (take (end - 4) (drop 4 input)) (startOf new glyphs tags (take (length new / 2) homes)) reply glyphs′ tags′ homes′
+    → RunsTo (take (end - 4) (drop 4 input)) (startLine new glyphs tags (take (length new / 2) homes)) reply glyphs′ tags′ homes′
     → ShapesTo input end glyphs tags homes
     (record { answer = reply .answer; heads = reply .heads; used = reply .used; characters = length new / 2 })
     glyphs′ tags′ (homes′ ++ drop (length new / 2) homes)
@@ -151,7 +151,7 @@ abbrev pub lent : List ℕ → ℕ → List ℕ
 lent input end = take (length input - (end + 2)) (drop (end + 2) input)
 
 pub shapes : (input : List ℕ) (end : ℕ) (glyphs tags homes : List ℕ) {glyphs′ tags′ homes′ : List ℕ} {reply : RunReply}
-    → RunsTo (take (end - 4) (drop 4 input)) (startOf (lent input end) glyphs tags (take (length (lent input end) / 2) homes)) reply glyphs′ tags′ homes′
+    → RunsTo (take (end - 4) (drop 4 input)) (startLine (lent input end) glyphs tags (take (length (lent input end) / 2) homes)) reply glyphs′ tags′ homes′
     → ShapesTo input end glyphs tags homes
     (record { answer = reply .answer; heads = reply .heads; used = reply .used; characters = length (lent input end) / 2 })
     glyphs′ tags′ (homes′ ++ drop (length (lent input end) / 2) homes)
@@ -168,7 +168,7 @@ module _ (input : List ℕ) (end : ℕ) (e : inputOf input ≡ TableUntil end) w
   pub lent-homes : (homes : List ℕ) → length homes ≡ shaperRoom → length (take (length (lent input end) / 2) homes) ≡ length (lent input end) / 2
   lent-homes homes n = length-take-le _ homes (lent-fits n)
 
-  pub lent-limited : length (lent input end) / 2 ≤ room
+  pub lent-limited : length (lent input end) / 2 ≤ roomLimit
   lent-limited = omega (arith, lent-few, shaper-room-fits)
 
 -- what the shaper answers and leaves, by what its input says

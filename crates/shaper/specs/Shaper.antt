@@ -47,8 +47,8 @@ abbrev pub leftToRight : Choices
 leftToRight = record { «right_to_left» = false }
 
 -- the fresh line of as many characters as there are homes, whose glyphs are those of the bytes `new`; the rest of the room is as it was
-unfoldable pub startOf : (new glyphs tags homes : List ℕ) → Line
-startOf new glyphs tags homes = freshOf (glyphsOf new ++ drop (length new / 2) glyphs) tags homes
+unfoldable pub startLine : (new glyphs tags homes : List ℕ) → Line
+startLine new glyphs tags homes = freshOf (glyphsOf new ++ drop (length new / 2) glyphs) tags homes
 
 -- what the shaper answers, and the room that it was lent
 pub record Left : Type 0 where
@@ -64,7 +64,7 @@ shapedIn input end glyphs tags homes =
     let table : List ℕ = take (end - 4) (drop 4 input) in
     let new : List ℕ = drop (end + 2) input in
     let characters : ℕ = length new / 2 in
-    let start : Line = startOf new glyphs tags (take characters homes) in
+    let start : Line = startLine new glyphs tags (take characters homes) in
     let ran : Ran = runCall table 0 leftToRight start in
     let after : Line = runLeaves table 0 leftToRight start in
     record {

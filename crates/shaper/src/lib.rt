@@ -6,11 +6,11 @@ use morx::RunReply;
 ghost use mathlib.Core.Path.{_≡_};
 ghost use Prim.Native.Nat.{_/_, _≤_};
 ghost use lib.ListN.{length};
-ghost use Rattle.answers.specs.Limits.{room};
+ghost use Rattle.answers.specs.Limits.{roomLimit};
 ghost use Rattle.morx.specs.Work.{runReplyOf};
 ghost use Rattle.morx.specs.Calls.{runCall, runLeaves};
 ghost use Rattle.shaper.specs.declared.Input.the-variants.{TableUntil};
-ghost use Rattle.shaper.specs.Shaper.{shaperRoom, inputOf, leftToRight, startOf, shapedIn, shaped};
+ghost use Rattle.shaper.specs.Shaper.{shaperRoom, inputOf, leftToRight, startLine, shapedIn, shaped};
 
 // The most bytes that the shaper's table may have.
 pub const SHAPER_TABLE: u32 = 32_768;
@@ -64,11 +64,11 @@ fn shape_line(
     tags: &mut [u16],
     homes: &mut [u16],
 ) -> RunReply
-    requires { ⌜ (length (now homes) ≡ length (now new) / 2) × (length (now new) / 2 ≤ length (now glyphs)) × (length (now new) / 2 ≤ length (now tags)) × (length (now new) / 2 ≤ room) ⌝ }
-    ensures reply { λ r. ⌜ r ≡ runReplyOf (runCall (now (table .entry)) 0 leftToRight (startOf (now (new .entry)) (now (glyphs .entry)) (now (tags .entry)) (now (homes .entry)))) (startOf (now (new .entry)) (now (glyphs .entry)) (now (tags .entry)) (now (homes .entry))) ⌝ }
-    ensures glyphs { λ _. ⌜ now (glyphs .exit) ≡ runLeaves (now (table .entry)) 0 leftToRight (startOf (now (new .entry)) (now (glyphs .entry)) (now (tags .entry)) (now (homes .entry))) .glyphs ⌝ }
-    ensures tags { λ _. ⌜ now (tags .exit) ≡ runLeaves (now (table .entry)) 0 leftToRight (startOf (now (new .entry)) (now (glyphs .entry)) (now (tags .entry)) (now (homes .entry))) .tags ⌝ }
-    ensures homes { λ _. ⌜ now (homes .exit) ≡ runLeaves (now (table .entry)) 0 leftToRight (startOf (now (new .entry)) (now (glyphs .entry)) (now (tags .entry)) (now (homes .entry))) .homes ⌝ }
+    requires { ⌜ (length (now homes) ≡ length (now new) / 2) × (length (now new) / 2 ≤ length (now glyphs)) × (length (now new) / 2 ≤ length (now tags)) × (length (now new) / 2 ≤ roomLimit) ⌝ }
+    ensures reply { λ r. ⌜ r ≡ runReplyOf (runCall (now (table .entry)) 0 leftToRight (startLine (now (new .entry)) (now (glyphs .entry)) (now (tags .entry)) (now (homes .entry)))) (startLine (now (new .entry)) (now (glyphs .entry)) (now (tags .entry)) (now (homes .entry))) ⌝ }
+    ensures glyphs { λ _. ⌜ now (glyphs .exit) ≡ runLeaves (now (table .entry)) 0 leftToRight (startLine (now (new .entry)) (now (glyphs .entry)) (now (tags .entry)) (now (homes .entry))) .glyphs ⌝ }
+    ensures tags { λ _. ⌜ now (tags .exit) ≡ runLeaves (now (table .entry)) 0 leftToRight (startLine (now (new .entry)) (now (glyphs .entry)) (now (tags .entry)) (now (homes .entry))) .tags ⌝ }
+    ensures homes { λ _. ⌜ now (homes .exit) ≡ runLeaves (now (table .entry)) 0 leftToRight (startLine (now (new .entry)) (now (glyphs .entry)) (now (tags .entry)) (now (homes .entry))) .homes ⌝ }
 {
     let characters = homes.len();
     line::edits::insert(glyphs, tags, 0, 0, new);

@@ -1,10 +1,10 @@
 use mathlib.Core.Path.{refl}
-use Rattle.answers.specs.Limits.{room}
+use Rattle.answers.specs.Limits.{roomLimit}
 use Rattle.answers.proofs.above_room.Statement.{statement}
 use Rattle.answers.proofs.above_room.Tie as tie
 
 returns : tie.Need-returns
-unfolding room
+unfolding roomLimit
 returns c = refl
 
 pub above-room-spec : {M : Type 1} → statement M

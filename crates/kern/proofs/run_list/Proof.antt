@@ -1,7 +1,7 @@
 use mathlib.Core.Path.{sym, _∙_}
 use native.Mathlib.Omega.{arith}
 use borrow.Author.Needs.{needs}
-use Rattle.kerning_lists.specs.Walk.{heads as headsOf}
+use Rattle.kerning_lists.specs.Walk.{headsFrom as headsOf}
 use Rattle.kerning_lists.proofs.Runs.{Running, running-start, running-next, running-limit, running-cut, running-done, contribution-little, limit-small, limit-reached, limit-ahead, run-small}
 use Rattle.kern.specs.Heads.{headAt}
 use Rattle.kern.specs.Kern.{adds}

@@ -1,4 +1,4 @@
-use Rattle.kerning_machine.specs.Machine.{followed}
+use Rattle.kerning_machine.specs.Machine.{walkedFrom}
 use Rattle.kerning.specs.Additions.{addAll}
 use mathlib.Core.Path.{refl}
 use native.Mathlib.Omega.{arith}
@@ -10,14 +10,14 @@ enum-told : tie.Need-enum-told
 enum-told c = search needs
 
 returns : tie.Need-returns
-unfolding followed addAll
+unfolding walkedFrom addAll
 returns c = rw (c .enum-told .given .1) (refl, refl)
 
 enum-told-2 : tie.Need-enum-told-2
 enum-told-2 c = search needs
 
 returns-2 : tie.Need-returns-2
-unfolding followed addAll
+unfolding walkedFrom addAll
 returns-2 c = rw (c .enum-told2 .given .1) (refl, refl)
 
 enum-known-start : tie.Need-enum-known-start
@@ -35,7 +35,7 @@ same-length : tie.Need-same-length
 same-length c = search needs
 
 returns-3 : tie.Need-returns-3
-unfolding followed
+unfolding walkedFrom
 returns-3 c =
     let at-walk = c .before in
     let at-reading = at-walk .before .before .before in
@@ -58,7 +58,7 @@ same-length-2 : tie.Need-same-length-2
 same-length-2 c = search needs
 
 returns-4 : tie.Need-returns-4
-unfolding followed
+unfolding walkedFrom
 returns-4 c =
     let at-walk2 = c .before in
     let at-size-of = at-walk2 .before .before in

@@ -1,7 +1,7 @@
 use Prim.Native.Nat.{_-_, _^_}
 use native.Mathlib.Omega.{arith}
 use borrow.Author.Needs.{needs}
-use Rattle.pairs.specs.Pairs.{numberOf}
+use Rattle.pairs.specs.Pairs.{pairNumber}
 use Rattle.kerning.proofs.Adding.{within-more}
 use Rattle.line.proofs.Room.{room-small}
 use Rattle.pairs.proofs.Passes.{sized, Pairing, pairing-start, pairing-next, pairing-done}
@@ -9,7 +9,7 @@ use Rattle.pairs.proofs.add_pairs.Statement.{statement}
 use Rattle.pairs.proofs.add_pairs.Tie as tie
 
 abbrev Inv-loop : tie.InvT-loop
-Inv-loop bytes pairs glyphs used along₀ place₀ along place = Pairing (numberOf bytes pairs) glyphs (sized bytes pairs) used (2 ^ 60) along₀ along place
+Inv-loop bytes pairs glyphs used along₀ place₀ along place = Pairing (pairNumber bytes pairs) glyphs (sized bytes pairs) used (2 ^ 60) along₀ along place
 
 abbrev μ-loop : tie.MeasureT-loop
 μ-loop bytes pairs glyphs used along₀ place₀ along place = used - place

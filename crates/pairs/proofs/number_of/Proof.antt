@@ -1,4 +1,4 @@
-use Rattle.pairs.specs.Pairs.{numberOf}
+use Rattle.pairs.specs.Pairs.{pairNumber}
 use borrow.Author.Needs.{needs}
 use Rattle.pairs.proofs.number_of.Statement.{statement}
 use Rattle.pairs.proofs.number_of.Tie as tie
@@ -16,12 +16,12 @@ class-number-requires : tie.Need-class-number-requires
 class-number-requires c κs = search needs
 
 returns : tie.Need-returns
-unfolding numberOf
-returns c = rw (c .ordered-number .ensures, c .before .before .pairs .given .1, numberOf)
+unfolding pairNumber
+returns c = rw (c .ordered-number .ensures, c .before .before .pairs .given .1, pairNumber)
 
 returns-2 : tie.Need-returns-2
-unfolding numberOf
-returns-2 c = rw (c .class-number .ensures, c .before .before .pairs2 .given .1, numberOf)
+unfolding pairNumber
+returns-2 c = rw (c .class-number .ensures, c .before .before .pairs2 .given .1, pairNumber)
 
 pub number-of-spec : {M : Type 1} → statement M
 number-of-spec =

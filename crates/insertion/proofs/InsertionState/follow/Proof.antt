@@ -1,5 +1,5 @@
 use mathlib.Core.Path.{sym, _∙_}
-use Rattle.insertion.specs.Insertion.{followed}
+use Rattle.insertion.specs.Insertion.{afterMarked}
 use borrow.Author.Needs.{needs}
 use Rattle.insertion.proofs.InsertionState.follow.Statement.{statement}
 use Rattle.insertion.proofs.InsertionState.follow.Tie as tie
@@ -47,7 +47,7 @@ stopped-requires : tie.Need-stopped-requires
 stopped-requires c κs = search needs
 
 returns : tie.Need-returns
-unfolding followed
+unfolding afterMarked
 returns c =
     let at-tried = c .before .before in
     let at-insertion-of = at-tried .before .before in
@@ -56,10 +56,10 @@ returns c =
     let at-count-of = at-is-set2 .before in
     let at-with-mark = at-count-of .before in
     let at-is-set = at-with-mark .before in
-    rw (← (at-count-of .count-of .ensures), ← (at-is-set2 .is-set2 .ensures), ← (at-place-of .place-of .ensures), sym (at-insertion-of .insertion-of .ensures) ∙ at-tried .tried .given .1, c .finish .ensures, at-with-mark .with-mark .ensures, at-is-set .is-set .ensures, followed)
+    rw (← (at-count-of .count-of .ensures), ← (at-is-set2 .is-set2 .ensures), ← (at-place-of .place-of .ensures), sym (at-insertion-of .insertion-of .ensures) ∙ at-tried .tried .given .1, c .finish .ensures, at-with-mark .with-mark .ensures, at-is-set .is-set .ensures, afterMarked)
 
 returns-2 : tie.Need-returns-2
-unfolding followed
+unfolding afterMarked
 returns-2 c =
     let at-tried2 = c .before .before in
     let at-insertion-of = at-tried2 .before .before in
@@ -68,7 +68,7 @@ returns-2 c =
     let at-count-of = at-is-set2 .before in
     let at-with-mark = at-count-of .before in
     let at-is-set = at-with-mark .before in
-    rw (← (at-count-of .count-of .ensures), ← (at-is-set2 .is-set2 .ensures), ← (at-place-of .place-of .ensures), sym (at-insertion-of .insertion-of .ensures) ∙ at-tried2 .tried2 .given .1, c .stopped .ensures, at-with-mark .with-mark .ensures, at-is-set .is-set .ensures, followed)
+    rw (← (at-count-of .count-of .ensures), ← (at-is-set2 .is-set2 .ensures), ← (at-place-of .place-of .ensures), sym (at-insertion-of .insertion-of .ensures) ∙ at-tried2 .tried2 .given .1, c .stopped .ensures, at-with-mark .with-mark .ensures, at-is-set .is-set .ensures, afterMarked)
 
 pub follow-spec : {M : Type 1} → statement M
 follow-spec =
