@@ -6,3 +6,4 @@ mod Readings
 pub mod Laws
 pub mod Manual
 pub mod Differences
+pub mod Openings

@@ -2,4 +2,5 @@
 pub mod States
 pub mod Classes
 pub mod Entries
+pub mod Opened
 pub mod Manual

@@ -11,14 +11,14 @@ ghost use mathlib.Core.Path.{_≡_};
 ghost use Rattle.state_tables.specs.Classes.{classByLookup, classByArray, classOf, classReply, classExtended, classClassic};
 
 // The number of a deleted glyph, and its class.
-const DELETED_GLYPH: u16 = 0xFFFF;
+pub const DELETED_GLYPH: u16 = 0xFFFF;
 
-const DELETED: u16 = 2;
+pub const DELETED: u16 = 2;
 
 // The class of a glyph that the class table does not cover.
-const OUT_OF_BOUNDS: u16 = 1;
+pub const OUT_OF_BOUNDS: u16 = 1;
 
-fn class_by_lookup(bytes: &[u8], table: u32, glyph: u16) -> u16
+pub fn class_by_lookup(bytes: &[u8], table: u32, glyph: u16) -> u16
     ensures { λ r. ⌜ r ≡ classByLookup (now (bytes .entry)) table glyph ⌝ }
 {
     let Found::At(class) = lookup::lookup_at(parse::from(bytes, table as usize), glyph) else {

@@ -2,6 +2,7 @@
 // are one `States`. A state table is lent from its own start on, and its offsets count from there.
 pub mod classes;
 pub mod entries;
+pub mod opened;
 
 ghost use mathlib.Core.Path.{_≡_};
 ghost use Rattle.state_tables.specs.States.{extendedAt, classicAt};

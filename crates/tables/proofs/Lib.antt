@@ -4,3 +4,4 @@ mod Scanning
 pub mod Surveys
 pub mod Finding
 pub mod ManualLookup
+pub mod Openings

@@ -2,6 +2,7 @@
 pub mod Records
 pub mod Search
 pub mod Lookup
+pub mod Opened
 pub mod Survey
 pub mod Order
 pub mod ManualLookup
