@@ -133,7 +133,7 @@ module _ (bytes : List ℕ) (states : States) (s : ContextualState) (index glyph
   unfolding next writtenAll
   next-idle used glyphs e = rw (sym i ∙ e, next) (record { answers = refl; left = refl })
 
-  module _ {s₀ : ContextualState} {class₀ : ℕ} (n : idles ≡ false) (b : s₀ ≡ begun s index glyph ends) (k : class₀ ≡ classHere bytes states glyph ends) where
+  module _ {s₀ : ContextualState} {class₀ : ℕ} (n : idles ≡ false) (b : s₀ ≡ begun s index glyph ends) (k : class₀ ≡ classHere (classOf bytes states) glyph ends) where
     next-runs : ran bytes states index 18 s₀ class₀ glyph [] ≡ next bytes states s index glyph ends
     unfolding next
     next-runs = rw (b, k) (sym (rw (sym i ∙ n, next)))

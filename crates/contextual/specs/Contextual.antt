@@ -97,7 +97,7 @@ unfoldable pub next : List ℕ → States → ContextualState → (index glyph :
 next bytes states s index glyph ends =
     elim (idle s ends) [
       | true ↦ over Answer′.Done s []
-      | false ↦ ran bytes states index 18 (begun s index glyph ends) (classHere bytes states glyph ends) glyph []
+      | false ↦ ran bytes states index 18 (begun s index glyph ends) (classHere (classOf bytes states) glyph ends) glyph []
     ]
 
 abbrev pub stepped : Ran → Stepped ContextualState

@@ -17,6 +17,7 @@ use Rattle.state_tables.specs.declared.entries.Entered.the-variants as Entered�
 use Rattle.state_tables.specs.Entries.{entryOf, onEntry}
 use Rattle.parse.specs.Reads.{u16At}
 use Rattle.laws.specs.Bits.{isSet}
+use Rattle.state_tables.specs.Classes.{classOf}
 use Rattle.machine.specs.Entry.{classHere}
 use Rattle.machine.specs.Stall.{stalled}
 use Rattle.machine.specs.Pass.{isDone}
@@ -66,7 +67,7 @@ module _ (bytes : List ℕ) (s : InsertionState) (index used room : ℕ) where
 pub next-shape : (bytes : List ℕ) (states : States) (s : InsertionState) (used room index glyph : ℕ) (ends : Bool) → used ≤ room
     → Shape bytes s used room (next bytes states s used room index glyph ends)
 unfolding next
-next-shape bytes states s used room index glyph ends h = go (entryOf bytes states (s .state) (classHere bytes states glyph ends) 4)
+next-shape bytes states s used room index glyph ends h = go (entryOf bytes states (s .state) (classHere (classOf bytes states) glyph ends) 4)
   where
     go : (e : Entered) → Shape bytes s used room (onEntry e (λ entry. acted bytes s entry index used room) (stopped Answer′.Ended s Inserted′.None))
     go (Entered′.At entry) = acted-shape bytes s index used room entry h

@@ -12,6 +12,7 @@ use Rattle.state_tables.specs.declared.entries.Entry.{Entry}
 use Rattle.state_tables.specs.Entries.{entryOf, onEntry}
 use Rattle.line.specs.Line.{Line}
 use Rattle.laws.specs.Bits.{isSet}
+use Rattle.state_tables.specs.Classes.{classOf}
 use Rattle.machine.specs.Entry.{classHere}
 use Rattle.machine.specs.Stall.{stalled}
 use Rattle.machine.specs.declared.Stalled.{Stalled}
@@ -91,7 +92,7 @@ acted bytes s entry index used room =
 -- a step: class, then entry, then what the entry does; without an entry it is ENDED and the state as it was
 unfoldable pub next : List ℕ → States → InsertionState → (used room index glyph : ℕ) → (ends : Bool) → InsertionStep
 next bytes states s used room index glyph ends =
-    onEntry (entryOf bytes states (s .state) (classHere bytes states glyph ends) 4)
+    onEntry (entryOf bytes states (s .state) (classHere (classOf bytes states) glyph ends) 4)
     (λ entry. acted bytes s entry index used room)
     (stopped Answer′.Ended s Inserted′.None)
 

@@ -17,6 +17,7 @@ use Rattle.state_tables.specs.declared.entries.Entered.the-variants as Entered�
 use Rattle.state_tables.specs.Entries.{entryOf, onEntry}
 use Rattle.line.specs.Line.{Line, lineOf}
 use Rattle.laws.specs.Bits.{isSet}
+use Rattle.state_tables.specs.Classes.{classOf}
 use Rattle.machine.specs.Entry.{classHere}
 use Rattle.ligature.specs.Ligature.{Stack, stackOf, Ligation, Work, entered, Ran, over, ran, next}
 use Rattle.ligature.specs.Work.{ligated, reached}
@@ -190,7 +191,7 @@ module _ (bytes : List ℕ) (states : States) (index glyph class used : ℕ) (ta
   running-over g h = absurd (omega (arith, g .spent, h))
 
 module _ (bytes : List ℕ) (states : States) (state : ℕ) (places stack : List ℕ) (depth : ℕ) (glyphs tags homes : List ℕ) (used index glyph : ℕ) (ends : Bool) where
-  pub running-start : {class : ℕ} → class ≡ classHere bytes states glyph ends → depth ≤ 32
+  pub running-start : {class : ℕ} → class ≡ classHere (classOf bytes states) glyph ends → depth ≤ 32
       → Running bytes states index glyph class used tags (lineOf glyphs tags homes used)
       (next bytes states state (stackOf places stack depth) index glyph ends) places stack glyphs homes state depth 0
   unfolding next

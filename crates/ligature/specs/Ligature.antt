@@ -14,6 +14,7 @@ use Rattle.state_tables.specs.Entries.{entryOf, onEntry}
 use Rattle.line.specs.Line.{Line}
 use Rattle.line.specs.Changes.{Change}
 use Rattle.laws.specs.Bits.{isSet}
+use Rattle.state_tables.specs.Classes.{classOf}
 use Rattle.machine.specs.Entry.{classHere}
 use Rattle.machine.specs.Pass.{Stepped, Machine, Passed, advanceOf, passOf}
 use Rattle.ligature.specs.Actions.{actionOf}
@@ -181,7 +182,7 @@ module _ (bytes : List ℕ) (states : States) (index glyph class : ℕ) where
 
 -- a step: the class of the place or of the end of text, then the entries, with one cycle count for them and their actions
 unfoldable pub next : List ℕ → States → (state : ℕ) → Stack → (index glyph : ℕ) → (ends : Bool) → Ran
-next bytes states state stack index glyph ends = ran bytes states index glyph (classHere bytes states glyph ends) 18 state stack 0 []
+next bytes states state stack index glyph ends = ran bytes states index glyph (classHere (classOf bytes states) glyph ends) 18 state stack 0 []
 
 abbrev pub stateOf : Ran → LigatureState
 stateOf r =

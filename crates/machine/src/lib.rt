@@ -13,6 +13,7 @@ ghost use Rattle.machine.specs.Head.{hasKind};
 ghost use Rattle.machine.specs.Call.{opened, passTests};
 ghost use Rattle.machine.specs.Pass.{isDone};
 ghost use Rattle.laws.specs.Bits.{isSet};
+ghost use Rattle.state_tables.specs.Classes.{classOf};
 ghost use Rattle.machine.specs.Entry.{classHere};
 
 // Whether the next step is at the next place, and how often in a row it was not.
@@ -53,7 +54,7 @@ pub fn is_set(flags: u16, mask: u16) -> bool
 
 // The class of the end of text is 0, that of a place its glyph's.
 pub fn class_at(bytes: &[u8], states: States, glyph: u16, ends: bool) -> u16
-    ensures { λ r. ⌜ r ≡ classHere (now (bytes .entry)) states glyph ends ⌝ }
+    ensures { λ r. ⌜ r ≡ classHere (classOf (now (bytes .entry)) states) glyph ends ⌝ }
 {
     if ends {
         return 0;

@@ -44,9 +44,9 @@ pub stalls : (bytes : List ℕ) (states : States) (s : RearrangementState) (inde
     × (next bytes states s index glyph ends .state .cycles ≡ stalled (s .cycles) stays .cycles)
     × (next bytes states s index glyph ends .advance ≡ stalled (s .cycles) stays .advance)
 unfolding next acted
-stalls bytes states s index glyph ends done = go (entryOf bytes states (s .state) (classHere bytes states glyph ends) 0) refl
+stalls bytes states s index glyph ends done = go (entryOf bytes states (s .state) (classHere (classOf bytes states) glyph ends) 0) refl
   where
-    go : (e : Entered) → entryOf bytes states (s .state) (classHere bytes states glyph ends) 0 ≡ e
+    go : (e : Entered) → entryOf bytes states (s .state) (classHere (classOf bytes states) glyph ends) 0 ≡ e
         → (stays : Bool)
         × (next bytes states s index glyph ends .state .cycles ≡ stalled (s .cycles) stays .cycles)
         × (next bytes states s index glyph ends .advance ≡ stalled (s .cycles) stays .advance)

@@ -23,6 +23,7 @@ use Rattle.machine.specs.Head.{bodyOf}
 use Rattle.machine.specs.Call as Call′
 use Rattle.machine.specs.Call.{opened, headTest, passTests, refusedCall}
 use Rattle.laws.specs.Bits.{isSet}
+use Rattle.state_tables.specs.Classes.{classOf}
 use Rattle.machine.specs.Entry.{classHere}
 use Rattle.machine.specs.Stall.{stalled}
 use Rattle.machine.specs.Pass.{Machine, Passed, passOf}
@@ -69,7 +70,7 @@ unmoved s answer = record { answer = answer; state = s; advance = 0; edit = Wind
 -- a step: class, then entry, then what the entry does
 unfoldable pub next : List ℕ → States → RearrangementState → (index glyph : ℕ) → (ends : Bool) → RearrangementStep
 next bytes states s index glyph ends =
-    onEntry (entryOf bytes states (s .state) (classHere bytes states glyph ends) 0) (λ entry. acted s entry index) (unmoved s Answer′.Ended)
+    onEntry (entryOf bytes states (s .state) (classHere (classOf bytes states) glyph ends) 0) (λ entry. acted s entry index) (unmoved s Answer′.Ended)
 
 -- what a step does to the line
 abbrev pub changesOf : Window → List Change

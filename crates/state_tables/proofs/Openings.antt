@@ -22,7 +22,7 @@ use Rattle.tables.specs.declared.opened.Opened.{Opened}
 use Rattle.tables.specs.declared.opened.Opened.the-variants as Opened′
 use Rattle.tables.proofs.Openings.{opened-same, opened-lies}
 use Rattle.state_tables.specs.Classes.{foundClass, classByLookup, byteClass, classByArray, classIn, classOf}
-use Rattle.state_tables.specs.Opened.{cutBytes, classesFrom, openedClasses, inClasses, wordClass, byteClassIn, classBy, LiesIn, Remembers, nothingFound}
+use Rattle.state_tables.specs.Opened.{cutBytes, classesFrom, openedClasses, inClasses, wordClass, byteClassIn, classBy, LiesIn, Remembers, noted, nothingFound}
 use Rattle.state_tables.specs.declared.Edition.{Edition}
 use Rattle.state_tables.specs.declared.Edition.the-variants.{Extended, Classic}
 use Rattle.state_tables.specs.declared.States.{States}
@@ -90,12 +90,16 @@ module _ (bytes : List ℕ) (place first count glyph : ℕ) where
     where
       index : ℕ
       index = glyph - first
+
       most : ℕ
       most = length bytes - place
+
       left : ℕ → ℕ
       left n = ifEq glyph 65535 2 (ifLt glyph first 1 n)
+
       class : ℕ
       class = u8At bytes (place + index)
+
       cut : (b : Bool) → ltb most count ≡ b
           → left (ifLt index (ifLt most count most count) class 1) ≡ left (ifLt index count (ifLt index most class 1) 1)
       cut true e = rw e (ap left (shorter (ltb index most) refl))
@@ -113,6 +117,16 @@ module _ (bytes : List ℕ) (place first count glyph : ℕ) where
           longer true f = rw (f, lt-ltb index most (omega (arith, ltb-false most count e, ltb-true index count f)))
           longer false f = rw f
 
+abbrev words-lie : List ℕ → Classes → Type 0
+words-lie bytes (Words base first count) = count ≤ mostIn bytes base
+words-lie bytes (Bytes base first count) = 0 ≤ count
+words-lie bytes (Searched table) = 0 ≤ table
+
+abbrev bytes-lie : List ℕ → Classes → Type 0
+bytes-lie bytes (Words base first count) = 0 ≤ count
+bytes-lie bytes (Bytes base first count) = count ≤ length bytes - base
+bytes-lie bytes (Searched table) = 0 ≤ table
+
 -- the class table of a state table, opened, gives each glyph's class, and its elements lie in the table
 pub classes-same : (bytes : List ℕ) (states : States) (glyph : ℕ) → classBy bytes (openedClasses bytes (states .edition)) glyph ≡ classOf bytes states glyph
 unfolding classOf classIn
@@ -128,9 +142,21 @@ unfolding openedClasses cutBytes mostIn
 classes-lie bytes (Extended table) = go (openedOf (drop table bytes)) (opened-lies (drop table bytes))
   where
     go : (opened : Opened) → Lookup′.LiesIn (drop table bytes) opened → LiesIn bytes (classesFrom table opened)
-    go (Opened′.Array base first count) h = omega (arith, h, length-drop table bytes)
-    go Opened′.Other h = omega arith
-classes-lie bytes (Classic place first count) = go (ltb (length bytes - place) count) refl
+    go (Opened′.Array base first count) h =
+        record {
+          words = λ b f n e. subst (λ (o : Classes). words-lie bytes o) e (omega (arith, h base first count refl, length-drop table bytes));
+          byte-classes = λ b f n e. subst (λ (o : Classes). bytes-lie bytes o) e (omega arith);
+        }
+    go Opened′.Other h =
+        record {
+          words = λ b f n e. subst (λ (o : Classes). words-lie bytes o) e (omega arith);
+          byte-classes = λ b f n e. subst (λ (o : Classes). bytes-lie bytes o) e (omega arith);
+        }
+classes-lie bytes (Classic place first count) =
+    record {
+      words = λ b f n e. subst (λ (o : Classes). words-lie bytes o) e (omega arith);
+      byte-classes = λ b f n e. subst (λ (o : Classes). bytes-lie bytes o) e (go (ltb (length bytes - place) count) refl);
+    }
   where
     go : (b : Bool) → ltb (length bytes - place) count ≡ b → cond b (length bytes - place) count ≤ length bytes - place
     go true e = omega arith
@@ -155,7 +181,7 @@ module _ {classes : ℕ → ℕ} where
     pub recalled : getD memo slot 0 / 65536 ≡ glyph → getD memo slot 0 % 65536 ≡ classes glyph
     recalled e = sym (r .slots slot h) ∙ ap classes e
 
-    pub remembers : {class : ℕ} → class < 65536 → class ≡ classes glyph → Remembers classes (set memo slot (glyph * 65536 + class))
+    remembers : {class : ℕ} → class < 65536 → class ≡ classes glyph → Remembers classes (set memo slot (glyph * 65536 + class))
     remembers {class} small e =
         record {
           long = length-set memo slot (glyph * 65536 + class) ∙ r .long;
@@ -164,9 +190,22 @@ module _ {classes : ℕ → ℕ} where
       where
         new : List ℕ
         new = set memo slot (glyph * 65536 + class)
+
         go : (other : ℕ) → other < 64 → (other ≡ slot) ⊎ (other ≡ slot → ⊥) → classes (getD new other 0 / 65536) ≡ getD new other 0 % 65536
         go other k (inl f) =
-            rw (f, getD-set-same memo slot (glyph * 65536 + class) 0 (omega (arith, h, r .long)),
-            (let q : (glyph * 65536 + class) / 65536 ≡ glyph = omega (arith, small) in q),
-            (let q : (glyph * 65536 + class) % 65536 ≡ class = omega (arith, small) in q)) (sym e)
+            rw (
+              f,
+              getD-set-same memo slot (glyph * 65536 + class) 0 (omega (arith, h, r .long)),
+              (let q : (glyph * 65536 + class) / 65536 ≡ glyph = omega (arith, small) in q),
+              (let q : (glyph * 65536 + class) % 65536 ≡ class = omega (arith, small) in q),
+            ) (sym e)
         go other k (inr d) = rw (getD-set-other memo slot other (glyph * 65536 + class) 0 d) (r .slots other k)
+
+  -- what is noted is still remembered rightly
+  pub still-remembers : {memo : List ℕ} → Remembers classes memo → (glyph : ℕ) → classes glyph < 65536 → Remembers classes (noted classes memo glyph)
+  unfolding noted
+  still-remembers {memo} r glyph small = go (eqb (getD memo (glyph % 64) 0 / 65536) glyph)
+    where
+      go : (b : Bool) → Remembers classes (cond b memo (set memo (glyph % 64) (glyph * 65536 + classes glyph)))
+      go true = r
+      go false = remembers r (omega arith) small refl

@@ -1,8 +1,9 @@
--- A class table opened once for many glyphs: what the code keeps of it. No entry and no promise rests on this file, so nobody has to believe it.
+-- For the code alone; no entry and no promise rests on it, and nobody has to believe it. What the code keeps of a class table that it opens once for
+-- many glyphs.
 use Prim.Native.Nat.{ℕ, _+_, _-_, _*_, _/_, _%_, _<_, _≤_}
 use mathlib.Core.Path.{_≡_}
 use mathlib.Core.List.{List}
-use lib.ListN.{length, getD, drop, replicate}
+use lib.ListN.{length, getD, set, drop, replicate}
 use Rattle.laws.specs.Choose.{ifLt, ifEq}
 use Rattle.parse.specs.Reads.{u8At, u16At}
 use Rattle.tables.specs.Opened.{mostIn, openedOf}
@@ -41,16 +42,19 @@ classBy bytes (Words base first count) glyph = wordClass bytes base first count 
 classBy bytes (Bytes base first count) glyph = byteClassIn bytes base first count glyph
 classBy bytes (Searched table) glyph = ifEq glyph 65535 2 (classByLookup bytes table glyph)
 
--- all its elements lie in the table
-abbrev pub LiesIn : List ℕ → Classes → Type 0
-LiesIn bytes (Words base first count) = count ≤ mostIn bytes base
-LiesIn bytes (Bytes base first count) = count ≤ length bytes - base
-LiesIn bytes (Searched table) = 0 ≤ 0
+-- all elements of an array lie in the table
+pub record LiesIn (bytes : List ℕ) (opened : Classes) : Type 0 where
+  pub words : (base first count : ℕ) → opened ≡ Words base first count → count ≤ mostIn bytes base
+  pub byte-classes : (base first count : ℕ) → opened ≡ Bytes base first count → count ≤ length bytes - base
 
--- each slot holds a glyph and its class
+-- 64 slots, each of which holds a glyph and its class: at first a deleted glyph's
+abbrev pub nothingFound : List ℕ
+nothingFound = replicate 64 0xFFFF0002
+
 pub record Remembers (classes : ℕ → ℕ) (memo : List ℕ) : Type 0 where
   pub long : length memo ≡ 64
   pub slots : (slot : ℕ) → slot < 64 → classes (getD memo slot 0 / 65536) ≡ getD memo slot 0 % 65536
 
-abbrev pub nothingFound : List ℕ
-nothingFound = replicate 64 0xFFFF0002
+-- what is remembered once the class of a glyph was asked for
+unfoldable pub noted : (classes : ℕ → ℕ) → (memo : List ℕ) → (glyph : ℕ) → List ℕ
+noted classes memo glyph = ifEq (getD memo (glyph % 64) 0 / 65536) glyph memo (set memo (glyph % 64) (glyph * 65536 + classes glyph))

@@ -8,7 +8,7 @@ ghost use mathlib.Core.Path.{_≡_};
 ghost use Prim.Native.Nat.{_-_, _≤_};
 ghost use lib.ListN.{length};
 ghost use Rattle.tables.specs.Opened.{mostIn};
-ghost use Rattle.state_tables.specs.Opened.{cutBytes, openedClasses, wordClass, byteClassIn, classBy, LiesIn, Remembers, nothingFound};
+ghost use Rattle.state_tables.specs.Opened.{cutBytes, openedClasses, wordClass, byteClassIn, classBy, LiesIn, Remembers, noted, nothingFound};
 
 // An array of words or of bytes, of which so many lie in the table, or one that is searched.
 pub enum Classes {
@@ -147,7 +147,7 @@ pub fn nothing_found() -> [u32; 64]
 pub fn remembered(bytes: &[u8], opened: Classes, memo: &mut [u32; 64], glyph: u16) -> u16
     requires { ⌜ LiesIn (now bytes) opened × Remembers (classBy (now bytes) opened) (now memo) ⌝ }
     ensures class { λ r. ⌜ r ≡ classBy (now (bytes .entry)) opened glyph ⌝ }
-    ensures memo { λ r. ⌜ Remembers (classBy (now (bytes .entry)) opened) (now (memo .exit)) ⌝ }
+    ensures memo { λ _. ⌜ now (memo .exit) ≡ noted (classBy (now (bytes .entry)) opened) (now (memo .entry)) glyph ⌝ }
 {
     let slot = (glyph % 64) as usize;
     let held = memo[slot];

@@ -1,6 +1,6 @@
 -- A lookup table that was opened finds what the lookup finds, why nothing was found not told apart.
 use Prim.Native.Nat.{ℕ, _+_, _-_, _*_, _<_, _≤_}
-use mathlib.Core.Path.{_≡_, refl, sym, _∙_, ap}
+use mathlib.Core.Path.{_≡_, refl, sym, _∙_, ap, subst}
 use mathlib.Core.Bool.{Bool, true, false, cond}
 use mathlib.Core.List.{List}
 use native.Mathlib.Omega.{arith}
@@ -45,6 +45,7 @@ module _ (bytes : List ℕ) (glyph : ℕ) where
     where
       found : Found
       found = At (u16At bytes (base + (glyph - first) * 2))
+
       cut : (b : Bool) → ltb (mostIn bytes base) count ≡ b
           → ifLt glyph first (Nothing NotCovered) (ifLt (glyph - first) (ifLt (mostIn bytes base) count (mostIn bytes base) count) found (Nothing NotCovered))
           ≡ ifLt glyph first (Nothing NotCovered) (ifLt (glyph - first) count (ifLt (glyph - first) (mostIn bytes base) found (Nothing NotCovered)) (Nothing NotCovered))
@@ -86,6 +87,7 @@ module _ (bytes : List ℕ) (glyph : ℕ) where
     where
       goal : Type 0
       goal = foundIn bytes (openedTrimmed bytes head) glyph ≡ plain (trimmedAt bytes head glyph)
+
       by-first : (r : ReadU16) → readU16 bytes head ≡ r → goal
       by-first U16.Short e = rw e (ap plain l ∙ rw e)
       by-first (U16.Got first) e = by-count (readU16 bytes (head + 2)) refl
@@ -102,6 +104,7 @@ module _ (bytes : List ℕ) (glyph : ℕ) where
     where
       goal : Type 0
       goal = foundIn bytes (openedOf bytes) glyph ≡ plain (lookupAt bytes glyph)
+
       by-read : (r : ReadU16) → readU16 bytes 0 ≡ r → goal
       by-read U16.Short e = let l : lookupAt bytes glyph ≡ Nothing CutShort = rw e in rw e (ap plain l)
       by-read (U16.Got n) e = by-format (formatOf n) refl
@@ -113,27 +116,47 @@ module _ (bytes : List ℕ) (glyph : ℕ) where
           by-format Unknown g = let l : lookupAt bytes glyph ≡ inFormat bytes Unknown glyph = rw (e, g) in rw (e, g) (ap plain l)
 
 -- and all its elements lie in the table
-pub opened-lies : (bytes : List ℕ) → LiesIn bytes (openedOf bytes)
-unfolding openedOf openedTrimmed openedArray
-opened-lies bytes = by-read (readU16 bytes 0) refl
+count-of : Opened → ℕ
+count-of (Array base first count) = count
+count-of Other = 0
+
+most-of : List ℕ → Opened → ℕ
+most-of bytes (Array base first count) = mostIn bytes base
+most-of bytes Other = 0
+
+cut-lies : (bytes : List ℕ) (base first count : ℕ) → count-of (openedArray bytes base first count) ≤ most-of bytes (openedArray bytes base first count)
+unfolding openedArray count-of most-of
+cut-lies bytes base first count = go (ltb (mostIn bytes base) count) refl
   where
-    array : (base count : ℕ) (b : Bool) → ltb (mostIn bytes base) count ≡ b → cond b (mostIn bytes base) count ≤ mostIn bytes base
-    array base count true e = omega arith
-    array base count false e = omega (arith, ltb-false (mostIn bytes base) count e)
-    by-read : (r : ReadU16) → readU16 bytes 0 ≡ r → LiesIn bytes (openedOf bytes)
+    go : (b : Bool) → ltb (mostIn bytes base) count ≡ b → cond b (mostIn bytes base) count ≤ mostIn bytes base
+    go true e = omega arith
+    go false e = omega (arith, ltb-false (mostIn bytes base) count e)
+
+counts-lie : (bytes : List ℕ) → count-of (openedOf bytes) ≤ most-of bytes (openedOf bytes)
+unfolding openedOf openedTrimmed count-of most-of
+counts-lie bytes = by-read (readU16 bytes 0) refl
+  where
+    goal : Type 0
+    goal = count-of (openedOf bytes) ≤ most-of bytes (openedOf bytes)
+
+    by-read : (r : ReadU16) → readU16 bytes 0 ≡ r → goal
     by-read U16.Short e = rw e (omega arith)
     by-read (U16.Got n) e = by-format (formatOf n) refl
       where
-        by-format : (f : Format) → formatOf n ≡ f → LiesIn bytes (openedOf bytes)
+        by-format : (f : Format) → formatOf n ≡ f → goal
         by-format Simple g = rw (e, g) (omega arith)
         by-format (Records kind) g = rw (e, g) (omega arith)
         by-format Unknown g = rw (e, g) (omega arith)
         by-format (Trimmed head) g = by-first (readU16 bytes head) refl
           where
-            by-first : (r : ReadU16) → readU16 bytes head ≡ r → LiesIn bytes (openedOf bytes)
+            by-first : (r : ReadU16) → readU16 bytes head ≡ r → goal
             by-first U16.Short h = rw (e, g, h) (omega arith)
             by-first (U16.Got first) h = by-count (readU16 bytes (head + 2)) refl
               where
-                by-count : (r : ReadU16) → readU16 bytes (head + 2) ≡ r → LiesIn bytes (openedOf bytes)
+                by-count : (r : ReadU16) → readU16 bytes (head + 2) ≡ r → goal
                 by-count U16.Short i = rw (e, g, h, i) (omega arith)
-                by-count (U16.Got n) i = rw (e, g, h, i) (array (head + 4) n (ltb (mostIn bytes (head + 4)) n) refl)
+                by-count (U16.Got count) i = rw (e, g, h, i) (cut-lies bytes (head + 4) first count)
+
+pub opened-lies : (bytes : List ℕ) → LiesIn bytes (openedOf bytes)
+unfolding count-of most-of
+opened-lies bytes base first count e = subst (λ (o : Opened). count-of o ≤ most-of bytes o) e (counts-lie bytes)

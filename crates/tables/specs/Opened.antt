@@ -1,5 +1,7 @@
--- A lookup table opened once for many glyphs: what the code keeps of it. No entry and no promise rests on this file, so nobody has to believe it.
+-- For the code alone; no entry and no promise rests on it, and nobody has to believe it. What the code keeps of a lookup table that it opens once for
+-- many glyphs.
 use Prim.Native.Nat.{ℕ, _+_, _-_, _*_, _/_, _≤_}
+use mathlib.Core.Path.{_≡_}
 use mathlib.Core.List.{List}
 use lib.ListN.{length}
 use Rattle.laws.specs.Choose.{ifLt}
@@ -49,7 +51,6 @@ unfoldable pub foundIn : List ℕ → Opened → (glyph : ℕ) → Found
 foundIn bytes (Array base first count) glyph = inArray bytes base first count glyph
 foundIn bytes Other glyph = plain (lookupAt bytes glyph)
 
--- all its elements lie in the table
+-- all elements of an array lie in the table
 abbrev pub LiesIn : List ℕ → Opened → Type 0
-LiesIn bytes (Array base first count) = count ≤ mostIn bytes base
-LiesIn bytes Other = 0 ≤ 0
+LiesIn bytes opened = (base first count : ℕ) → opened ≡ Array base first count → count ≤ mostIn bytes base

@@ -10,11 +10,7 @@ ghost use Rattle.tables.specs.Opened.{mostIn, openedArray, openedTrimmed
 
 // An array, of which so many elements lie in the table, or anything else.
 pub enum Opened {
-    Array {
-        base: u32,
-        first: u16,
-        count: usize,
-    },
+    Array { base: u32, first: u16, count: usize },
     Other,
 }
 

@@ -1,7 +1,4 @@
-use denote.Ref.{now}
-use mathlib.Core.Path.{subst}
-use Rattle.state_tables.specs.Opened.{classBy, LiesIn}
-use Rattle.state_tables.specs.declared.opened.Classes.{Classes}
+use Rattle.state_tables.specs.Opened.{classBy}
 use borrow.Author.Needs.{needs}
 use Rattle.state_tables.proofs.opened.class_in.Statement.{statement}
 use Rattle.state_tables.proofs.opened.class_in.Tie as tie
@@ -15,13 +12,13 @@ enum-known-opened : tie.Need-enum-known-opened
 enum-known-opened c = search needs
 
 class-in-words-requires : tie.Need-class-in-words-requires
-class-in-words-requires c κs = subst (λ (o : Classes). LiesIn (now (c .before .before .before .before .args .bytes)) o) (c .before .opened .given .1) (c .before .before .before .before .pre)
+class-in-words-requires c κs = c .before .before .before .before .pre .words _ _ _ (c .before .opened .given .1)
 
 enum-known-opened-2 : tie.Need-enum-known-opened-2
 enum-known-opened-2 c = search needs
 
 class-in-bytes-requires : tie.Need-class-in-bytes-requires
-class-in-bytes-requires c κs = subst (λ (o : Classes). LiesIn (now (c .before .before .before .before .args .bytes)) o) (c .before .opened2 .given .1) (c .before .before .before .before .pre)
+class-in-bytes-requires c κs = c .before .before .before .before .pre .byte-classes _ _ _ (c .before .opened2 .given .1)
 
 enum-known-opened-3 : tie.Need-enum-known-opened-3
 enum-known-opened-3 c = search needs

@@ -29,7 +29,11 @@ enum-told c = search needs
 
 returns : tie.Need-returns
 unfolding openedClasses
-returns c = rw (c .before .before .before .before .before .edition .given .1, sym (c .before .before .before .from .ensures), sym (c .before .before .«open» .ensures) ∙ c .enum-told .given .1, openedClasses)
+returns c =
+    let at-open = c .before .before in
+    let at-from = at-open .before in
+    let at-edition = at-from .before .before in
+    rw (at-edition .edition .given .1, sym (at-from .from .ensures), sym (at-open .«open» .ensures) ∙ c .enum-told .given .1, openedClasses)
 
 cast-t15 : tie.Need-cast-t15
 cast-t15 c = search needs
@@ -57,7 +61,12 @@ cast-t18 c = search needs
 
 returns-2 : tie.Need-returns-2
 unfolding openedClasses
-returns-2 c = rw (c .before .before .before .before .before .before .edition .given .1, sym (c .before .before .before .before .from .ensures), sym (c .before .before .before .«open» .ensures) ∙ c .before .opened .given .1, openedClasses)
+returns-2 c =
+    let at-opened = c .before in
+    let at-open = at-opened .before .before in
+    let at-from = at-open .before in
+    let at-edition = at-from .before .before in
+    rw (at-edition .edition .given .1, sym (at-from .from .ensures), sym (at-open .«open» .ensures) ∙ at-opened .opened .given .1, openedClasses)
 
 returns-3 : tie.Need-returns-3
 unfolding openedClasses

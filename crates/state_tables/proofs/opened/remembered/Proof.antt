@@ -1,6 +1,8 @@
 use mathlib.Core.Path.{sym, _∙_}
+use borrow.Author.Tests.{eq-eqb, ne-eqb}
+use Rattle.state_tables.specs.Opened.{noted}
 use native.Mathlib.Omega.{arith}
-use Rattle.state_tables.proofs.Openings.{recalled, remembers}
+use Rattle.state_tables.proofs.Openings.{recalled}
 use borrow.Author.Needs.{needs}
 use Rattle.state_tables.proofs.opened.remembered.Statement.{statement}
 use Rattle.state_tables.proofs.opened.remembered.Tie as tie
@@ -21,7 +23,8 @@ cast-result : tie.Need-cast-result
 cast-result c = search needs
 
 returns : tie.Need-returns
-returns c = (recalled (c .before .before .before .pre .1) (omega arith) (c .if1 .taken), c .before .before .before .pre .1)
+unfolding noted
+returns c = (recalled (c .before .before .before .pre .1) (omega arith) (c .if1 .taken), rw (eq-eqb _ _ (c .if1 .taken), noted))
 
 class-in-requires : tie.Need-class-in-requires
 class-in-requires c κs = search needs
@@ -42,7 +45,8 @@ element-write-memo : tie.Need-element-write-memo
 element-write-memo c = search needs
 
 returns-2 : tie.Need-returns-2
-returns-2 c = (c .class-in .ensures, remembers (c .before .before .before .before .pre .1) (omega arith) (omega (arith, c .class-in .ok)) (c .class-in .ensures))
+unfolding noted
+returns-2 c = (c .class-in .ensures, rw (ne-eqb _ _ (c .before .if1 .left), sym (c .class-in .ensures), noted))
 
 pub remembered-spec : {M : Type 1} → statement M
 remembered-spec =

@@ -1,7 +1,5 @@
-use denote.Ref.{now}
-use mathlib.Core.Path.{sym, _∙_, subst}
-use Rattle.tables.specs.Opened.{foundIn, LiesIn}
-use Rattle.tables.specs.declared.opened.Opened.{Opened}
+use mathlib.Core.Path.{sym, _∙_}
+use Rattle.tables.specs.Opened.{foundIn}
 use borrow.Author.Needs.{needs}
 use Rattle.tables.proofs.opened.found_in.Statement.{statement}
 use Rattle.tables.proofs.opened.found_in.Tie as tie
@@ -14,7 +12,7 @@ enum-known-opened : tie.Need-enum-known-opened
 enum-known-opened c = search needs
 
 in-array-requires : tie.Need-in-array-requires
-in-array-requires c κs = subst (λ (o : Opened). LiesIn (now (c .before .before .before .before .args .bytes)) o) (c .before .opened .given .1) (c .before .before .before .before .pre)
+in-array-requires c κs = c .before .before .before .before .pre _ _ _ (c .before .opened .given .1)
 
 enum-told : tie.Need-enum-told
 enum-told c = search needs

@@ -46,7 +46,7 @@ enum-told-4 c = search needs
 
 returns-2 : tie.Need-returns-2
 unfolding openedOf
-returns-2 c = 
+returns-2 c =
     let at-enum-told2 = c .before in
     let at-format-of = at-enum-told2 .before .before in
     let at-number = at-format-of .before .before in
@@ -55,7 +55,7 @@ returns-2 c =
 
 returns-3 : tie.Need-returns-3
 unfolding openedOf
-returns-3 c = 
+returns-3 c =
     let at-format-of = c .before .before in
     let at-number = at-format-of .before .before in
     let at-read-u16 = at-number .before .before in
@@ -63,7 +63,7 @@ returns-3 c =
 
 returns-4 : tie.Need-returns-4
 unfolding openedOf
-returns-4 c = 
+returns-4 c =
     let at-format = c .before .before in
     let at-format-of = at-format .before .before in
     let at-number = at-format-of .before .before in
@@ -72,7 +72,7 @@ returns-4 c =
 
 returns-5 : tie.Need-returns-5
 unfolding openedOf
-returns-5 c = 
+returns-5 c =
     let at-format-of = c .before .before in
     let at-number = at-format-of .before .before in
     let at-read-u16 = at-number .before .before in

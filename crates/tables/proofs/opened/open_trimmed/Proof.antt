@@ -35,7 +35,7 @@ enum-told-2 c = search needs
 
 returns-2 : tie.Need-returns-2
 unfolding openedTrimmed
-returns-2 c = 
+returns-2 c =
     let at-read-u162 = c .before .before in
     let at-first = at-read-u162 .before .before in
     let at-read-u16 = at-first .before .before in
@@ -52,7 +52,7 @@ open-array-requires c κs = search needs
 
 returns-3 : tie.Need-returns-3
 unfolding openedTrimmed
-returns-3 c = 
+returns-3 c =
     let at-count = c .before .before in
     let at-read-u162 = at-count .before .before in
     let at-first = at-read-u162 .before .before in
