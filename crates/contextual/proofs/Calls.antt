@@ -16,6 +16,7 @@ use Rattle.answers.specs.declared.Check.the-variants as Check′
 use Rattle.state_tables.specs.declared.States.{States}
 use Rattle.state_tables.specs.declared.Made.{Made}
 use Rattle.state_tables.specs.declared.Made.the-variants as Made′
+use Rattle.state_tables.specs.Classes.{classOf}
 use Rattle.line.specs.Line.{Line, lineOf}
 use Rattle.line.specs.Test.{isValid}
 use Rattle.line.specs.Changes.{applyAll}
@@ -162,12 +163,12 @@ module _ (table : List ℕ) (start : ℕ) (s : ContextualState) (glyphs tags hom
   step-headless e h = step-ends (refusedStep Refusal′.Head s) (rw (sym tested ∙ e, stepCall) (rw (sym head ∙ h))) refl refl
 
   pub step-worked : {states : States} {body glyphs′ : List ℕ} {step : ContextualStep} → check ≡ Check′.Passed → made ≡ Made′.Ready states
-      → body ≡ drop 12 bytes → step ≡ stepOf (stepped (next body states s index glyph ends))
-      → glyphs′ ≡ writtenAll used (next body states s index glyph ends .writes) glyphs → StepEnds table start s l index glyph ends step glyphs′
+      → body ≡ drop 12 bytes → step ≡ stepOf (stepped (next (classOf body states) body states s index glyph ends))
+      → glyphs′ ≡ writtenAll used (next (classOf body states) body states s index glyph ends .writes) glyphs → StepEnds table start s l index glyph ends step glyphs′
   unfolding stepCall machine
   step-worked {states} {body} e r d a g =
       let d′ : body ≡ bodyOf (drop start table) = d ∙ ap (drop 12) b in
-      step-ends (stepped (next body states s index glyph ends))
-      (rw (sym tested ∙ e, stepCall) (rw (sym head ∙ r) (ap (λ (x : List ℕ). stepped (next x states s index glyph ends)) (sym d′))))
+      step-ends (stepped (next (classOf body states) body states s index glyph ends))
+      (rw (sym tested ∙ e, stepCall) (rw (sym head ∙ r) (ap (λ (x : List ℕ). stepped (next (classOf x states) x states s index glyph ends)) (sym d′))))
       a
-      (g ∙ ap (λ (x : Line). x .glyphs) (written-line used (next body states s index glyph ends .writes) glyphs tags homes))
+      (g ∙ ap (λ (x : Line). x .glyphs) (written-line used (next (classOf body states) body states s index glyph ends .writes) glyphs tags homes))

@@ -12,7 +12,6 @@ use Rattle.state_tables.specs.declared.States.{States}
 use Rattle.state_tables.specs.declared.entries.Entry.{Entry}
 use Rattle.state_tables.specs.declared.entries.Entered.{Entered}
 use Rattle.state_tables.specs.declared.entries.Entered.the-variants as Entered′
-use Rattle.state_tables.specs.Classes.{classOf}
 use Rattle.state_tables.specs.Entries.{entryOf, onEntry}
 use Rattle.laws.specs.Bits.{isSet}
 use Rattle.machine.specs.Entry.{classHere}
@@ -26,22 +25,22 @@ use Rattle.contextual.specs.declared.ContextualStep.{ContextualStep}
 use Rattle.contextual.proofs.Writes.{written-append}
 
 -- one entry, by what it is
-module _ (bytes : List ℕ) (states : States) (index left : ℕ) (s : ContextualState) (class current : ℕ) (done : List Write) where
+module _ (classes : ℕ → ℕ) (bytes : List ℕ) (states : States) (index left : ℕ) (s : ContextualState) (class current : ℕ) (done : List Write) where
   ran-ended : entryOf bytes states (s .state) class 4 ≡ Entered′.Ended
-      → ran bytes states index (suc left) s class current done ≡ over Answer′.Ended s done
+      → ran classes bytes states index (suc left) s class current done ≡ over Answer′.Ended s done
   unfolding ran
   ran-ended e = rw (e, ran)
 
   module _ (entry : Entry) (e : entryOf bytes states (s .state) class 4 ≡ Entered′.At entry) where
     ran-stops : isSet (entry .flags) 0x4000 ≡ false
-        → ran bytes states index (suc left) s class current done
+        → ran classes bytes states index (suc left) s class current done
         ≡ over Answer′.Done (acted bytes s entry index current .state) (done ++ entryWrites s index (acted bytes s entry index current))
     unfolding ran
     ran-stops f = rw (e, ran, onEntry) (rw f)
 
     ran-goes : isSet (entry .flags) 0x4000 ≡ true
-        → ran bytes states index (suc left) s class current done
-        ≡ ran bytes states index left (acted bytes s entry index current .state) (classOf bytes states (acted bytes s entry index current .current))
+        → ran classes bytes states index (suc left) s class current done
+        ≡ ran classes bytes states index left (acted bytes s entry index current .state) (classes (acted bytes s entry index current .current))
         (acted bytes s entry index current .current) (done ++ entryWrites s index (acted bytes s entry index current))
     unfolding ran
     ran-goes f = rw (e, ran, onEntry) (rw f)
@@ -50,11 +49,11 @@ more : (n : ℕ) → 0 < n → n ≡ suc (n - 1)
 more zero h = absurd (omega arith)
 more (suc n) h = omega arith
 
-module _ (bytes : List ℕ) (states : States) (index used : ℕ) (glyphs₀ : List ℕ) (whole : Ran) where
+module _ (classes : ℕ → ℕ) (bytes : List ℕ) (states : States) (index used : ℕ) (glyphs₀ : List ℕ) (whole : Ran) where
   -- what the loop knows with so many entries left
   pub record Running (glyphs : List ℕ) (s : ContextualState) (class current left : ℕ) : Type 0 where
     pub done : List Write
-    pub same : ran bytes states index left s class current done ≡ whole
+    pub same : ran classes bytes states index left s class current done ≡ whole
     pub made : glyphs ≡ writtenAll used done glyphs₀
     pub long : length glyphs ≡ length glyphs₀
 
@@ -69,17 +68,17 @@ module _ (bytes : List ℕ) (states : States) (index used : ℕ) (glyphs₀ : Li
     unfolding ran
     running-out h =
         let n : left ≡ 0 = omega arith in
-        record { writes = r .done; is = subst (λ (k : ℕ). ran bytes states index k s class current (r .done) ≡ whole) n (r .same); left = r .made }
+        record { writes = r .done; is = subst (λ (k : ℕ). ran classes bytes states index k s class current (r .done) ≡ whole) n (r .same); left = r .made }
 
     module _ (h : 0 < left) {e : Entered} (f : e ≡ entryOf bytes states (s .state) class 4) where
-      from-here : ran bytes states index (suc (left - 1)) s class current (r .done) ≡ whole
-      from-here = subst (λ (k : ℕ). ran bytes states index k s class current (r .done) ≡ whole) (more left h) (r .same)
+      from-here : ran classes bytes states index (suc (left - 1)) s class current (r .done) ≡ whole
+      from-here = subst (λ (k : ℕ). ran classes bytes states index k s class current (r .done) ≡ whole) (more left h) (r .same)
 
       pub running-ended : e ≡ Entered′.Ended → Over Answer′.Ended s glyphs
       running-ended g =
           record {
             writes = r .done;
-            is = sym (ran-ended bytes states index (left - 1) s class current (r .done) (sym f ∙ g)) ∙ from-here;
+            is = sym (ran-ended classes bytes states index (left - 1) s class current (r .done) (sym f ∙ g)) ∙ from-here;
             left = r .made;
           }
 
@@ -99,48 +98,48 @@ module _ (bytes : List ℕ) (states : States) (index used : ℕ) (glyphs₀ : Li
             record {
               writes = r .done ++ entryWrites s index a;
               is = ap (λ (x : Acted). over Answer′.Done (x .state) (r .done ++ entryWrites s index x)) ae
-                  ∙ sym (ran-stops bytes states index (left - 1) s class current (r .done) entry (sym f ∙ g) (sym b ∙ not-true flag n))
+                  ∙ sym (ran-stops classes bytes states index (left - 1) s class current (r .done) entry (sym f ∙ g) (sym b ∙ not-true flag n))
                   ∙ from-here;
               left = made-after;
             }
 
-        pub running-goes : {class′ : ℕ} → not flag ≡ false → class′ ≡ classOf bytes states (a .current) → length glyphs₁ ≡ length glyphs
+        pub running-goes : {class′ : ℕ} → not flag ≡ false → class′ ≡ classes (a .current) → length glyphs₁ ≡ length glyphs
             → length glyphs₂ ≡ length glyphs₁ → Running glyphs₂ (a .state) class′ (a .current) (left - 1)
         running-goes {class′} n k l₁ l₂ =
             record {
               done = r .done ++ entryWrites s index a;
-              same = ap (λ (x : ℕ). ran bytes states index (left - 1) (a .state) x (a .current) (r .done ++ entryWrites s index a)) k
-                  ∙ ap (λ (x : Acted). ran bytes states index (left - 1) (x .state) (classOf bytes states (x .current)) (x .current) (r .done ++ entryWrites s index x)) ae
-                  ∙ sym (ran-goes bytes states index (left - 1) s class current (r .done) entry (sym f ∙ g) (sym b ∙ not-false flag n))
+              same = ap (λ (x : ℕ). ran classes bytes states index (left - 1) (a .state) x (a .current) (r .done ++ entryWrites s index a)) k
+                  ∙ ap (λ (x : Acted). ran classes bytes states index (left - 1) (x .state) (classes (x .current)) (x .current) (r .done ++ entryWrites s index x)) ae
+                  ∙ sym (ran-goes classes bytes states index (left - 1) s class current (r .done) entry (sym f ∙ g) (sym b ∙ not-false flag n))
                   ∙ from-here;
               made = made-after;
               long = l₂ ∙ l₁ ∙ r .long;
             }
 
-pub running-start : (bytes : List ℕ) (states : States) (index used : ℕ) (glyphs : List ℕ) (s : ContextualState) (class current left : ℕ)
-    → Running bytes states index used glyphs (ran bytes states index left s class current []) glyphs s class current left
+pub running-start : (classes : ℕ → ℕ) (bytes : List ℕ) (states : States) (index used : ℕ) (glyphs : List ℕ) (s : ContextualState) (class current left : ℕ)
+    → Running classes bytes states index used glyphs (ran classes bytes states index left s class current []) glyphs s class current left
 unfolding writtenAll
-running-start bytes states index used glyphs s class current left = record { done = []; same = refl; made = refl; long = refl }
+running-start classes bytes states index used glyphs s class current left = record { done = []; same = refl; made = refl; long = refl }
 
 -- what a step answers and leaves
 pub record Ends (used : ℕ) (glyphs₀ : List ℕ) (whole : Ran) (step : ContextualStep) (glyphs : List ℕ) : Type 0 where
   pub answers : step ≡ stepOf (stepped whole)
   pub left : glyphs ≡ writtenAll used (whole .writes) glyphs₀
 
-module _ (bytes : List ℕ) (states : States) (s : ContextualState) (index glyph : ℕ) (ends : Bool) {idles : Bool} (i : idles ≡ idle s ends) where
+module _ (classes : ℕ → ℕ) (bytes : List ℕ) (states : States) (s : ContextualState) (index glyph : ℕ) (ends : Bool) {idles : Bool} (i : idles ≡ idle s ends) where
   pub next-idle : (used : ℕ) (glyphs : List ℕ) → idles ≡ true
-      → Ends used glyphs (next bytes states s index glyph ends) (record { answer = Answer′.Done; state = s; advance = 1 }) glyphs
+      → Ends used glyphs (next classes bytes states s index glyph ends) (record { answer = Answer′.Done; state = s; advance = 1 }) glyphs
   unfolding next writtenAll
   next-idle used glyphs e = rw (sym i ∙ e, next) (record { answers = refl; left = refl })
 
-  module _ {s₀ : ContextualState} {class₀ : ℕ} (n : idles ≡ false) (b : s₀ ≡ begun s index glyph ends) (k : class₀ ≡ classHere (classOf bytes states) glyph ends) where
-    next-runs : ran bytes states index 18 s₀ class₀ glyph [] ≡ next bytes states s index glyph ends
+  module _ {s₀ : ContextualState} {class₀ : ℕ} (n : idles ≡ false) (b : s₀ ≡ begun s index glyph ends) (k : class₀ ≡ classHere classes glyph ends) where
+    next-runs : ran classes bytes states index 18 s₀ class₀ glyph [] ≡ next classes bytes states s index glyph ends
     unfolding next
     next-runs = rw (b, k) (sym (rw (sym i ∙ n, next)))
 
     pub next-over : {used : ℕ} {glyphs₀ glyphs : List ℕ} {answer : Answer} {s′ : ContextualState}
-        → Over bytes states index used glyphs₀ (ran bytes states index 18 s₀ class₀ glyph []) answer s′ glyphs
-        → Ends used glyphs₀ (next bytes states s index glyph ends) (record { answer = answer; state = s′; advance = advanceOf answer }) glyphs
+        → Over classes bytes states index used glyphs₀ (ran classes bytes states index 18 s₀ class₀ glyph []) answer s′ glyphs
+        → Ends used glyphs₀ (next classes bytes states s index glyph ends) (record { answer = answer; state = s′; advance = advanceOf answer }) glyphs
     next-over {used} {glyphs₀} o =
         let e = o .is ∙ next-runs in
         record {

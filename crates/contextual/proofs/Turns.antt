@@ -12,7 +12,7 @@ use Rattle.line.specs.Changes.{applyAll}
 use Rattle.machine.specs.Pass.{isDone, advanceOf, passFrom}
 use Rattle.machine.proofs.Turns.{Counts, enough-turns}
 use Rattle.contextual.specs.Substitutes.{Write, changesOf}
-use Rattle.contextual.specs.Contextual.{fresh, next, machine, rest, passed}
+use Rattle.contextual.specs.Contextual.{fresh, next, machine, rest, passedBy}
 use Rattle.contextual.specs.declared.ContextualState.{ContextualState}
 use Rattle.contextual.proofs.Writes.{written-line}
 
@@ -26,19 +26,19 @@ advances answer e = rw e
 used-kept : (ws : List Write) (l : Line) → applyAll (changesOf ws) l .used ≡ l .used
 used-kept ws l = ap (λ (x : Line). x .used) (sym (written-line (l .used) ws (l .glyphs) (l .tags) (l .homes)))
 
-counts : (bytes : List ℕ) (states : States) → Counts (machine bytes states) Sound rest
+counts : (classes : ℕ → ℕ) (bytes : List ℕ) (states : States) → Counts (machine classes bytes states) Sound rest
 unfolding machine
-counts bytes states =
+counts classes bytes states =
     record {
       some = λ s l i ok. omega arith;
       sound = λ s l i ok h done. omega arith;
       fewer = λ s l i ok h done.
-          let r = next bytes states s i (getD (l .glyphs) i 0) false in
+          let r = next classes bytes states s i (getD (l .glyphs) i 0) false in
           omega (arith, advances (r .answer) done, used-kept (r .writes) l);
     }
 
-pub contextual-turns : (bytes : List ℕ) (states : States) (l : Line) (more : ℕ)
-    → passFrom (machine bytes states) (more + rest fresh l 0) fresh l 0 ≡ passed bytes states l
-unfolding passed
-contextual-turns bytes states l more =
-    enough-turns (machine bytes states) Sound rest (counts bytes states) more (rest fresh l 0) fresh l 0 (omega arith) (omega arith)
+pub contextual-turns : (classes : ℕ → ℕ) (bytes : List ℕ) (states : States) (l : Line) (more : ℕ)
+    → passFrom (machine classes bytes states) (more + rest fresh l 0) fresh l 0 ≡ passedBy classes bytes states l
+unfolding passedBy
+contextual-turns classes bytes states l more =
+    enough-turns (machine classes bytes states) Sound rest (counts classes bytes states) more (rest fresh l 0) fresh l 0 (omega arith) (omega arith)

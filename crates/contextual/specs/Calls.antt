@@ -10,6 +10,7 @@ use Rattle.parse.specs.Reads.{readU32}
 use Rattle.parse.specs.Use.{onU32}
 use Rattle.state_tables.specs.declared.Made.{Made}
 use Rattle.state_tables.specs.declared.Made.the-variants as Made′
+use Rattle.state_tables.specs.Classes.{classOf}
 use Rattle.line.specs.Line.{Line}
 use Rattle.line.specs.Changes.{applyAll}
 use Rattle.machine.specs.Head.{bodyOf}
@@ -47,7 +48,7 @@ stepTests tableLength l index s made = lineStepTests tableLength l index (stateT
 unfoldable pub stepCall : List ℕ → (start : ℕ) → ContextualState → Line → (index glyph : ℕ) → (ends : Bool) → Stepped ContextualState
 stepCall table start s l index glyph ends =
     stepBy (refuse (stepTests (length table) l index s (opened (drop start table)))) (opened (drop start table)) s
-    (λ states. machine (bodyOf (drop start table)) states s l index glyph ends)
+    (λ states. machine (classOf (bodyOf (drop start table)) states) (bodyOf (drop start table)) states s l index glyph ends)
 
 -- the line that it leaves
 unfoldable pub stepLeaves : List ℕ → (start : ℕ) → ContextualState → Line → (index glyph : ℕ) → (ends : Bool) → Line

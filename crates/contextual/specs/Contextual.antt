@@ -73,7 +73,7 @@ over answer s writes = record { answer = answer; state = s; writes = writes }
 abbrev pub entryWrites : ContextualState → (index : ℕ) → Acted → List Write
 entryWrites s index a = writesOf (s .«mark_index») (a .mark) ++ writesOf index (a .own)
 
-module _ (bytes : List ℕ) (states : States) (index : ℕ) where
+module _ (classes : ℕ → ℕ) (bytes : List ℕ) (states : States) (index : ℕ) where
   -- from an entry on, with so many left to look at and some writes done: no entry is ENDED; one without the flag 0x4000, don't
   -- advance, is the last; after any other the class is that of the current glyph, at end of text too. The crate's last glyph is the
   -- current one where an entry begins, at first and after a don't-advance
@@ -86,31 +86,35 @@ module _ (bytes : List ℕ) (states : States) (index : ℕ) where
         | false ↦ over Answer′.Done (acted bytes s entry index current .state) (done ++ entryWrites s index (acted bytes s entry index current))
         | true ↦
             ran left (acted bytes s entry index current .state)
-            (classOf bytes states (acted bytes s entry index current .current))
+            (classes (acted bytes s entry index current .current))
             (acted bytes s entry index current .current)
             (done ++ entryWrites s index (acted bytes s entry index current))
       ])
       (over Answer′.Ended s done)
 
 -- a step looks at no more than 18 entries
-unfoldable pub next : List ℕ → States → ContextualState → (index glyph : ℕ) → (ends : Bool) → Ran
-next bytes states s index glyph ends =
+unfoldable pub next : (classes : ℕ → ℕ) → List ℕ → States → ContextualState → (index glyph : ℕ) → (ends : Bool) → Ran
+next classes bytes states s index glyph ends =
     elim (idle s ends) [
       | true ↦ over Answer′.Done s []
-      | false ↦ ran bytes states index 18 (begun s index glyph ends) (classHere (classOf bytes states) glyph ends) glyph []
+      | false ↦ ran classes bytes states index 18 (begun s index glyph ends) (classHere classes glyph ends) glyph []
     ]
 
 abbrev pub stepped : Ran → Stepped ContextualState
 stepped r = record { answer = r .answer; state = r .state; advance = advanceOf (r .answer); changes = changesOf (r .writes) }
 
 -- the machine that passes are made of
-unfoldable pub machine : List ℕ → States → Machine ContextualState
-machine bytes states s l index glyph ends = stepped (next bytes states s index glyph ends)
+unfoldable pub machine : (classes : ℕ → ℕ) → List ℕ → States → Machine ContextualState
+machine classes bytes states s l index glyph ends = stepped (next classes bytes states s index glyph ends)
 
 -- as many steps as a pass may have left: one for each place, and the end call
 abbrev pub rest : ContextualState → Line → ℕ → ℕ
 rest s l i = (l .used - i) + 1
 
+-- the pass over a line, by any classes
+unfoldable pub passedBy : (classes : ℕ → ℕ) → List ℕ → States → Line → Passed
+passedBy classes bytes states l = passOf (machine classes bytes states) (rest fresh l 0) fresh l
+
 -- the pass over a line
 unfoldable pub passed : List ℕ → States → Line → Passed
-passed bytes states l = passOf (machine bytes states) (rest fresh l 0) fresh l
+passed bytes states l = passedBy (classOf bytes states) bytes states l

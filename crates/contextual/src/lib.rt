@@ -14,6 +14,7 @@ ghost use mathlib.Core.Path.{_≡_};
 ghost use Prim.Native.Nat.{_+_, _≤_};
 ghost use lib.ListN.{length};
 ghost use Rattle.answers.specs.Refuse.{refuse};
+ghost use Rattle.state_tables.specs.Classes.{classOf};
 ghost use Rattle.line.specs.Line.{lineOf};
 ghost use Rattle.contextual.specs.Substitutes.{substituteOf, glyphAfter, writesOf};
 ghost use Rattle.contextual.specs.Contextual.{fresh, idle, begun, seenGlyph, entered, acted, next, stepped, passed};
@@ -215,8 +216,8 @@ impl ContextualState {
         ends: bool,
     ) -> ContextualStep
         requires { ⌜ used ≤ length (now glyphs) ⌝ }
-        ensures step { λ r. ⌜ r ≡ stepOf (stepped (next (now (bytes .entry)) states self index glyph ends)) ⌝ }
-        ensures glyphs { λ _. ⌜ now (glyphs .exit) ≡ writtenAll used (next (now (bytes .entry)) states self index glyph ends .writes) (now (glyphs .entry)) ⌝ }
+        ensures step { λ r. ⌜ r ≡ stepOf (stepped (next (classOf (now (bytes .entry)) states) (now (bytes .entry)) states self index glyph ends)) ⌝ }
+        ensures glyphs { λ _. ⌜ now (glyphs .exit) ≡ writtenAll used (next (classOf (now (bytes .entry)) states) (now (bytes .entry)) states self index glyph ends .writes) (now (glyphs .entry)) ⌝ }
     {
         if self.idle(ends) {
             return ContextualStep {

@@ -48,8 +48,9 @@ pub record Demand1 : Type 0 where
   pub rearrangement-turns : (bytes : List ℕ) (states : States) (l : Line) (more : ℕ)
       → passFrom (Rearrangement.machine bytes states) (more + Rearrangement.rest Rearrangement.fresh l 0) Rearrangement.fresh l 0
       ≡ Rearrangement.passed bytes states l
-  pub contextual-turns : (bytes : List ℕ) (states : States) (l : Line) (more : ℕ)
-      → passFrom (Contextual.machine bytes states) (more + Contextual.rest Contextual.fresh l 0) Contextual.fresh l 0 ≡ Contextual.passed bytes states l
+  pub contextual-turns : (classes : ℕ → ℕ) (bytes : List ℕ) (states : States) (l : Line) (more : ℕ)
+      → passFrom (Contextual.machine classes bytes states) (more + Contextual.rest Contextual.fresh l 0) Contextual.fresh l 0
+      ≡ Contextual.passedBy classes bytes states l
   pub ligature-turns : (bytes : List ℕ) (states : States) (l : Line) (more : ℕ)
       → passFrom (Ligature.machine bytes states) (more + Ligature.rest Ligature.fresh l 0) Ligature.fresh l 0 ≡ Ligature.passed bytes states l
   pub insertion-turns : (bytes : List ℕ) (states : States) (l : Line) (more : ℕ) → Valid l

@@ -2,6 +2,7 @@ use mathlib.Core.List.{[]}
 use native.Mathlib.Omega.{arith}
 use borrow.Author.Needs.{needs}
 use Rattle.state_tables.proofs.Laws.{entry-payload}
+use Rattle.state_tables.specs.Classes.{classOf}
 use Rattle.contextual.specs.Contextual.{ran}
 use Rattle.contextual.proofs.Runs.{Running, running-start, running-out, running-ended, running-stops, running-goes, next-idle, next-over}
 use Rattle.contextual.proofs.ContextualState.next.Statement.{statement}
@@ -9,7 +10,7 @@ use Rattle.contextual.proofs.ContextualState.next.Tie as tie
 
 abbrev Inv-loop : tie.InvT-loop
 Inv-loop bytes states glyphs₀ used index glyph ends state₀ class₀ current₀ left₀ glyphs state class current left =
-    Running bytes states index used glyphs₀ (ran bytes states index left₀ state₀ class₀ current₀ []) glyphs state class current left
+    Running (classOf bytes states) bytes states index used glyphs₀ (ran (classOf bytes states) bytes states index left₀ state₀ class₀ current₀ []) glyphs state class current left
 
 abbrev μ-loop : tie.MeasureT-loop
 μ-loop bytes states glyphs₀ used index glyph ends state₀ class₀ current₀ left₀ glyphs state class current left =
@@ -19,7 +20,7 @@ idle-requires : tie.Need-idle-requires Inv-loop μ-loop
 idle-requires c κs = search needs
 
 returns : tie.Need-returns Inv-loop μ-loop
-returns c = let e = next-idle _ _ _ _ _ _ (c .before .idle .ensures) _ _ (c .if1 .taken) in (e .answers, e .left)
+returns c = let e = next-idle _ _ _ _ _ _ _ (c .before .idle .ensures) _ _ (c .if1 .taken) in (e .answers, e .left)
 
 begun-requires : tie.Need-begun-requires Inv-loop μ-loop
 begun-requires c κs = search needs
@@ -28,7 +29,7 @@ class-at-requires : tie.Need-class-at-requires Inv-loop μ-loop
 class-at-requires c κs = search needs
 
 loop-holds : tie.Need-loop-holds Inv-loop μ-loop
-loop-holds c = running-start _ _ _ _ _ _ _ _ _
+loop-holds c = running-start _ _ _ _ _ _ _ _ _ _
 
 entry-of-requires : tie.Need-entry-of-requires Inv-loop μ-loop
 entry-of-requires c κs = search needs
@@ -51,7 +52,7 @@ returns-2 c =
     let at-begun = at-class-at .before in
     let at-if1 = at-begun .before in
     let at-idle = at-if1 .before in
-    let e = next-over _ _ _ _ _ _ (at-idle .idle .ensures) (at-if1 .if1 .left) (at-begun .begun .ensures) (at-class-at .class-at .ensures) (running-ended _ _ _ _ _ _ (at-loop .loop .inv) (at-loop-test .loop-test .taken) (at-entry-of .entry-of .ensures) (c .enum-told .given .1)) in
+    let e = next-over _ _ _ _ _ _ _ (at-idle .idle .ensures) (at-if1 .if1 .left) (at-begun .begun .ensures) (at-class-at .class-at .ensures) (running-ended _ _ _ _ _ _ _ (at-loop .loop .inv) (at-loop-test .loop-test .taken) (at-entry-of .entry-of .ensures) (c .enum-told .given .1)) in
     (e .answers, e .left)
 
 act-requires : tie.Need-act-requires Inv-loop μ-loop
@@ -87,7 +88,7 @@ returns-3 c =
     let at-begun = at-class-at .before in
     let at-if1 = at-begun .before in
     let at-idle = at-if1 .before in
-    let e = next-over _ _ _ _ _ _ (at-idle .idle .ensures) (at-if1 .if1 .left) (at-begun .begun .ensures) (at-class-at .class-at .ensures) (running-stops _ _ _ _ _ _ (at-loop .loop .inv) (at-loop-test .loop-test .taken) (at-entry-of .entry-of .ensures) (at-entry .entry .given .1) (at-act .act .ensures) (at-replace .replace .ensures) (at-replace2 .replace2 .ensures) (at-is-set .is-set .ensures) (c .if2 .taken)) in
+    let e = next-over _ _ _ _ _ _ _ (at-idle .idle .ensures) (at-if1 .if1 .left) (at-begun .begun .ensures) (at-class-at .class-at .ensures) (running-stops _ _ _ _ _ _ _ (at-loop .loop .inv) (at-loop-test .loop-test .taken) (at-entry-of .entry-of .ensures) (at-entry .entry .given .1) (at-act .act .ensures) (at-replace .replace .ensures) (at-replace2 .replace2 .ensures) (at-is-set .is-set .ensures) (c .if2 .taken)) in
     (e .answers, e .left)
 
 class-of-requires : tie.Need-class-of-requires Inv-loop μ-loop
@@ -112,7 +113,7 @@ returns-4 c =
     let at-begun = at-class-at .before in
     let at-if1 = at-begun .before in
     let at-idle = at-if1 .before in
-    let e = next-over _ _ _ _ _ _ (at-idle .idle .ensures) (at-if1 .if1 .left) (at-begun .begun .ensures) (at-class-at .class-at .ensures) (running-out _ _ _ _ _ _ (at-loop .loop .inv) (c .loop-test .left)) in
+    let e = next-over _ _ _ _ _ _ _ (at-idle .idle .ensures) (at-if1 .if1 .left) (at-begun .begun .ensures) (at-class-at .class-at .ensures) (running-out _ _ _ _ _ _ _ (at-loop .loop .inv) (c .loop-test .left)) in
     (e .answers, e .left)
 
 pub next-spec : {M : Type 1} → statement M
