@@ -14,6 +14,7 @@ use Rattle.answers.specs.declared.Answer.{Answer}
 use Rattle.answers.specs.declared.Answer.the-variants as Answer′
 use Rattle.answers.specs.declared.Check.{Check}
 use Rattle.answers.specs.declared.Check.the-variants as Check′
+use Rattle.state_tables.specs.Classes.{classOf}
 use Rattle.state_tables.specs.declared.States.{States}
 use Rattle.state_tables.specs.declared.Made.{Made}
 use Rattle.state_tables.specs.declared.Made.the-variants as Made′
@@ -193,10 +194,10 @@ module _ (table : List ℕ) (start : ℕ) (s : LigatureState) (glyphs tags homes
 
   module _ {states : States} {body places′ stack′ glyphs′ homes′ : List ℕ} {r : Reached} {advance : ℕ} (e : check ≡ Check′.Passed)
       (t : made ≡ Made′.Ready states) (d : body ≡ drop 12 bytes)
-      (reaches : Reaches l (next body states (s .state) (stackIn s) index glyph ends) r places′ stack′ glyphs′ homes′)
+      (reaches : Reaches l (next (classOf body states) body states (s .state) (stackIn s) index glyph ends) r places′ stack′ glyphs′ homes′)
       (v : advance ≡ advanceOf (r .answer)) where
     abbrev run : Ran
-    run = next body states (s .state) (stackIn s) index glyph ends
+    run = next (classOf body states) body states (s .state) (stackIn s) index glyph ends
 
     handed : _≡_ {A = LigatureStep} (record { answer = r .answer; state = standing (r .state) places′ stack′ (r .depth); advance = advance }) (stepOf (stepped run))
     handed =
@@ -210,7 +211,7 @@ module _ (table : List ℕ) (start : ℕ) (s : LigatureState) (glyphs tags homes
     step-worked =
         let d′ : body ≡ bodyOf (drop start table) = d ∙ ap (drop 12) b in
         step-ends (stepped run)
-        (rw (sym tested ∙ e, stepCall) (rw (sym head ∙ t) (ap (λ (x : List ℕ). stepped (next x states (s .state) (stackIn s) index glyph ends)) (sym d′))))
+        (rw (sym tested ∙ e, stepCall) (rw (sym head ∙ t) (ap (λ (x : List ℕ). stepped (next (classOf x states) x states (s .state) (stackIn s) index glyph ends)) (sym d′))))
         handed
         (ap (λ (x : Line). x .glyphs) (reaches-line reaches))
         (ap (λ (x : Line). x .homes) (reaches-line reaches))

@@ -7,10 +7,11 @@ use native.Mathlib.Omega.{arith}
 use lib.ListN.{length, getD}
 use Rattle.answers.specs.declared.Answer.{Answer}
 use Rattle.state_tables.specs.declared.States.{States}
+use Rattle.state_tables.specs.Classes.{classOf}
 use Rattle.line.specs.Line.{Line, lineOf}
 use Rattle.machine.specs.Pass.{deleted, isDone}
 use Rattle.machine.proofs.Passing.{Passing, Over, passing-start, passing-step, passing-stop, passing-end}
-use Rattle.ligature.specs.Ligature.{stackOf, fresh, Ran, next, stateOf, machine, rest, passed}
+use Rattle.ligature.specs.Ligature.{stackOf, fresh, Ran, next, stateOf, machine, rest, passedBy, passed}
 use Rattle.ligature.specs.Work.{ligated, reached, passedLeaves}
 use Rattle.machine.specs.Pass.{advanceOf}
 use Rattle.ligature.specs.declared.LigatureState.{LigatureState}
@@ -49,7 +50,7 @@ module _ {glyphs tags homes : List ℕ} {used : ℕ} {n : Ran} {r : Reached} {pl
 module _ (bytes : List ℕ) (states : States) (l₀ : Line) where
   -- what the loop knows at place i
   pub record Going (tags : List ℕ) (used : ℕ) (places stack glyphs homes : List ℕ) (state depth i : ℕ) : Type 0 where
-    pub passing : Passing (machine bytes states) rest l₀ (passed bytes states l₀) (standing state places stack depth) (lineOf glyphs tags homes used) i
+    pub passing : Passing (machine (classOf bytes states) bytes states) rest l₀ (passed bytes states l₀) (standing state places stack depth) (lineOf glyphs tags homes used) i
     pub within : i ≤ used
     pub deep : depth ≤ 32
     pub long : length glyphs ≡ length (l₀ .glyphs)
@@ -67,7 +68,7 @@ module _ (bytes : List ℕ) (states : States) (l₀ : Line) where
     some = omega arith
 
     ends : {answer : Answer} {glyphs′ homes′ : List ℕ} (n : Ran)
-        → Over (machine bytes states) rest l₀ (passed bytes states l₀) answer (ligated (n .made) (lineOf glyphs tags homes used))
+        → Over (machine (classOf bytes states) bytes states) rest l₀ (passed bytes states l₀) answer (ligated (n .made) (lineOf glyphs tags homes used))
         → lineOf glyphs′ tags homes′ used ≡ ligated (n .made) (lineOf glyphs tags homes used) → Ends answer glyphs′ homes′
     unfolding passedLeaves
     ends n o p =
@@ -80,9 +81,9 @@ module _ (bytes : List ℕ) (states : States) (l₀ : Line) where
     module _ {r : Reached} {places′ stack′ glyphs′ homes′ : List ℕ} where
       -- the step at a place
       module _ (h : i < used)
-          (s : Reaches (lineOf glyphs tags homes used) (next bytes states state (stackOf places stack depth) i (getD glyphs i 0) false) r places′ stack′ glyphs′ homes′) where
+          (s : Reaches (lineOf glyphs tags homes used) (next (classOf bytes states) bytes states state (stackOf places stack depth) i (getD glyphs i 0) false) r places′ stack′ glyphs′ homes′) where
         abbrev here : Ran
-        here = next bytes states state (stackOf places stack depth) i (getD glyphs i 0) false
+        here = next (classOf bytes states) bytes states state (stackOf places stack depth) i (getD glyphs i 0) false
 
         pub going-step : isDone (r .answer) ≡ true → r .depth ≤ 32 → length glyphs′ ≡ length glyphs → length homes′ ≡ length homes
             → Going tags used places′ stack′ glyphs′ homes′ (r .state) (r .depth) (i + 1)
@@ -93,10 +94,10 @@ module _ (bytes : List ℕ) (states : States) (l₀ : Line) where
             let used-same : ligated (here .made) (lineOf glyphs tags homes used) .used ≡ used = ap (λ (l : Line). l .used) (sym (reaches-line s)) in
             record {
               passing =
-                  subst⁻¹ (λ (x : LigatureState). Passing (machine bytes states) rest l₀ (passed bytes states l₀) x (lineOf glyphs′ tags homes′ used) (i + 1)) (reaches-state s)
-                  (subst⁻¹ (λ (l : Line). Passing (machine bytes states) rest l₀ (passed bytes states l₀) (stateOf here) l (i + 1)) (reaches-line s)
-                  (subst (λ (k : ℕ). Passing (machine bytes states) rest l₀ (passed bytes states l₀) (stateOf here) (ligated (here .made) (lineOf glyphs tags homes used)) (i + k)) a
-                  (passing-step (machine bytes states) rest l₀ (passed bytes states l₀) (g .passing) some h done′ (omega (arith, used-same, a)))));
+                  subst⁻¹ (λ (x : LigatureState). Passing (machine (classOf bytes states) bytes states) rest l₀ (passed bytes states l₀) x (lineOf glyphs′ tags homes′ used) (i + 1)) (reaches-state s)
+                  (subst⁻¹ (λ (l : Line). Passing (machine (classOf bytes states) bytes states) rest l₀ (passed bytes states l₀) (stateOf here) l (i + 1)) (reaches-line s)
+                  (subst (λ (k : ℕ). Passing (machine (classOf bytes states) bytes states) rest l₀ (passed bytes states l₀) (stateOf here) (ligated (here .made) (lineOf glyphs tags homes used)) (i + k)) a
+                  (passing-step (machine (classOf bytes states) bytes states) rest l₀ (passed bytes states l₀) (g .passing) some h done′ (omega (arith, used-same, a)))));
               within = omega arith;
               deep = deep;
               long = lg ∙ g .long;
@@ -108,27 +109,27 @@ module _ (bytes : List ℕ) (states : States) (l₀ : Line) where
         going-stop done =
             subst (λ (x : Answer). Ends x glyphs′ homes′) (reaches-answer s)
             (ends here
-            (passing-stop (machine bytes states) rest l₀ (passed bytes states l₀) (g .passing) some h (ap isDone (reaches-answer s) ∙ done))
+            (passing-stop (machine (classOf bytes states) bytes states) rest l₀ (passed bytes states l₀) (g .passing) some h (ap isDone (reaches-answer s) ∙ done))
             (reaches-line s))
 
       -- the end call
       pub going-end : used ≤ i
-          → Reaches (lineOf glyphs tags homes used) (next bytes states state (stackOf places stack depth) used deleted true) r places′ stack′ glyphs′ homes′
+          → Reaches (lineOf glyphs tags homes used) (next (classOf bytes states) bytes states state (stackOf places stack depth) used deleted true) r places′ stack′ glyphs′ homes′
           → Ends (r .answer) glyphs′ homes′
       unfolding machine
       going-end h s =
           subst (λ (x : Answer). Ends x glyphs′ homes′) (reaches-answer s)
-          (ends (next bytes states state (stackOf places stack depth) used deleted true)
-          (passing-end (machine bytes states) rest l₀ (passed bytes states l₀) (g .passing) some h)
+          (ends (next (classOf bytes states) bytes states state (stackOf places stack depth) used deleted true)
+          (passing-end (machine (classOf bytes states) bytes states) rest l₀ (passed bytes states l₀) (g .passing) some h)
           (reaches-line s))
 
 pub going-start : (bytes : List ℕ) (states : States) (glyphs tags homes : List ℕ) (used : ℕ) (s : LigatureState) → s ≡ fresh
     → Going bytes states (lineOf glyphs tags homes used) tags used (s .places) (s .glyphs) glyphs homes (s .state) (s .depth) 0
-unfolding passed
+unfolding passed passedBy
 going-start bytes states glyphs tags homes used s e =
     subst⁻¹ (λ (x : LigatureState). Going bytes states (lineOf glyphs tags homes used) tags used (x .places) (x .glyphs) glyphs homes (x .state) (x .depth) 0) e
     (record {
-      passing = passing-start (machine bytes states) rest _ fresh (lineOf glyphs tags homes used) (omega arith);
+      passing = passing-start (machine (classOf bytes states) bytes states) rest _ fresh (lineOf glyphs tags homes used) (omega arith);
       within = omega arith;
       deep = omega arith;
       long = refl;

@@ -193,7 +193,7 @@ module _ (bytes : List ℕ) (states : States) (index glyph class used : ℕ) (ta
 module _ (bytes : List ℕ) (states : States) (state : ℕ) (places stack : List ℕ) (depth : ℕ) (glyphs tags homes : List ℕ) (used index glyph : ℕ) (ends : Bool) where
   pub running-start : {class : ℕ} → class ≡ classHere (classOf bytes states) glyph ends → depth ≤ 32
       → Running bytes states index glyph class used tags (lineOf glyphs tags homes used)
-      (next bytes states state (stackOf places stack depth) index glyph ends) places stack glyphs homes state depth 0
+      (next (classOf bytes states) bytes states state (stackOf places stack depth) index glyph ends) places stack glyphs homes state depth 0
   unfolding next
   running-start {class} e h =
       record {

@@ -10,7 +10,7 @@ use Rattle.state_tables.specs.declared.States.{States}
 use Rattle.line.specs.Line.{Line}
 use Rattle.machine.specs.Pass.{isDone, advanceOf, passFrom}
 use Rattle.machine.proofs.Turns.{Counts, enough-turns}
-use Rattle.ligature.specs.Ligature.{Ligation, stackIn, fresh, next, machine, rest, passed}
+use Rattle.ligature.specs.Ligature.{Ligation, stackIn, fresh, next, machine, rest, passedBy}
 use Rattle.ligature.specs.Work.{ligated}
 use Rattle.ligature.specs.declared.LigatureState.{LigatureState}
 use Rattle.ligature.proofs.Ligations.{ligated-line}
@@ -25,19 +25,19 @@ advances answer e = rw e
 used-kept : (made : List Ligation) (l : Line) → ligated made l .used ≡ l .used
 used-kept made l = ap (λ (x : Line). x .used) (sym (ligated-line made (l .glyphs) (l .tags) (l .homes) (l .used) refl refl))
 
-counts : (bytes : List ℕ) (states : States) → Counts (machine bytes states) Sound rest
+counts : (classes : ℕ → ℕ) (bytes : List ℕ) (states : States) → Counts (machine classes bytes states) Sound rest
 unfolding machine
-counts bytes states =
+counts classes bytes states =
     record {
       some = λ s l i ok. omega arith;
       sound = λ s l i ok h done. omega arith;
       fewer = λ s l i ok h done.
-          let r = next bytes states (s .state) (stackIn s) i (getD (l .glyphs) i 0) false in
+          let r = next classes bytes states (s .state) (stackIn s) i (getD (l .glyphs) i 0) false in
           omega (arith, advances (r .answer) done, used-kept (r .made) l);
     }
 
-pub ligature-turns : (bytes : List ℕ) (states : States) (l : Line) (more : ℕ)
-    → passFrom (machine bytes states) (more + rest fresh l 0) fresh l 0 ≡ passed bytes states l
-unfolding passed
-ligature-turns bytes states l more =
-    enough-turns (machine bytes states) Sound rest (counts bytes states) more (rest fresh l 0) fresh l 0 (omega arith) (omega arith)
+pub ligature-turns : (classes : ℕ → ℕ) (bytes : List ℕ) (states : States) (l : Line) (more : ℕ)
+    → passFrom (machine classes bytes states) (more + rest fresh l 0) fresh l 0 ≡ passedBy classes bytes states l
+unfolding passedBy
+ligature-turns classes bytes states l more =
+    enough-turns (machine classes bytes states) Sound rest (counts classes bytes states) more (rest fresh l 0) fresh l 0 (omega arith) (omega arith)

@@ -9,6 +9,7 @@ use Rattle.answers.specs.Refuse.{Test, refuse}
 use Rattle.answers.specs.declared.Refusal.the-variants as Refusal′
 use Rattle.parse.specs.Reads.{readU32}
 use Rattle.parse.specs.Use.{onU32}
+use Rattle.state_tables.specs.Classes.{classOf}
 use Rattle.state_tables.specs.declared.Made.{Made}
 use Rattle.state_tables.specs.declared.Made.the-variants as Made′
 use Rattle.line.specs.Line.{Line}
@@ -55,7 +56,7 @@ stepTests tableLength l index s made = lineStepTests tableLength l index (depthT
 unfoldable pub stepCall : List ℕ → (start : ℕ) → LigatureState → Line → (index glyph : ℕ) → (ends : Bool) → Stepped LigatureState
 stepCall table start s l index glyph ends =
     stepBy (refuse (stepTests (length table) l index s (opened (drop start table)))) (opened (drop start table)) s
-    (λ states. machine (bodyOf (drop start table)) states s l index glyph ends)
+    (λ states. machine (classOf (bodyOf (drop start table)) states) (bodyOf (drop start table)) states s l index glyph ends)
 
 -- the line that it leaves
 unfoldable pub stepLeaves : List ℕ → (start : ℕ) → LigatureState → Line → (index glyph : ℕ) → (ends : Bool) → Line

@@ -180,9 +180,10 @@ module _ (bytes : List ℕ) (states : States) (index glyph class : ℕ) where
       ])
       (over Answer′.Ended state stack made)
 
--- a step: the class of the place or of the end of text, then the entries, with one cycle count for them and their actions
-unfoldable pub next : List ℕ → States → (state : ℕ) → Stack → (index glyph : ℕ) → (ends : Bool) → Ran
-next bytes states state stack index glyph ends = ran bytes states index glyph (classHere (classOf bytes states) glyph ends) 18 state stack 0 []
+-- a step, with any classes: the class of the place or of the end of text, then the entries, with one cycle count for them and their
+-- actions
+unfoldable pub next : (classes : ℕ → ℕ) → List ℕ → States → (state : ℕ) → Stack → (index glyph : ℕ) → (ends : Bool) → Ran
+next classes bytes states state stack index glyph ends = ran bytes states index glyph (classHere classes glyph ends) 18 state stack 0 []
 
 abbrev pub stateOf : Ran → LigatureState
 stateOf r =
@@ -196,13 +197,17 @@ abbrev pub stackIn : LigatureState → Stack
 stackIn s = stackOf (s .places) (s .glyphs) (s .depth)
 
 -- the machine that passes are made of
-unfoldable pub machine : List ℕ → States → Machine LigatureState
-machine bytes states s l index glyph ends = stepped (next bytes states (s .state) (stackIn s) index glyph ends)
+unfoldable pub machine : (classes : ℕ → ℕ) → List ℕ → States → Machine LigatureState
+machine classes bytes states s l index glyph ends = stepped (next classes bytes states (s .state) (stackIn s) index glyph ends)
 
 -- as many steps as a pass may have left: one for each place, and the end call
 abbrev pub rest : LigatureState → Line → ℕ → ℕ
 rest s l i = (l .used - i) + 1
 
--- the pass over a line
+-- the pass over a line, with any classes
+unfoldable pub passedBy : (classes : ℕ → ℕ) → List ℕ → States → Line → Passed
+passedBy classes bytes states l = passOf (machine classes bytes states) (rest fresh l 0) fresh l
+
+-- and with those of the class table
 unfoldable pub passed : List ℕ → States → Line → Passed
-passed bytes states l = passOf (machine bytes states) (rest fresh l 0) fresh l
+passed bytes states l = passedBy (classOf bytes states) bytes states l

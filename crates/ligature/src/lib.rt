@@ -16,6 +16,7 @@ ghost use mathlib.Core.List.{[]};
 ghost use Prim.Native.Nat.{_+_, _<_, _≤_};
 ghost use lib.ListN.{length};
 ghost use Rattle.answers.specs.Refuse.{refuse};
+ghost use Rattle.state_tables.specs.Classes.{classOf};
 ghost use Rattle.line.specs.Line.{lineOf};
 ghost use Rattle.ligature.specs.Ligature.{stackOf, fresh, ligationsOf, storedIn, turnOf, acts, overflows, pushed, entered, next, passed};
 ghost use Rattle.machine.specs.Pass.{advanceOf};
@@ -297,11 +298,11 @@ fn next(
     ends: bool,
 ) -> Reached
     requires { ⌜ (depth ≤ 32) × (used ≤ length (now glyphs)) × (used ≤ length (now tags)) ⌝ }
-    ensures reached { λ r. ⌜ r ≡ reached (next (now (bytes .entry)) states state (stackOf (now (places .entry)) (now (stack .entry)) depth) index glyph ends) ⌝ }
-    ensures places { λ _. ⌜ now (places .exit) ≡ next (now (bytes .entry)) states state (stackOf (now (places .entry)) (now (stack .entry)) depth) index glyph ends .stack .places ⌝ }
-    ensures stack { λ _. ⌜ now (stack .exit) ≡ next (now (bytes .entry)) states state (stackOf (now (places .entry)) (now (stack .entry)) depth) index glyph ends .stack .glyphs ⌝ }
-    ensures glyphs { λ _. ⌜ now (glyphs .exit) ≡ ligated (next (now (bytes .entry)) states state (stackOf (now (places .entry)) (now (stack .entry)) depth) index glyph ends .made) (lineOf (now (glyphs .entry)) (now (tags .entry)) (now (homes .entry)) used) .glyphs ⌝ }
-    ensures homes { λ _. ⌜ now (homes .exit) ≡ ligated (next (now (bytes .entry)) states state (stackOf (now (places .entry)) (now (stack .entry)) depth) index glyph ends .made) (lineOf (now (glyphs .entry)) (now (tags .entry)) (now (homes .entry)) used) .homes ⌝ }
+    ensures reached { λ r. ⌜ r ≡ reached (next (classOf (now (bytes .entry)) states) (now (bytes .entry)) states state (stackOf (now (places .entry)) (now (stack .entry)) depth) index glyph ends) ⌝ }
+    ensures places { λ _. ⌜ now (places .exit) ≡ next (classOf (now (bytes .entry)) states) (now (bytes .entry)) states state (stackOf (now (places .entry)) (now (stack .entry)) depth) index glyph ends .stack .places ⌝ }
+    ensures stack { λ _. ⌜ now (stack .exit) ≡ next (classOf (now (bytes .entry)) states) (now (bytes .entry)) states state (stackOf (now (places .entry)) (now (stack .entry)) depth) index glyph ends .stack .glyphs ⌝ }
+    ensures glyphs { λ _. ⌜ now (glyphs .exit) ≡ ligated (next (classOf (now (bytes .entry)) states) (now (bytes .entry)) states state (stackOf (now (places .entry)) (now (stack .entry)) depth) index glyph ends .made) (lineOf (now (glyphs .entry)) (now (tags .entry)) (now (homes .entry)) used) .glyphs ⌝ }
+    ensures homes { λ _. ⌜ now (homes .exit) ≡ ligated (next (classOf (now (bytes .entry)) states) (now (bytes .entry)) states state (stackOf (now (places .entry)) (now (stack .entry)) depth) index glyph ends .made) (lineOf (now (glyphs .entry)) (now (tags .entry)) (now (homes .entry)) used) .homes ⌝ }
     ensures depth { λ r. ⌜ r .depth ≤ 32 ⌝ }
 {
     let class = machine::class_at(bytes, states, glyph, ends);

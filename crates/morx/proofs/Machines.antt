@@ -16,6 +16,7 @@ use Rattle.parse.specs.declared.ReadPart.the-variants as Part
 use Rattle.parse.specs.declared.ReadU32.{ReadU32}
 use Rattle.parse.specs.declared.ReadU32.the-variants as U32
 use Rattle.parse.proofs.Laws.{part-short, part-inside, inside-fits, readU32-got}
+use Rattle.state_tables.specs.Classes.{classOf}
 use Rattle.state_tables.specs.declared.States.{States}
 use Rattle.state_tables.specs.declared.Made.{Made}
 use Rattle.line.specs.Line.{Line, lineOf, Valid}
@@ -160,14 +161,15 @@ module _ {X : Type 0} (part : Line → X) (kept : (at glyph : ℕ) (parts : List
   kept-ligations (m ∷ made) =
       kept-more part (Change.ligature (m .at) (m .glyph) (m .parts)) (L.changesOf made) (kept (m .at) (m .glyph) (m .parts)) (kept-ligations made)
 
-  pub ligature-step : (bytes : List ℕ) (states : States) (s : LigatureState) (k : Line) (i g : ℕ) (e : Bool) → Kept part (L.machine bytes states s k i g e .changes)
+  pub ligature-step : (classes : ℕ → ℕ) (bytes : List ℕ) (states : States) (s : LigatureState) (k : Line) (i g : ℕ) (e : Bool) → Kept part (L.machine classes bytes states s k i g e .changes)
   unfolding L.machine
-  ligature-step bytes states s k i g e = kept-ligations (L.next bytes states (s .state) (L.stackIn s) i g e .made)
+  ligature-step classes bytes states s k i g e = kept-ligations (L.next classes bytes states (s .state) (L.stackIn s) i g e .made)
 
   pub kept-ligature : (bytes : List ℕ) (l : Line) → Kept part (LC.worked bytes l .changes)
-  unfolding LC.worked L.passed
+  unfolding LC.worked L.passed L.passedBy
   kept-ligature bytes l =
-      kept-machine part (LC.opened bytes) (L.machine (bodyOf bytes)) (L.rest L.fresh l 0) L.fresh l (ligature-step (bodyOf bytes))
+      kept-machine part (LC.opened bytes) (λ states. L.machine (classOf (bodyOf bytes) states) (bodyOf bytes) states) (L.rest L.fresh l 0) L.fresh l
+      (λ states. ligature-step (classOf (bodyOf bytes) states) (bodyOf bytes) states)
 
 -- insertions leave the homes
 pub insertion-homes : (at : ℕ) (new : List ℕ) (l : Line) → apply (Change.insertion at new) l .homes ≡ l .homes

@@ -11,6 +11,7 @@ use Rattle.answers.specs.declared.Check.the-variants as Check′
 use Rattle.line.specs.Line.{Line, lineOf}
 use Rattle.line.specs.Changes.{Change, apply, applyAll}
 use Rattle.line.specs.Entries.{verbTests, verbMakes, madeBy, verbChanges, verbCall}
+use Rattle.state_tables.specs.Classes.{classOf}
 use Rattle.state_tables.specs.declared.States.{States}
 use Rattle.state_tables.specs.declared.Made.{Made}
 use Rattle.state_tables.specs.declared.Made.the-variants as Made′
@@ -105,8 +106,8 @@ module _ {X : Type 0} (part : Line → X) (l : Line) where
     ligature-step-keeps c =
         kept-stepped part (refuse (LC.stepTests (length (c .table)) l (c .index) (c .state) (LC.opened (drop (c .start) (c .table)))))
         (LC.opened (drop (c .start) (c .table))) (c .state)
-        (λ states. L.machine (bodyOf (drop (c .start) (c .table))) states (c .state) l (c .index) (c .glyph) (c .ends))
-        (λ states. ligature-step part ligatures (bodyOf (drop (c .start) (c .table))) states (c .state) l (c .index) (c .glyph) (c .ends)) l
+        (λ states. L.machine (classOf (bodyOf (drop (c .start) (c .table))) states) (bodyOf (drop (c .start) (c .table))) states (c .state) l (c .index) (c .glyph) (c .ends))
+        (λ states. ligature-step part ligatures (classOf (bodyOf (drop (c .start) (c .table))) states) (bodyOf (drop (c .start) (c .table))) states (c .state) l (c .index) (c .glyph) (c .ends)) l
 
   insertion-keeps : ((at : ℕ) (new : List ℕ) (k : Line) → part (apply (Change.insertion at new) k) ≡ part k) → (table : List ℕ) (start : ℕ)
       → part (I.callLeaves table start l) ≡ part l

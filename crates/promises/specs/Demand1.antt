@@ -51,8 +51,9 @@ pub record Demand1 : Type 0 where
   pub contextual-turns : (classes : ℕ → ℕ) (bytes : List ℕ) (states : States) (l : Line) (more : ℕ)
       → passFrom (Contextual.machine classes bytes states) (more + Contextual.rest Contextual.fresh l 0) Contextual.fresh l 0
       ≡ Contextual.passedBy classes bytes states l
-  pub ligature-turns : (bytes : List ℕ) (states : States) (l : Line) (more : ℕ)
-      → passFrom (Ligature.machine bytes states) (more + Ligature.rest Ligature.fresh l 0) Ligature.fresh l 0 ≡ Ligature.passed bytes states l
+  pub ligature-turns : (classes : ℕ → ℕ) (bytes : List ℕ) (states : States) (l : Line) (more : ℕ)
+      → passFrom (Ligature.machine classes bytes states) (more + Ligature.rest Ligature.fresh l 0) Ligature.fresh l 0
+      ≡ Ligature.passedBy classes bytes states l
   pub insertion-turns : (bytes : List ℕ) (states : States) (l : Line) (more : ℕ) → Valid l
       → passFrom (Insertion.machine bytes states) (more + Insertion.rest Insertion.fresh l 0) Insertion.fresh l 0 ≡ Insertion.passed bytes states l
   pub kerning-turns : (bytes : List ℕ) (kerning : Kerning) (glyphs : List ℕ) (used more : ℕ)

@@ -2,6 +2,7 @@ use Prim.Native.Nat.{_-_}
 use native.Mathlib.Omega.{arith}
 use borrow.Author.Needs.{needs}
 use Rattle.state_tables.proofs.Laws.{entry-payload}
+use Rattle.state_tables.specs.Classes.{classOf}
 use Rattle.line.specs.Line.{lineOf}
 use Rattle.ligature.specs.Ligature.{stackOf, next}
 use Rattle.ligature.proofs.Running.{Running, running-start, running-none, running-ended, running-stops, running-spent, running-goes, running-over}
@@ -10,7 +11,7 @@ use Rattle.ligature.proofs.next.Tie as tie
 
 abbrev Inv-loop : tie.InvT-loop
 Inv-loop bytes states state places₀ stack₀ depth glyphs₀ tags homes₀ used index glyph ends class at₀ deep₀ cycles₀ places stack glyphs homes at deep cycles =
-    Running bytes states index glyph class used tags (lineOf glyphs₀ tags homes₀ used) (next bytes states state (stackOf places₀ stack₀ depth) index glyph ends) places stack glyphs homes at deep cycles
+    Running bytes states index glyph class used tags (lineOf glyphs₀ tags homes₀ used) (next (classOf bytes states) bytes states state (stackOf places₀ stack₀ depth) index glyph ends) places stack glyphs homes at deep cycles
 
 abbrev μ-loop : tie.MeasureT-loop
 μ-loop bytes states state places₀ stack₀ depth glyphs₀ tags homes₀ used index glyph ends class at₀ deep₀ cycles₀ places stack glyphs homes at deep cycles = 18 - cycles
