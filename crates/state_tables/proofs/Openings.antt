@@ -162,6 +162,12 @@ classes-lie bytes (Classic place first count) =
     go true e = omega arith
     go false e = omega (arith, ltb-false (length bytes - place) count e)
 
+-- the class in an array of words
+pub words-class : (bytes : List ℕ) (opened : Classes) (base first count glyph : ℕ) → opened ≡ Words base first count
+    → wordClass bytes base first count glyph ≡ classBy bytes opened glyph
+unfolding classBy
+words-class bytes opened base first count glyph e = rw e
+
 -- a deleted glyph's class is 2 in every class table
 pub deleted-class : (bytes : List ℕ) (opened : Classes) → classBy bytes opened 65535 ≡ 2
 unfolding classBy wordClass byteClassIn
