@@ -33,13 +33,8 @@ use Rattle.ligature.specs.Work.{stepOf, passedLeaves, workLeaves}
 use Rattle.ligature.specs.declared.LigatureState.{LigatureState}
 use Rattle.ligature.specs.declared.LigatureStep.{LigatureStep}
 use Rattle.ligature.specs.declared.Reached.{Reached}
-use Rattle.ligature.proofs.Passes.{standing, Reaches, reaches-state, reaches-line, reaches-answer}
-
--- an answer, glyphs and homes that are what a pass gives
-pub record Ends (whole : Passed) (l : Line) (answer : Answer) (glyphs homes : List ℕ) : Type 0 where
-  pub answers : answer ≡ whole .answer
-  pub left : glyphs ≡ applyAll (whole .changes) l .glyphs
-  pub joined : homes ≡ applyAll (whole .changes) l .homes
+use Rattle.ligature.proofs.Runs.{standing, Reaches, reaches-state, reaches-line, reaches-answer}
+use Rattle.ligature.proofs.Passes.{Ends}
 
 ends-at : {whole : Passed} (some : Passed) {l : Line} {answer : Answer} {glyphs homes : List ℕ} → whole ≡ some → Ends some l answer glyphs homes
     → Ends whole l answer glyphs homes

@@ -5,6 +5,7 @@ mod Acting
 mod Entering
 mod Running
 mod Scanning
+mod Runs
 mod Passes
 mod Calls
 pub mod Manual

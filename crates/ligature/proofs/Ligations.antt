@@ -1,6 +1,6 @@
 -- Ligatures made on the line, one after the other, and by one action.
 use Prim.Native.Nat.{ℕ, _+_, _-_}
-use mathlib.Core.Path.{_≡_, refl, _∙_, sym, ap₂, subst⁻¹}
+use mathlib.Core.Path.{_≡_, refl, _∙_, sym, ap, ap₂, subst⁻¹}
 use mathlib.Core.Bool.{Bool}
 use mathlib.Core.List.{List, [], _∷_, _++_}
 use native.Mathlib.Nat.{zero-add}
@@ -34,6 +34,9 @@ pub ligated-line : {glyphs′ homes′ : List ℕ} (made : List Ligation) (glyph
     → lineOf glyphs′ tags homes′ used ≡ ligated made (lineOf glyphs tags homes used)
 ligated-line made glyphs tags homes used g h =
     ap₂ (λ (x y : List ℕ). lineOf x tags y used) g h ∙ sym (ligated-is made (lineOf glyphs tags homes used))
+
+pub used-kept : (made : List Ligation) (l : Line) → ligated made l .used ≡ l .used
+used-kept made l = ap (λ (x : Line). x .used) (ligated-is made l)
 
 -- nothing is inserted
 pub quiet-ligations : (made : List Ligation) → Quiet (changesOf made)

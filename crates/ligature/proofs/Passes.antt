@@ -1,137 +1,179 @@
--- The pass's loop: the shared laws of passes at this machine.
-use Prim.Native.Nat.{ℕ, _+_, _<_, _≤_}
-use mathlib.Core.Path.{_≡_, refl, sym, _∙_, ap, ap₂, subst, subst⁻¹}
-use mathlib.Core.Bool.{true, false}
-use mathlib.Core.List.{List}
+-- A run of one step is the step, and one from the first place on is the pass.
+use Prim.Native.Nat.{ℕ, zero, suc, _+_, _-_, _<_, _≤_}
+use mathlib.Core.Path.{_≡_, refl, sym, _∙_, ap, ap₂, subst}
+use mathlib.Core.Bool.{Bool, true, false, not}
+use mathlib.Core.List.{List, [], _∷_, _++_, append-nil, append-assoc}
 use native.Mathlib.Omega.{arith}
-use lib.ListN.{length, getD}
+use lib.Dec.{ltb, leb, eqb}
+use lib.ListN.{getD}
+use borrow.Author.Tests.{ltb-true, ltb-false, lt-ltb, le-ltb, le-leb, lt-leb, eq-eqb, ne-eqb}
 use Rattle.answers.specs.declared.Answer.{Answer}
-use Rattle.state_tables.specs.declared.States.{States}
+use Rattle.answers.specs.declared.Answer.the-variants as Answer′
 use Rattle.state_tables.specs.Classes.{classOf}
-use Rattle.line.specs.Line.{Line, lineOf}
-use Rattle.machine.specs.Pass.{deleted, isDone}
-use Rattle.machine.proofs.Passing.{Passing, Over, passing-start, passing-step, passing-stop, passing-end}
-use Rattle.ligature.specs.Ligature.{stackOf, fresh, Ran, next, stateOf, machine, rest, passedBy, passed}
-use Rattle.ligature.specs.Work.{ligated, reached, passedLeaves}
-use Rattle.machine.specs.Pass.{advanceOf}
+use Rattle.state_tables.specs.declared.States.{States}
+use Rattle.line.specs.Line.{Line}
+use Rattle.line.specs.Changes.{Change, applyAll}
+use Rattle.machine.specs.Pass.{Passed, after, deleted, isDone, advanceOf, passFrom}
+use Rattle.machine.proofs.Passing.{turn-goes, turn-stops, turn-ends}
+use Rattle.ligature.specs.Ligature.{Stack, stackIn, fresh, Ligation, changesOf, Ran, next, stateOf, machine, rest, passedBy, passed}
+use Rattle.ligature.specs.Work.{ligated, glyphAt, isLast, runFrom, run}
 use Rattle.ligature.specs.declared.LigatureState.{LigatureState}
 use Rattle.ligature.specs.declared.Reached.{Reached}
-use Rattle.ligature.proofs.Ligations.{ligated-line}
+use Rattle.ligature.proofs.Ligations.{used-kept}
+use Rattle.ligature.proofs.Runs.{Reaches, last-step, more-steps}
 
--- a step that is DONE advances by one
-advances : (answer : Answer) → isDone answer ≡ true → advanceOf answer ≡ 1
-advances answer e = rw e
+-- the lone step
+module _ (bytes : List ℕ) (states : States) (state : ℕ) (stack : Stack) (l : Line) (index glyph : ℕ) (ends : Bool) where
+  run-once : run bytes states true state stack l index glyph ends ≡ next (classOf bytes states) bytes states state stack index glyph ends
+  unfolding run runFrom isLast
+  run-once = refl
 
--- the state of lent arrays and numbers
-abbrev pub standing : (state : ℕ) → (places stack : List ℕ) → (depth : ℕ) → LigatureState
-standing state places stack depth = record { state = state; places = places; glyphs = stack; depth = depth }
+  pub step-reaches : {r : Reached} {places glyphs′ stack′ homes′ : List ℕ} → Reaches l (run bytes states true state stack l index glyph ends) r places stack′ glyphs′ homes′
+      → Reaches l (next (classOf bytes states) bytes states state stack index glyph ends) r places stack′ glyphs′ homes′
+  step-reaches {r} {places} {glyphs′} {stack′} {homes′} s = subst (λ (n : Ran). Reaches l n r places stack′ glyphs′ homes′) run-once s
 
--- what a step on a line leaves
-pub record Reaches (l : Line) (n : Ran) (r : Reached) (places stack glyphs homes : List ℕ) : Type 0 where
-  pub answers : r ≡ reached n
-  pub placed : places ≡ n .stack .places
-  pub stored : stack ≡ n .stack .glyphs
-  pub written : glyphs ≡ ligated (n .made) l .glyphs
-  pub joined : homes ≡ ligated (n .made) l .homes
+-- ligatures as changes, in two parts
+changes-append : (xs ys : List Ligation) → changesOf (xs ++ ys) ≡ changesOf xs ++ changesOf ys
+unfolding changesOf
+changes-append [] ys = refl
+changes-append (x ∷ xs) ys = ap (λ (cs : List Change). Change.ligature (x .at) (x .glyph) (x .parts) ∷ cs) (changes-append xs ys)
 
-module _ {glyphs tags homes : List ℕ} {used : ℕ} {n : Ran} {r : Reached} {places′ stack′ glyphs′ homes′ : List ℕ}
-    (s : Reaches (lineOf glyphs tags homes used) n r places′ stack′ glyphs′ homes′) where
-  pub reaches-state : standing (r .state) places′ stack′ (r .depth) ≡ stateOf n
-  reaches-state =
-      ap₂ (λ (x y : List ℕ). standing (r .state) x y (r .depth)) (s .placed) (s .stored)
-      ∙ ap (λ (q : Reached). standing (q .state) (n .stack .places) (n .stack .glyphs) (q .depth)) (s .answers)
+-- the glyph at a place
+module _ (glyphs : List ℕ) (used place : ℕ) where
+  glyph-inside : place < used → glyphAt glyphs used place ≡ getD glyphs place 0
+  unfolding glyphAt
+  glyph-inside h = rw (lt-ltb place used h)
 
-  pub reaches-line : lineOf glyphs′ tags homes′ used ≡ ligated (n .made) (lineOf glyphs tags homes used)
-  reaches-line = ligated-line (n .made) glyphs tags homes used (s .written) (s .joined)
+  glyph-past : used ≤ place → glyphAt glyphs used place ≡ deleted
+  unfolding glyphAt
+  glyph-past h = rw (le-ltb place used h)
 
-  pub reaches-answer : n .answer ≡ r .answer
-  reaches-answer = ap (λ (q : Reached). q .answer) (sym (s .answers))
+-- a line without places begins with the end call
+none-used : (used : ℕ) → eqb used 0 ≡ leb used 0
+none-used zero = eq-eqb 0 0 refl ∙ sym (le-leb 0 0 (omega arith))
+none-used (suc used) = ne-eqb (suc used) 0 (λ e. omega (arith, e)) ∙ sym (lt-leb (suc used) 0 (omega arith))
 
-module _ (bytes : List ℕ) (states : States) (l₀ : Line) where
-  -- what the loop knows at place i
-  pub record Going (tags : List ℕ) (used : ℕ) (places stack glyphs homes : List ℕ) (state depth i : ℕ) : Type 0 where
-    pub passing : Passing (machine (classOf bytes states) bytes states) rest l₀ (passed bytes states l₀) (standing state places stack depth) (lineOf glyphs tags homes used) i
-    pub within : i ≤ used
-    pub deep : depth ≤ 32
-    pub long : length glyphs ≡ length (l₀ .glyphs)
-    pub all : length homes ≡ length (l₀ .homes)
+-- the steps of a run as those of a pass
+module _ (classes : ℕ → ℕ) (bytes : List ℕ) (states : States) where
+  abbrev asPass : Ran → Passed
+  asPass r = record { answer = r .answer; changes = changesOf (r .made) }
 
-  -- what a pass that ends here answers and leaves
-  pub record Ends (answer : Answer) (glyphs homes : List ℕ) : Type 0 where
-    pub answers : answer ≡ passed bytes states l₀ .answer
-    pub left : glyphs ≡ passedLeaves bytes states l₀ .glyphs
-    pub joined : homes ≡ passedLeaves bytes states l₀ .homes
+  abbrev steps : (turns : ℕ) → LigatureState → Line → (place glyph : ℕ) → (ends : Bool) → List Ligation → Ran
+  steps turns s l = runFrom classes bytes states false turns (s .state) (stackIn s) l
 
-  module _ {tags : List ℕ} {used : ℕ} {places stack glyphs homes : List ℕ} {state depth i : ℕ}
-      (g : Going tags used places stack glyphs homes state depth i) where
-    some : 0 < rest (standing state places stack depth) (lineOf glyphs tags homes used) i
-    some = omega arith
+  abbrev here : LigatureState → (place glyph : ℕ) → (ends : Bool) → Ran
+  here s place glyph ends = next classes bytes states (s .state) (stackIn s) place glyph ends
 
-    ends : {answer : Answer} {glyphs′ homes′ : List ℕ} (n : Ran)
-        → Over (machine (classOf bytes states) bytes states) rest l₀ (passed bytes states l₀) answer (ligated (n .made) (lineOf glyphs tags homes used))
-        → lineOf glyphs′ tags homes′ used ≡ ligated (n .made) (lineOf glyphs tags homes used) → Ends answer glyphs′ homes′
-    unfolding passedLeaves
-    ends n o p =
-        record {
-          answers = o .answers;
-          left = ap (λ (l : Line). l .glyphs) (p ∙ o .leaves);
-          joined = ap (λ (l : Line). l .homes) (p ∙ o .leaves);
-        }
+  module _ (turns : ℕ) (s : LigatureState) (l : Line) (i : ℕ) (made : List Ligation) where
+    ended : (glyph : ℕ) (ends : Bool) → isLast (here s i glyph ends .answer) false (l .used) i ≡ true
+        → asPass (steps (suc turns) s l i glyph ends made) ≡ after (changesOf made) (asPass (here s i glyph ends))
+    ended glyph ends e =
+        ap asPass (last-step classes bytes states false turns (s .state) (stackIn s) l i glyph ends made e)
+        ∙ ap (λ (cs : List Change). record { answer = here s i glyph ends .answer; changes = cs }) (changes-append made (here s i glyph ends .made))
 
-    module _ {r : Reached} {places′ stack′ glyphs′ homes′ : List ℕ} where
-      -- the step at a place
-      module _ (h : i < used)
-          (s : Reaches (lineOf glyphs tags homes used) (next (classOf bytes states) bytes states state (stackOf places stack depth) i (getD glyphs i 0) false) r places′ stack′ glyphs′ homes′) where
-        abbrev here : Ran
-        here = next (classOf bytes states) bytes states state (stackOf places stack depth) i (getD glyphs i 0) false
+    -- the end call
+    at-end : l .used ≡ i → asPass (steps (suc turns) s l i deleted true made) ≡ after (changesOf made) (passFrom (machine classes bytes states) (suc turns) s l i)
+    unfolding machine isLast
+    at-end e =
+        ended deleted true (rw (le-leb (l .used) i (omega (arith, e))))
+        ∙ ap (λ (k : ℕ). after (changesOf made) (asPass (here s k deleted true))) (sym e)
+        ∙ ap (after (changesOf made)) (sym (turn-ends (machine classes bytes states) turns s l i (omega (arith, e))))
 
-        pub going-step : isDone (r .answer) ≡ true → r .depth ≤ 32 → length glyphs′ ≡ length glyphs → length homes′ ≡ length homes
-            → Going tags used places′ stack′ glyphs′ homes′ (r .state) (r .depth) (i + 1)
-        unfolding machine
-        going-step done deep lg lh =
-            let done′ : isDone (here .answer) ≡ true = ap isDone (reaches-answer s) ∙ done in
-            let a = advances (here .answer) done′ in
-            let used-same : ligated (here .made) (lineOf glyphs tags homes used) .used ≡ used = ap (λ (l : Line). l .used) (sym (reaches-line s)) in
-            record {
-              passing =
-                  subst⁻¹ (λ (x : LigatureState). Passing (machine (classOf bytes states) bytes states) rest l₀ (passed bytes states l₀) x (lineOf glyphs′ tags homes′ used) (i + 1)) (reaches-state s)
-                  (subst⁻¹ (λ (l : Line). Passing (machine (classOf bytes states) bytes states) rest l₀ (passed bytes states l₀) (stateOf here) l (i + 1)) (reaches-line s)
-                  (subst (λ (k : ℕ). Passing (machine (classOf bytes states) bytes states) rest l₀ (passed bytes states l₀) (stateOf here) (ligated (here .made) (lineOf glyphs tags homes used)) (i + k)) a
-                  (passing-step (machine (classOf bytes states) bytes states) rest l₀ (passed bytes states l₀) (g .passing) some h done′ (omega (arith, used-same, a)))));
-              within = omega arith;
-              deep = deep;
-              long = lg ∙ g .long;
-              all = lh ∙ g .all;
-            }
+    module _ (h : i < l .used) where
+      abbrev step : Ran
+      step = here s i (getD (l .glyphs) i 0) false
 
-        pub going-stop : isDone (r .answer) ≡ false → Ends (r .answer) glyphs′ homes′
-        unfolding machine
-        going-stop done =
-            subst (λ (x : Answer). Ends x glyphs′ homes′) (reaches-answer s)
-            (ends here
-            (passing-stop (machine (classOf bytes states) bytes states) rest l₀ (passed bytes states l₀) (g .passing) some h (ap isDone (reaches-answer s) ∙ done))
-            (reaches-line s))
+      -- a step that is not DONE
+      at-stop : isDone (step .answer) ≡ false
+          → asPass (steps (suc turns) s l i (getD (l .glyphs) i 0) false made) ≡ after (changesOf made) (passFrom (machine classes bytes states) (suc turns) s l i)
+      unfolding machine isLast
+      at-stop d =
+          ended (getD (l .glyphs) i 0) false (rw (lt-leb (l .used) i h, d))
+          ∙ ap (after (changesOf made)) (sym (turn-stops (machine classes bytes states) turns s l i h d))
 
-      -- the end call
-      pub going-end : used ≤ i
-          → Reaches (lineOf glyphs tags homes used) (next (classOf bytes states) bytes states state (stackOf places stack depth) used deleted true) r places′ stack′ glyphs′ homes′
-          → Ends (r .answer) glyphs′ homes′
-      unfolding machine
-      going-end h s =
-          subst (λ (x : Answer). Ends x glyphs′ homes′) (reaches-answer s)
-          (ends (next (classOf bytes states) bytes states state (stackOf places stack depth) used deleted true)
-          (passing-end (machine (classOf bytes states) bytes states) rest l₀ (passed bytes states l₀) (g .passing) some h)
-          (reaches-line s))
+      -- any other, with what the rest gives
+      at-step : isDone (step .answer) ≡ true
+          → asPass (steps turns (stateOf step) (ligated (step .made) l) (i + 1) (glyphAt (ligated (step .made) l .glyphs) (ligated (step .made) l .used) (i + 1))
+          (leb (ligated (step .made) l .used) (i + 1)) (made ++ step .made))
+          ≡ after (changesOf (made ++ step .made)) (passFrom (machine classes bytes states) turns (stateOf step) (ligated (step .made) l) (i + 1))
+          → asPass (steps (suc turns) s l i (getD (l .glyphs) i 0) false made) ≡ after (changesOf made) (passFrom (machine classes bytes states) (suc turns) s l i)
+      unfolding machine isLast
+      at-step d later =
+          ap asPass (more-steps classes bytes states false turns (s .state) (stackIn s) l i (getD (l .glyphs) i 0) false made (rw (lt-leb (l .used) i h, d)))
+          ∙ later
+          ∙ ap (λ (cs : List Change). record { answer = whole .answer; changes = cs ++ whole .changes }) (changes-append made (step .made))
+          ∙ ap (λ (cs : List Change). record { answer = whole .answer; changes = cs }) (append-assoc (changesOf made) (changesOf (step .made)) (whole .changes))
+          ∙ ap (λ (k : ℕ). after (changesOf made) (after (changesOf (step .made)) (passFrom (machine classes bytes states) turns (stateOf step) (ligated (step .made) l) (i + k)))) (sym one)
+          ∙ ap (after (changesOf made)) (sym (turn-goes (machine classes bytes states) turns s l i h d))
+        where
+          whole : Passed
+          whole = passFrom (machine classes bytes states) turns (stateOf step) (ligated (step .made) l) (i + 1)
 
-pub going-start : (bytes : List ℕ) (states : States) (glyphs tags homes : List ℕ) (used : ℕ) (s : LigatureState) → s ≡ fresh
-    → Going bytes states (lineOf glyphs tags homes used) tags used (s .places) (s .glyphs) glyphs homes (s .state) (s .depth) 0
-unfolding passed passedBy
-going-start bytes states glyphs tags homes used s e =
-    subst⁻¹ (λ (x : LigatureState). Going bytes states (lineOf glyphs tags homes used) tags used (x .places) (x .glyphs) glyphs homes (x .state) (x .depth) 0) e
-    (record {
-      passing = passing-start (machine (classOf bytes states) bytes states) rest _ fresh (lineOf glyphs tags homes used) (omega arith);
-      within = omega arith;
-      deep = omega arith;
-      long = refl;
-      all = refl;
-    })
+          one : advanceOf (step .answer) ≡ 1
+          one = rw d
+
+  abbrev Alike : (turns : ℕ) → LigatureState → Line → (i : ℕ) → List Ligation → Type 0
+  Alike turns s l i made =
+      asPass (steps turns s l i (glyphAt (l .glyphs) (l .used) i) (leb (l .used) i) made)
+      ≡ after (changesOf made) (passFrom (machine classes bytes states) turns s l i)
+
+  none-left : (s : LigatureState) (l : Line) (i : ℕ) (made : List Ligation) → Alike zero s l i made
+  unfolding runFrom passFrom
+  none-left s l i made = ap (λ (cs : List Change). record { answer = Answer′.Done; changes = cs }) (sym (append-nil (changesOf made)))
+
+  run-passes : (turns : ℕ) (s : LigatureState) (l : Line) (i : ℕ) (made : List Ligation) → i ≤ l .used → Alike turns s l i made
+  run-passes zero s l i made h = none-left s l i made
+  run-passes (suc turns) s l i made h = place (λ t k made′ g. run-passes turns t k (i + 1) made′ g) (ltb i (l .used)) refl
+    where
+      begins : {glyph : ℕ} {ends : Bool} → glyphAt (l .glyphs) (l .used) i ≡ glyph → leb (l .used) i ≡ ends
+          → asPass (steps (suc turns) s l i glyph ends made) ≡ after (changesOf made) (passFrom (machine classes bytes states) (suc turns) s l i)
+          → Alike (suc turns) s l i made
+      begins g e same = ap₂ (λ (x : ℕ) (y : Bool). asPass (steps (suc turns) s l i x y made)) g e ∙ same
+
+      place : ((t : LigatureState) (k : Line) (made′ : List Ligation) → i + 1 ≤ k .used → Alike turns t k (i + 1) made′)
+          → (b : Bool) → ltb i (l .used) ≡ b → Alike (suc turns) s l i made
+      place later false e =
+          let p = ltb-false i (l .used) e in
+          begins (glyph-past (l .glyphs) (l .used) i p) (le-leb (l .used) i p) (at-end turns s l i made (omega (arith, p, h)))
+      place later true e = begins (glyph-inside (l .glyphs) (l .used) i p) (lt-leb (l .used) i p) (answered (isDone (step turns s l i made p .answer)) refl)
+        where
+          p : i < l .used
+          p = ltb-true i (l .used) e
+
+          answered : (d : Bool) → isDone (step turns s l i made p .answer) ≡ d
+              → asPass (steps (suc turns) s l i (getD (l .glyphs) i 0) false made) ≡ after (changesOf made) (passFrom (machine classes bytes states) (suc turns) s l i)
+          answered false d = at-stop turns s l i made p d
+          answered true d =
+              let r : Ran = step turns s l i made p in
+              at-step turns s l i made p d (later (stateOf r) (ligated (r .made) l) (made ++ r .made) (omega (arith, used-kept (r .made) l, p)))
+
+-- an answer, glyphs and homes that are what a pass gives
+pub record Ends (whole : Passed) (l : Line) (answer : Answer) (glyphs homes : List ℕ) : Type 0 where
+  pub answers : answer ≡ whole .answer
+  pub left : glyphs ≡ applyAll (whole .changes) l .glyphs
+  pub joined : homes ≡ applyAll (whole .changes) l .homes
+
+module _ (bytes : List ℕ) (states : States) (l : Line) where
+  from-fresh : LigatureState → (glyph : ℕ) → (ends : Bool) → Ran
+  from-fresh s glyph ends = run bytes states false (s .state) (stackIn s) l 0 glyph ends
+
+  whole-pass : asPass (classOf bytes states) bytes states (from-fresh fresh (glyphAt (l .glyphs) (l .used) 0) (leb (l .used) 0)) ≡ passed bytes states l
+  unfolding from-fresh run passed passedBy changesOf
+  whole-pass =
+      let n : suc (l .used - 0) ≡ rest fresh l 0 = omega arith in
+      run-passes (classOf bytes states) bytes states (suc (l .used - 0)) fresh l 0 [] (omega arith)
+      ∙ ap (λ (turns : ℕ). passFrom (machine (classOf bytes states) bytes states) turns fresh l 0) n
+
+  pub pass-ends : {s : LigatureState} {glyph : ℕ} {r : Reached} {places stack glyphs′ homes′ : List ℕ} → s ≡ fresh → glyph ≡ glyphAt (l .glyphs) (l .used) 0
+      → Reaches l (run bytes states false (s .state) (stackIn s) l 0 glyph (eqb (l .used) 0)) r places stack glyphs′ homes′ → Ends (passed bytes states l) l (r .answer) glyphs′ homes′
+  unfolding from-fresh
+  pass-ends {s} {glyph} {r} f g reaches =
+      let same : from-fresh s glyph (eqb (l .used) 0) ≡ from-fresh fresh (glyphAt (l .glyphs) (l .used) 0) (leb (l .used) 0) =
+      ap₂ (λ (t : LigatureState) (x : ℕ). from-fresh t x (eqb (l .used) 0)) f g
+      ∙ ap (from-fresh fresh (glyphAt (l .glyphs) (l .used) 0)) (none-used (l .used)) in
+      let w = ap (asPass (classOf bytes states) bytes states) same ∙ whole-pass in
+      record {
+        answers = ap (λ (x : Reached). x .answer) (reaches .answers) ∙ ap (λ (p : Passed). p .answer) w;
+        left = reaches .written ∙ ap (λ (p : Passed). applyAll (p .changes) l .glyphs) w;
+        joined = reaches .joined ∙ ap (λ (p : Passed). applyAll (p .changes) l .homes) w;
+      }

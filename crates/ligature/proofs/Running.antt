@@ -17,9 +17,7 @@ use Rattle.state_tables.specs.declared.entries.Entered.the-variants as Entered�
 use Rattle.state_tables.specs.Entries.{entryOf, onEntry}
 use Rattle.line.specs.Line.{Line, lineOf}
 use Rattle.laws.specs.Bits.{isSet}
-use Rattle.state_tables.specs.Classes.{classOf}
-use Rattle.machine.specs.Entry.{classHere}
-use Rattle.ligature.specs.Ligature.{Stack, stackOf, Ligation, Work, entered, Ran, over, ran, next}
+use Rattle.ligature.specs.Ligature.{Stack, stackOf, Ligation, Work, entered, Ran, over, ran}
 use Rattle.ligature.specs.Work.{ligated, reached}
 use Rattle.ligature.specs.declared.Did.{Did}
 use Rattle.ligature.specs.declared.Reached.{Reached}
@@ -190,19 +188,18 @@ module _ (bytes : List ℕ) (states : States) (index glyph class used : ℕ) (ta
       → 17 < cycles → A
   running-over g h = absurd (omega (arith, g .spent, h))
 
-module _ (bytes : List ℕ) (states : States) (state : ℕ) (places stack : List ℕ) (depth : ℕ) (glyphs tags homes : List ℕ) (used index glyph : ℕ) (ends : Bool) where
-  pub running-start : {class : ℕ} → class ≡ classHere (classOf bytes states) glyph ends → depth ≤ 32
+module _ (bytes : List ℕ) (states : States) (class state : ℕ) (places stack : List ℕ) (depth : ℕ) (glyphs tags homes : List ℕ) (used index glyph : ℕ) where
+  pub running-start : depth ≤ 32
       → Running bytes states index glyph class used tags (lineOf glyphs tags homes used)
-      (next (classOf bytes states) bytes states state (stackOf places stack depth) index glyph ends) places stack glyphs homes state depth 0
-  unfolding next
-  running-start {class} e h =
+      (ran bytes states index glyph class 18 state (stackOf places stack depth) 0 []) places stack glyphs homes state depth 0
+  running-start h =
       record {
         turns = 18;
         enough = omega arith;
         spent = omega arith;
         within = h;
         done = [];
-        same = ap (λ (k : ℕ). ran bytes states index glyph k 18 state (stackOf places stack depth) 0 []) e;
+        same = refl;
         made = sym (ligated-none (lineOf glyphs tags homes used));
         long = refl;
         all = refl;

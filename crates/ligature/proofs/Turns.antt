@@ -1,6 +1,6 @@
 -- More turns than a pass counts with change nothing.
 use Prim.Native.Nat.{ℕ, _+_, _≤_}
-use mathlib.Core.Path.{_≡_, refl, sym, ap}
+use mathlib.Core.Path.{_≡_}
 use mathlib.Core.Bool.{true, false}
 use mathlib.Core.List.{List}
 use native.Mathlib.Omega.{arith}
@@ -10,10 +10,9 @@ use Rattle.state_tables.specs.declared.States.{States}
 use Rattle.line.specs.Line.{Line}
 use Rattle.machine.specs.Pass.{isDone, advanceOf, passFrom}
 use Rattle.machine.proofs.Turns.{Counts, enough-turns}
-use Rattle.ligature.specs.Ligature.{Ligation, stackIn, fresh, next, machine, rest, passedBy}
-use Rattle.ligature.specs.Work.{ligated}
+use Rattle.ligature.specs.Ligature.{stackIn, fresh, next, machine, rest, passedBy}
 use Rattle.ligature.specs.declared.LigatureState.{LigatureState}
-use Rattle.ligature.proofs.Ligations.{ligated-line}
+use Rattle.ligature.proofs.Ligations.{used-kept}
 
 -- any state will do
 abbrev Sound : LigatureState → Line → ℕ → Type 0
@@ -21,9 +20,6 @@ Sound s l i = 0 ≤ 0
 
 advances : (answer : Answer) → isDone answer ≡ true → advanceOf answer ≡ 1
 advances answer e = rw e
-
-used-kept : (made : List Ligation) (l : Line) → ligated made l .used ≡ l .used
-used-kept made l = ap (λ (x : Line). x .used) (sym (ligated-line made (l .glyphs) (l .tags) (l .homes) (l .used) refl refl))
 
 counts : (classes : ℕ → ℕ) (bytes : List ℕ) (states : States) → Counts (machine classes bytes states) Sound rest
 unfolding machine

@@ -1,14 +1,21 @@
 -- For the code alone; no entry and no promise rests on it, and nobody has to believe it. What the parts of the code answer and leave: an action's
--- numbers, those of actions, of an entry and of a step, and a pass without its tests.
-use Prim.Native.Nat.{ℕ, _-_}
-use mathlib.Core.List.{List}
+-- numbers, those of actions, of an entry and of a step, a run of steps, and a pass without its tests.
+use Prim.Native.Nat.{ℕ, zero, suc, _+_, _-_}
+use mathlib.Core.Bool.{Bool, true, false, not}
+use mathlib.Core.List.{List, [], _++_}
+use lib.Dec.{leb}
 use lib.IntN.{ℤ, pos, negsuc}
+use lib.ListN.{getD}
 use Rattle.laws.specs.Choose.{ifLt}
+use Rattle.laws.specs.Lists.{either}
+use Rattle.answers.specs.declared.Answer.{Answer}
+use Rattle.answers.specs.declared.Answer.the-variants as Answer′
+use Rattle.state_tables.specs.Classes.{classOf}
 use Rattle.state_tables.specs.declared.States.{States}
 use Rattle.line.specs.Line.{Line}
 use Rattle.line.specs.Changes.{applyAll}
-use Rattle.machine.specs.Pass.{Stepped}
-use Rattle.ligature.specs.Ligature.{Ligation, changesOf, Acts, Work, Ran, passed}
+use Rattle.machine.specs.Pass.{Stepped, deleted, isDone}
+use Rattle.ligature.specs.Ligature.{Ligation, Stack, changesOf, Acts, Work, Ran, over, next, passed}
 use Rattle.ligature.specs.Calls.{worked}
 use Rattle.ligature.specs.declared.actions.Action.{Action}
 use Rattle.ligature.specs.declared.actions.Action.the-variants.{Ended, Adds, Makes}
@@ -40,6 +47,32 @@ didWork w = record { ended = w .ended; depth = w .stack .depth; cycles = w .cycl
 
 abbrev pub reached : Ran → Reached
 reached r = record { answer = r .answer; state = r .state; depth = r .stack .depth }
+
+-- the glyph at a place, behind the last that of the end call
+unfoldable pub glyphAt : List ℕ → (used place : ℕ) → ℕ
+glyphAt glyphs used place = ifLt place used (getD glyphs place 0) deleted
+
+-- a step is the last of a run: the only one, the end call, or one that is not DONE
+unfoldable pub isLast : Answer → (once : Bool) → (used place : ℕ) → Bool
+isLast answer once used place = either once (either (leb used place) (not (isDone answer)))
+
+module _ (classes : ℕ → ℕ) (bytes : List ℕ) (states : States) (once : Bool) where
+  -- the steps from a place on, with some ligatures made
+  unfoldable pub runFrom : (turns state : ℕ) → Stack → Line → (place glyph : ℕ) → (ends : Bool) → List Ligation → Ran
+  runFrom zero state stack l place glyph ends made = over Answer′.Done state stack made
+  runFrom (suc turns) state stack l place glyph ends made =
+      let n : Ran = next classes bytes states state stack place glyph ends in
+      let k : Line = ligated (n .made) l in
+      elim (isLast (n .answer) once (l .used) place) [
+        | true ↦ over (n .answer) (n .state) (n .stack) (made ++ n .made)
+        | false ↦
+            runFrom turns (n .state) (n .stack) k (place + 1) (glyphAt (k .glyphs) (k .used) (place + 1)) (leb (k .used) (place + 1)) (made ++ n .made)
+      ]
+
+-- the pass and the lone step
+unfoldable pub run : List ℕ → States → (once : Bool) → (state : ℕ) → Stack → Line → (place glyph : ℕ) → (ends : Bool) → Ran
+run bytes states once state stack l place glyph ends =
+    runFrom (classOf bytes states) bytes states once (suc (l .used - place)) state stack l place glyph ends []
 
 -- what a step hands back
 abbrev pub stepOf : Stepped LigatureState → LigatureStep

@@ -10,18 +10,21 @@ use state_tables::States;
 use state_tables::entries;
 use state_tables::entries::Entered;
 use state_tables::entries::Entry;
+use state_tables::opened;
+use state_tables::opened::Classes;
 ghost use mathlib.Core.Path.{_≡_};
 ghost use mathlib.Core.Bool.{false};
 ghost use mathlib.Core.List.{[]};
 ghost use Prim.Native.Nat.{_+_, _<_, _≤_};
 ghost use lib.ListN.{length};
 ghost use Rattle.answers.specs.Refuse.{refuse};
-ghost use Rattle.state_tables.specs.Classes.{classOf};
+ghost use Rattle.state_tables.specs.Opened.{classBy, LiesIn, Remembers};
 ghost use Rattle.line.specs.Line.{lineOf};
-ghost use Rattle.ligature.specs.Ligature.{stackOf, fresh, ligationsOf, storedIn, turnOf, acts, overflows, pushed, entered, next, passed};
+ghost use Rattle.ligature.specs.Ligature.{stackOf, fresh, ligationsOf, storedIn, turnOf, acts, overflows, pushed, entered, ran, passed};
+ghost use Rattle.machine.specs.Entry.{classHere};
 ghost use Rattle.machine.specs.Pass.{advanceOf};
 ghost use Rattle.ligature.specs.Calls.{opened, worked, passCall, callLeaves, areInside, stepTests, stepCall, stepLeaves};
-ghost use Rattle.ligature.specs.Work.{ligated, didActs, didWork, reached, stepOf, passedLeaves, workLeaves};
+ghost use Rattle.ligature.specs.Work.{ligated, didActs, didWork, reached, glyphAt, isLast, run, stepOf, passedLeaves, workLeaves};
 
 // The state of a pass: the state table's state, and the stack, a place and a glyph for each slot, of which the first `depth` are used.
 pub struct LigatureState {
@@ -280,11 +283,12 @@ fn enter(
     )
 }
 
-// The crate's `next`, over the bytes from the state table on, with the stack in lent arrays. Entries and their actions share one
-// cycle count.
+// The crate's `next` behind the class, over the bytes from the state table on, with the stack in lent arrays. Entries and their actions
+// share one cycle count.
 fn next(
     bytes: &[u8],
     states: States,
+    class: u16,
     state: u16,
     places: &mut [usize; 32],
     stack: &mut [u16; 32],
@@ -295,17 +299,15 @@ fn next(
     used: usize,
     index: usize,
     glyph: u16,
-    ends: bool,
 ) -> Reached
     requires { ⌜ (depth ≤ 32) × (used ≤ length (now glyphs)) × (used ≤ length (now tags)) ⌝ }
-    ensures reached { λ r. ⌜ r ≡ reached (next (classOf (now (bytes .entry)) states) (now (bytes .entry)) states state (stackOf (now (places .entry)) (now (stack .entry)) depth) index glyph ends) ⌝ }
-    ensures places { λ _. ⌜ now (places .exit) ≡ next (classOf (now (bytes .entry)) states) (now (bytes .entry)) states state (stackOf (now (places .entry)) (now (stack .entry)) depth) index glyph ends .stack .places ⌝ }
-    ensures stack { λ _. ⌜ now (stack .exit) ≡ next (classOf (now (bytes .entry)) states) (now (bytes .entry)) states state (stackOf (now (places .entry)) (now (stack .entry)) depth) index glyph ends .stack .glyphs ⌝ }
-    ensures glyphs { λ _. ⌜ now (glyphs .exit) ≡ ligated (next (classOf (now (bytes .entry)) states) (now (bytes .entry)) states state (stackOf (now (places .entry)) (now (stack .entry)) depth) index glyph ends .made) (lineOf (now (glyphs .entry)) (now (tags .entry)) (now (homes .entry)) used) .glyphs ⌝ }
-    ensures homes { λ _. ⌜ now (homes .exit) ≡ ligated (next (classOf (now (bytes .entry)) states) (now (bytes .entry)) states state (stackOf (now (places .entry)) (now (stack .entry)) depth) index glyph ends .made) (lineOf (now (glyphs .entry)) (now (tags .entry)) (now (homes .entry)) used) .homes ⌝ }
+    ensures reached { λ r. ⌜ r ≡ reached (ran (now (bytes .entry)) states index glyph class 18 state (stackOf (now (places .entry)) (now (stack .entry)) depth) 0 []) ⌝ }
+    ensures places { λ _. ⌜ now (places .exit) ≡ ran (now (bytes .entry)) states index glyph class 18 state (stackOf (now (places .entry)) (now (stack .entry)) depth) 0 [] .stack .places ⌝ }
+    ensures stack { λ _. ⌜ now (stack .exit) ≡ ran (now (bytes .entry)) states index glyph class 18 state (stackOf (now (places .entry)) (now (stack .entry)) depth) 0 [] .stack .glyphs ⌝ }
+    ensures glyphs { λ _. ⌜ now (glyphs .exit) ≡ ligated (ran (now (bytes .entry)) states index glyph class 18 state (stackOf (now (places .entry)) (now (stack .entry)) depth) 0 [] .made) (lineOf (now (glyphs .entry)) (now (tags .entry)) (now (homes .entry)) used) .glyphs ⌝ }
+    ensures homes { λ _. ⌜ now (homes .exit) ≡ ligated (ran (now (bytes .entry)) states index glyph class 18 state (stackOf (now (places .entry)) (now (stack .entry)) depth) 0 [] .made) (lineOf (now (glyphs .entry)) (now (tags .entry)) (now (homes .entry)) used) .homes ⌝ }
     ensures depth { λ r. ⌜ r .depth ≤ 32 ⌝ }
 {
-    let class = machine::class_at(bytes, states, glyph, ends);
     let mut at = state;
     let mut deep = depth;
     let mut cycles = 0;
@@ -360,6 +362,106 @@ fn next(
         answer: Answer::Done,
         state: at,
         depth: deep,
+    }
+}
+
+// The class of the end of text is 0, that of a place its glyph's.
+fn class_now(bytes: &[u8], opened: Classes, memo: &mut [u32; 64], glyph: u16, ends: bool) -> u16
+    requires { ⌜ LiesIn (now bytes) opened × Remembers (classBy (now bytes) opened) (now memo) ⌝ }
+    ensures class { λ r. ⌜ r ≡ classHere (classBy (now (bytes .entry)) opened) glyph ends ⌝ }
+    ensures memo { λ _. ⌜ Remembers (classBy (now (bytes .entry)) opened) (now (memo .exit)) ⌝ }
+{
+    if ends {
+        return 0;
+    }
+    let Classes::Words { base, first, count } = opened else {
+        return opened::remembered(bytes, opened, memo, glyph);
+    };
+    opened::class_in_words(bytes, base, first, count, glyph)
+}
+
+// The glyph at a place, END behind the last.
+fn glyph_at(glyphs: &[u16], used: usize, place: usize) -> u16
+    requires { ⌜ used ≤ length (now glyphs) ⌝ }
+    ensures { λ r. ⌜ r ≡ glyphAt (now (glyphs .entry)) used place ⌝ }
+{
+    if place < used {
+        return glyphs[place];
+    }
+    LigatureState::END
+}
+
+// Whether a step is the last of a run: the only one, the end call, or one that is not DONE.
+fn is_last(answer: Answer, once: bool, used: usize, place: usize) -> bool
+    ensures { λ r. ⌜ r ≡ isLast answer once used place ⌝ }
+{
+    if once {
+        return true;
+    }
+    if used <= place {
+        return true;
+    }
+    !machine::is_done(answer)
+}
+
+// The steps from a place on, up to the end call; `once`, the first of them alone. The pass and the lone step share this loop, so that `next`
+// has one caller and is compiled into it.
+fn run(
+    bytes: &[u8],
+    states: States,
+    begun: u16,
+    places: &mut [usize; 32],
+    stack: &mut [u16; 32],
+    deep: usize,
+    glyphs: &mut [u16],
+    tags: &[u16],
+    homes: &mut [u16],
+    used: usize,
+    index: usize,
+    first: u16,
+    over: bool,
+    once: bool,
+) -> Reached
+    requires { ⌜ (deep ≤ 32) × (used ≤ length (now glyphs)) × (used ≤ length (now tags)) ⌝ }
+    ensures reached { λ r. ⌜ r ≡ reached (run (now (bytes .entry)) states once begun (stackOf (now (places .entry)) (now (stack .entry)) deep) (lineOf (now (glyphs .entry)) (now (tags .entry)) (now (homes .entry)) used) index first over) ⌝ }
+    ensures places { λ _. ⌜ now (places .exit) ≡ run (now (bytes .entry)) states once begun (stackOf (now (places .entry)) (now (stack .entry)) deep) (lineOf (now (glyphs .entry)) (now (tags .entry)) (now (homes .entry)) used) index first over .stack .places ⌝ }
+    ensures stack { λ _. ⌜ now (stack .exit) ≡ run (now (bytes .entry)) states once begun (stackOf (now (places .entry)) (now (stack .entry)) deep) (lineOf (now (glyphs .entry)) (now (tags .entry)) (now (homes .entry)) used) index first over .stack .glyphs ⌝ }
+    ensures glyphs { λ _. ⌜ now (glyphs .exit) ≡ ligated (run (now (bytes .entry)) states once begun (stackOf (now (places .entry)) (now (stack .entry)) deep) (lineOf (now (glyphs .entry)) (now (tags .entry)) (now (homes .entry)) used) index first over .made) (lineOf (now (glyphs .entry)) (now (tags .entry)) (now (homes .entry)) used) .glyphs ⌝ }
+    ensures homes { λ _. ⌜ now (homes .exit) ≡ ligated (run (now (bytes .entry)) states once begun (stackOf (now (places .entry)) (now (stack .entry)) deep) (lineOf (now (glyphs .entry)) (now (tags .entry)) (now (homes .entry)) used) index first over .made) (lineOf (now (glyphs .entry)) (now (tags .entry)) (now (homes .entry)) used) .homes ⌝ }
+{
+    let opened = opened::open(bytes, states);
+    let mut memo = opened::nothing_found();
+    let mut state = begun;
+    let mut depth = deep;
+    let mut place = index;
+    let mut glyph = first;
+    let mut ends = over;
+    loop {
+        let class = class_now(bytes, opened, &mut memo, glyph, ends);
+        let reached = next(
+            bytes,
+            states,
+            class,
+            state,
+            places,
+            stack,
+            depth,
+            glyphs,
+            tags,
+            homes,
+            used,
+            place,
+            glyph,
+        );
+        let answer = reached.answer;
+        if is_last(answer, once, used, place) {
+            return reached;
+        }
+        state = reached.state;
+        depth = reached.depth;
+        place += 1;
+        glyph = glyph_at(glyphs, used, place);
+        ends = used <= place;
     }
 }
 
@@ -483,7 +585,7 @@ impl LigatureState {
         };
         let mut places = self.places;
         let mut stack = self.glyphs;
-        let reached = next(
+        let reached = run(
             parse::from(bytes, 12),
             states,
             self.state,
@@ -497,6 +599,7 @@ impl LigatureState {
             index,
             glyph,
             ends,
+            true,
         );
         let answer = reached.answer;
         LigatureStep {
@@ -564,48 +667,21 @@ fn pass_line(
     let fresh = LigatureState::new();
     let mut places = fresh.places;
     let mut stack = fresh.glyphs;
-    let mut state = fresh.state;
-    let mut depth = fresh.depth;
-    let mut place = 0;
-    while place < used {
-        let glyph = glyphs[place];
-        let reached = next(
-            bytes,
-            states,
-            state,
-            &mut places,
-            &mut stack,
-            depth,
-            glyphs,
-            tags,
-            homes,
-            used,
-            place,
-            glyph,
-            false,
-        );
-        let answer = reached.answer;
-        if !machine::is_done(answer) {
-            return answer;
-        }
-        state = reached.state;
-        depth = reached.depth;
-        place += 1;
-    }
-    let reached = next(
+    let reached = run(
         bytes,
         states,
-        state,
+        fresh.state,
         &mut places,
         &mut stack,
-        depth,
+        fresh.depth,
         glyphs,
         tags,
         homes,
         used,
-        used,
-        LigatureState::END,
-        true,
+        0,
+        glyph_at(glyphs, used, 0),
+        used == 0,
+        false,
     );
     reached.answer
 }

@@ -1,23 +1,20 @@
 use Prim.Native.Nat.{_-_}
+use mathlib.Core.List.{[]}
 use native.Mathlib.Omega.{arith}
 use borrow.Author.Needs.{needs}
 use Rattle.state_tables.proofs.Laws.{entry-payload}
-use Rattle.state_tables.specs.Classes.{classOf}
 use Rattle.line.specs.Line.{lineOf}
-use Rattle.ligature.specs.Ligature.{stackOf, next}
+use Rattle.ligature.specs.Ligature.{stackOf, ran}
 use Rattle.ligature.proofs.Running.{Running, running-start, running-none, running-ended, running-stops, running-spent, running-goes, running-over}
 use Rattle.ligature.proofs.next.Statement.{statement}
 use Rattle.ligature.proofs.next.Tie as tie
 
 abbrev Inv-loop : tie.InvT-loop
-Inv-loop bytes states state places₀ stack₀ depth glyphs₀ tags homes₀ used index glyph ends class at₀ deep₀ cycles₀ places stack glyphs homes at deep cycles =
-    Running bytes states index glyph class used tags (lineOf glyphs₀ tags homes₀ used) (next (classOf bytes states) bytes states state (stackOf places₀ stack₀ depth) index glyph ends) places stack glyphs homes at deep cycles
+Inv-loop bytes states class state places₀ stack₀ depth glyphs₀ tags homes₀ used index glyph at₀ deep₀ cycles₀ places stack glyphs homes at deep cycles =
+    Running bytes states index glyph class used tags (lineOf glyphs₀ tags homes₀ used) (ran bytes states index glyph class 18 state (stackOf places₀ stack₀ depth) 0 []) places stack glyphs homes at deep cycles
 
 abbrev μ-loop : tie.MeasureT-loop
-μ-loop bytes states state places₀ stack₀ depth glyphs₀ tags homes₀ used index glyph ends class at₀ deep₀ cycles₀ places stack glyphs homes at deep cycles = 18 - cycles
-
-class-at-requires : tie.Need-class-at-requires Inv-loop μ-loop
-class-at-requires c κs = search needs
+μ-loop bytes states class state places₀ stack₀ depth glyphs₀ tags homes₀ used index glyph at₀ deep₀ cycles₀ places stack glyphs homes at deep cycles = 18 - cycles
 
 loop-holds : tie.Need-loop-holds Inv-loop μ-loop
 loop-holds c = search running-start
@@ -136,7 +133,6 @@ next-spec =
     (tie.spec
     Inv-loop
     μ-loop
-    class-at-requires
     loop-holds
     add-loop
     entry-of-requires

@@ -1,4 +1,5 @@
 use Rattle.ligature.proofs.Calls.{step-fits, step-refused, step-headless, step-worked}
+use Rattle.ligature.proofs.Passes.{step-reaches}
 use borrow.Author.Needs.{needs}
 use Rattle.ligature.proofs.LigatureState.step.Statement.{statement}
 use Rattle.ligature.proofs.LigatureState.step.Tie as tie
@@ -57,8 +58,8 @@ returns-2 c =
 from-requires-2 : tie.Need-from-requires-2
 from-requires-2 c κs = search needs
 
-next-requires : tie.Need-next-requires
-next-requires c κs =
+run-requires : tie.Need-run-requires
+run-requires c κs =
     let at-enum-told = c .before .before .before .before .before .before .before .before .before .before in
     let at-refuse-step = at-enum-told .before .before in
     step-fits _ _ _ _ _ _ _ _ (at-refuse-step .refuse-step .ensures) (at-enum-told .enum-told .given .1)
@@ -74,14 +75,14 @@ same-length-6 c = search needs
 
 returns-3 : tie.Need-returns-3
 returns-3 c =
-    let at-next = c .before .before .before .before .before in
-    let at-from2 = at-next .before .before .before .before .before in
+    let at-run = c .before .before .before .before .before in
+    let at-from2 = at-run .before .before .before .before .before in
     let at-made = at-from2 .before .before .before .before in
     let at-enum-told = at-made .before .before in
     let at-refuse-step = at-enum-told .before .before in
     let at-open = at-refuse-step .before .before .before in
     let at-from = at-open .before in
-    let e = step-worked _ _ _ _ _ _ _ _ _ _ (at-from .from .ensures) (at-open .«open» .ensures) (at-refuse-step .refuse-step .ensures) (at-enum-told .enum-told .given .1) (at-made .made .given .1) (at-from2 .from2 .ensures) (record { answers = at-next .next .ensures .0; placed = at-next .next .ensures .1 .0; stored = at-next .next .ensures .1 .1 .0; written = at-next .next .ensures .1 .1 .1 .0; joined = at-next .next .ensures .1 .1 .1 .1 .0 }) (c .advance-of .ensures) in
+    let e = step-worked _ _ _ _ _ _ _ _ _ _ (at-from .from .ensures) (at-open .«open» .ensures) (at-refuse-step .refuse-step .ensures) (at-enum-told .enum-told .given .1) (at-made .made .given .1) (at-from2 .from2 .ensures) (step-reaches _ _ _ _ _ _ _ _ (record { answers = at-run .run .ensures .0; placed = at-run .run .ensures .1 .0; stored = at-run .run .ensures .1 .1 .0; written = at-run .run .ensures .1 .1 .1 .0; joined = at-run .run .ensures .1 .1 .1 .1 })) (c .advance-of .ensures) in
     (e .answers, (e .left, e .joined))
 
 pub step-spec : {M : Type 1} → statement M
@@ -102,7 +103,7 @@ step-spec =
     same-length-4
     returns-2
     from-requires-2
-    next-requires
+    run-requires
     advance-of-requires
     same-length-5
     same-length-6
