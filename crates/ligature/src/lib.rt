@@ -29,8 +29,8 @@ ghost use Rattle.ligature.specs.Work.{ligated, didActs, didWork, reached
 // The state of a pass: the state table's state, and the stack, a place and a glyph for each slot, of which the first `depth` are used.
 pub struct LigatureState {
     pub state: u16,
-    pub places: [usize; 32],
-    pub glyphs: [u16; 32],
+    pub places: [usize; LigatureState::DEPTH],
+    pub glyphs: [u16; LigatureState::DEPTH],
     pub depth: usize,
 }
 
@@ -89,8 +89,8 @@ fn turn_of(action: Action, slot: usize) -> Turn
 // stack.
 fn make(
     action: Action,
-    places: &[usize; 32],
-    stack: &mut [u16; 32],
+    places: &[usize; LigatureState::DEPTH],
+    stack: &mut [u16; LigatureState::DEPTH],
     glyphs: &mut [u16],
     tags: &[u16],
     homes: &mut [u16],
@@ -123,8 +123,8 @@ fn make(
 // The actions from number `first` on, from the top of the stack down. One that ends the step leaves the depth as it was.
 fn act(
     bytes: &[u8],
-    places: &[usize; 32],
-    stack: &mut [u16; 32],
+    places: &[usize; LigatureState::DEPTH],
+    stack: &mut [u16; LigatureState::DEPTH],
     glyphs: &mut [u16],
     tags: &[u16],
     homes: &mut [u16],
@@ -208,8 +208,8 @@ fn overflows(sets: bool, depth: usize) -> bool
 
 // Pushes the step's place and glyph where the entry says so. Returns the depth afterwards.
 fn push(
-    places: &mut [usize; 32],
-    stack: &mut [u16; 32],
+    places: &mut [usize; LigatureState::DEPTH],
+    stack: &mut [u16; LigatureState::DEPTH],
     depth: usize,
     sets: bool,
     index: usize,
@@ -233,8 +233,8 @@ fn push(
 fn enter(
     bytes: &[u8],
     entry: Entry,
-    places: &mut [usize; 32],
-    stack: &mut [u16; 32],
+    places: &mut [usize; LigatureState::DEPTH],
+    stack: &mut [u16; LigatureState::DEPTH],
     depth: usize,
     glyphs: &mut [u16],
     tags: &[u16],
@@ -290,8 +290,8 @@ fn next(
     states: States,
     class: u16,
     state: u16,
-    places: &mut [usize; 32],
-    stack: &mut [u16; 32],
+    places: &mut [usize; LigatureState::DEPTH],
+    stack: &mut [u16; LigatureState::DEPTH],
     depth: usize,
     glyphs: &mut [u16],
     tags: &[u16],
@@ -410,8 +410,8 @@ fn run(
     bytes: &[u8],
     states: States,
     begun: u16,
-    places: &mut [usize; 32],
-    stack: &mut [u16; 32],
+    places: &mut [usize; LigatureState::DEPTH],
+    stack: &mut [u16; LigatureState::DEPTH],
     deep: usize,
     glyphs: &mut [u16],
     tags: &[u16],
@@ -501,8 +501,8 @@ impl LigatureState {
     {
         LigatureState {
             state: 0,
-            places: [0; 32],
-            glyphs: [0; 32],
+            places: [0; LigatureState::DEPTH],
+            glyphs: [0; LigatureState::DEPTH],
             depth: 0,
         }
     }
@@ -616,7 +616,7 @@ impl LigatureState {
 }
 
 // Whether the places of the used slots are at most the used length.
-fn inside(places: &[usize; 32], depth: usize, used: usize) -> bool
+fn inside(places: &[usize; LigatureState::DEPTH], depth: usize, used: usize) -> bool
     requires { ⌜ depth ≤ 32 ⌝ }
     ensures { λ r. ⌜ r ≡ areInside (now (places .entry)) depth used ⌝ }
 {
