@@ -103,6 +103,9 @@ pub fn insert(glyphs: &mut [u16], tags: &mut [u16], used: usize, at: usize, new:
     ensures used { λ r. ⌜ r ≡ used + length (now (new .entry)) / 2 ⌝ }
 {
     let count = new.len() / 2;
+    if count == 0 {
+        return used;
+    }
     let place = least(at, used);
     raise(glyphs, place, used, count);
     put(glyphs, place, new);

@@ -1,10 +1,15 @@
-use borrow.Author.Needs.{needs}
 use native.Mathlib.Omega.{arith}
 use Rattle.line.proofs.Room.{room-small}
 use Rattle.line.proofs.Once.{length-numbersFrom}
 use Rattle.line.proofs.Loops.{length-glyphsOf, filled}
+use Rattle.line.proofs.Returns.{opened-none}
+use borrow.Author.Needs.{needs}
 use Rattle.line.proofs.edits.insert.Statement.{statement}
 use Rattle.line.proofs.edits.insert.Tie as tie
+
+returns : tie.Need-returns
+returns c =
+    (opened-none _ _ _ _ (length-glyphsOf _) (c .if1 .taken) (omega arith), (opened-none _ _ _ _ (length-numbersFrom _ _) (c .if1 .taken) (omega arith), search needs))
 
 least-requires : tie.Need-least-requires
 least-requires c κs = search needs
@@ -30,13 +35,14 @@ same-length c = search needs
 same-length-2 : tie.Need-same-length-2
 same-length-2 c = search needs
 
-returns : tie.Need-returns
-returns c = (search (filled, length-glyphsOf), (search (filled, length-numbersFrom, arith), search needs))
+returns-2 : tie.Need-returns-2
+returns-2 c = (search (filled, length-glyphsOf), (search (filled, length-numbersFrom, arith), search needs))
 
 pub insert-spec : {M : Type 1} → statement M
 insert-spec =
     tie.close
     (tie.spec
+    returns
     least-requires
     raise-requires
     put-requires
@@ -45,4 +51,4 @@ insert-spec =
     add-result
     same-length
     same-length-2
-    returns)
+    returns-2)
