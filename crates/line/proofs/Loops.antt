@@ -1,18 +1,20 @@
 -- The loops of the edits: what each turn leaves, and what is reached at the end.
-use Prim.Native.Nat.{ℕ, suc, _+_, _-_, _*_, _/_, _<_, _≤_, min}
-use mathlib.Core.Path.{_≡_, refl, _∙_, sym, ap}
+use Prim.Native.Nat.{ℕ, zero, suc, _+_, _-_, _*_, _/_, _<_, _≤_, min}
+use mathlib.Core.Path.{_≡_, refl, _∙_, sym, ap, ap₂}
 use mathlib.Core.List.{List, [], _∷_, _++_, append-nil, append-assoc}
 use mathlib.Core.Logic.{⊎-elim}
-use native.Mathlib.Nat.{zero-add}
+use native.Mathlib.Nat.{zero-add, suc-add}
 use native.Mathlib.Numerals.{add-one}
 use native.Mathlib.Omega.{arith}
 use lib.ListN.{length, getD, take, drop, set, length-append, length-set, drop-of-length-le, take-append-drop}
-use lib.Seq.{take-length, drop-length, take-suc, take-take, drop-cons, append-snoc, set-append-left, set-at, getD-set-same, getD-set-other, getD-take, getD-drop, ext-getD, take-append-le, drop-at, length-take-le, paste, paste-zero, paste-suc, slice, slice-empty, slice-cons}
+use lib.Seq.{take-nil, drop-nil, take-length, drop-length, take-suc, take-take, drop-cons, append-snoc, set-append-left, set-at, getD-set-same, getD-set-other, getD-take, getD-drop, ext-getD, take-append-le, drop-at, length-take-le, paste, paste-zero, paste-suc, slice, slice-empty, slice-cons}
+use borrow.Rule.Slice.PartMut.{midOf, putMid}
 use Rattle.laws.specs.Backward.{backward}
 use Rattle.laws.specs.Choose.{ifEq}
 use Rattle.laws.proofs.Backward.{length-backward, backward-inside, backward-outside}
 use Rattle.laws.proofs.Lists.{length-tab, getD-tab, getD-first, getD-behind}
 use Rattle.laws.proofs.Numbers.{lt-or-ge, eq-or-ne}
+use Rattle.laws.proofs.Parts.{part-is, part-put}
 use Rattle.parse.specs.Reads.{u16At}
 use Rattle.line.specs.Steps.{raised}
 use Rattle.line.specs.Changes.{numbersFrom, rehomed, spliced, emptied, handed, emptiedAll, handedAll, glyphsOf}
@@ -156,6 +158,31 @@ module _ (before : List ℕ) (used count : ℕ) (fits : used + count ≤ length 
   pub raising-done : {after : List ℕ} {at place : ℕ} → Raising before used count after place → at ≤ place → place ≤ at
       → after ≡ raised at used count before
   raising-done {after} {at} {place} r h k = let e : place ≡ at = omega arith in rw e at (r .same)
+
+-- the same in a part that begins at the place
+raised-behind : (at rest count : ℕ) (xs : List ℕ) → take at xs ++ raised 0 rest count (drop at xs) ≡ raised at (at + rest) count xs
+unfolding raised
+raised-behind zero rest count xs = rw (zero-add rest)
+raised-behind (suc at) rest count [] =
+    rw (
+      take-nil {A = ℕ} (0 + count),
+      take-nil {A = ℕ} (suc at + count),
+      take-nil {A = ℕ} rest,
+      take-nil {A = ℕ} (suc at + rest),
+      drop-nil {A = ℕ} (rest + count),
+      drop-nil {A = ℕ} (suc at + rest + count),
+    )
+raised-behind (suc at) rest count (x ∷ xs) =
+    rw (suc-add at rest, suc-add at count, suc-add (at + rest) count) (ap (λ (z : List ℕ). x ∷ z) (raised-behind at rest count xs))
+
+pub raised-part : (at used : ℕ) (xs : List ℕ) {count : ℕ} {part : List ℕ} → at ≤ used → count ≡ 1
+    → part ≡ raised 0 (used - at) 1 (midOf at (length xs - at) xs) → putMid at (length xs - at) xs part ≡ raised at used count xs
+raised-part at used xs {count} {part} h one e =
+    let all : at + (used - at) ≡ used = omega arith in
+    part-put at xs part
+    ∙ ap (λ (z : List ℕ). take at xs ++ z) (e ∙ ap (raised 0 (used - at) 1) (part-is at xs))
+    ∙ raised-behind at (used - at) 1 xs
+    ∙ ap₂ (λ (end n : ℕ). raised at end n xs) all (sym one)
 
 -- the gap filled: the insertion
 pub raised-filled : (at used : ℕ) (new xs : List ℕ) → at ≤ used → used + length new ≤ length xs

@@ -14,8 +14,8 @@ use Rattle.laws.proofs.Parts.{part-is, part-put}
 use Rattle.verbs.specs.Verbs.{fromOf, rearranged}
 use Rattle.verbs.proofs.Laws.{fromOf-outside}
 use Rattle.line.specs.Edits.{widthOf}
-use Rattle.line.specs.Changes.{windowed, opened, written, isPart, emptied, rehomed, handed, emptiedAll, handedAll, joinedGlyphs, joinedHomes}
-use Rattle.line.proofs.Slices.{beyond, beyond-before, beyond-from, length-windowed, getD-windowed, length-opened, opened-before, opened-moved, opened-rest}
+use Rattle.line.specs.Changes.{windowed, spliced, written, isPart, emptied, rehomed, handed, emptiedAll, handedAll, joinedGlyphs, joinedHomes}
+use Rattle.line.proofs.Slices.{beyond, beyond-before, beyond-from, length-windowed, getD-windowed, length-spliced, spliced-before, spliced-moved, spliced-rest}
 
 -- a glyph written
 module _ (used at glyph : ℕ) (glyphs : List ℕ) where
@@ -103,19 +103,19 @@ module _ (first last used verb : ℕ) (xs : List ℕ) {end : ℕ} (cut : end ≡
       ∙ ap (λ (z : List ℕ). take first xs ++ z) (e ∙ rw (part-is first xs, short, width-is))
 
 -- an insertion of nothing
-pub opened-none : (at used : ℕ) (new xs : List ℕ) {count : ℕ} → length new ≡ count → count ≡ 0 → used ≤ length xs → xs ≡ opened (min at used) used new xs
-opened-none at used new xs n none fits =
+pub spliced-none : (at used : ℕ) (new xs : List ℕ) {count : ℕ} → length new ≡ count → count ≡ 0 → used ≤ length xs → xs ≡ spliced (min at used) used new xs
+spliced-none at used new xs n none fits =
     let place : ℕ = min at used in
     let inside : place ≤ used = omega arith in
     let room : used + length new ≤ length xs = omega arith in
     sym
-    (ext-getD 0 (opened place used new xs) xs (length-opened place used new xs inside room)
+    (ext-getD 0 (spliced place used new xs) xs (length-spliced place used new xs inside room)
     (λ p h.
     ⊎-elim
-    (λ (k : p < place). opened-before place used new xs inside room p k)
+    (λ (k : p < place). spliced-before place used new xs inside room p k)
     (λ (k : place ≤ p).
     ⊎-elim
-    (λ (j : p < used). opened-moved place used new xs inside room p (omega arith) (omega arith) ∙ ap (λ (q : ℕ). getD xs q 0) (omega arith))
-    (λ (j : used ≤ p). opened-rest place used new xs inside room p (omega arith))
+    (λ (j : p < used). spliced-moved place used new xs inside room p (omega arith) (omega arith) ∙ ap (λ (q : ℕ). getD xs q 0) (omega arith))
+    (λ (j : used ≤ p). spliced-rest place used new xs inside room p (omega arith))
     (lt-or-ge p used))
     (lt-or-ge p place)))

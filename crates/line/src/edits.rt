@@ -57,11 +57,27 @@ pub fn reverse(glyphs: &mut [u16], tags: &mut [u16], used: usize)
     reverse_part(tags, used);
 }
 
+// The first ones move up one place. As the distance is fixed and they begin the slice, compilers make one move of memory of it.
+fn raise_one(part: &mut [u16], used: usize)
+    requires { ⌜ used < length (now part) ⌝ }
+    ensures { λ _. ⌜ now (part .exit) ≡ raised 0 used 1 (now (part .entry)) ⌝ }
+{
+    let mut place = used;
+    while 0 < place {
+        place -= 1;
+        part[place + 1] = part[place];
+    }
+}
+
 // What stands from `at` to the used length moves up `count` places.
 fn raise(part: &mut [u16], at: usize, used: usize, count: usize)
     requires { ⌜ (at ≤ used) × (used + count ≤ length (now part)) ⌝ }
     ensures { λ _. ⌜ now (part .exit) ≡ raised at used count (now (part .entry)) ⌝ }
 {
+    if count == 1 {
+        raise_one(&mut part[at..], used - at);
+        return;
+    }
     let mut place = used;
     while at < place {
         place -= 1;

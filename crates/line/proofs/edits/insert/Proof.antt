@@ -2,14 +2,14 @@ use native.Mathlib.Omega.{arith}
 use Rattle.line.proofs.Room.{room-small}
 use Rattle.line.proofs.Once.{length-numbersFrom}
 use Rattle.line.proofs.Loops.{length-glyphsOf, filled}
-use Rattle.line.proofs.Returns.{opened-none}
+use Rattle.line.proofs.Returns.{spliced-none}
 use borrow.Author.Needs.{needs}
 use Rattle.line.proofs.edits.insert.Statement.{statement}
 use Rattle.line.proofs.edits.insert.Tie as tie
 
 returns : tie.Need-returns
 returns c =
-    (opened-none _ _ _ _ (length-glyphsOf _) (c .if1 .taken) (omega arith), (opened-none _ _ _ _ (length-numbersFrom _ _) (c .if1 .taken) (omega arith), search needs))
+    (spliced-none _ _ _ _ (length-glyphsOf _) (c .if1 .taken) (omega arith), (spliced-none _ _ _ _ (length-numbersFrom _ _) (c .if1 .taken) (omega arith), search needs))
 
 least-requires : tie.Need-least-requires
 least-requires c κs = search needs
