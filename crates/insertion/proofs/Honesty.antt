@@ -7,6 +7,7 @@ use native.Mathlib.Omega.{arith}
 use lib.ListN.{length, drop}
 use Rattle.answers.specs.Refuse.{refuse}
 use Rattle.state_tables.specs.declared.States.{States}
+use Rattle.state_tables.specs.Classes.{classOf}
 use Rattle.line.specs.Line.{Line, Valid}
 use Rattle.line.specs.Edits.{added, inserted}
 use Rattle.line.specs.Changes.{editsOf, historyOf}
@@ -15,7 +16,7 @@ use Rattle.machine.specs.Head.{bodyOf}
 use Rattle.machine.specs.Call.{passTests}
 use Rattle.machine.proofs.Fitting.{inserted-both, fitting-pass, fitting-made, fitting-tested}
 use Rattle.insertion.specs.Lists.{countOf, changesOf}
-use Rattle.insertion.specs.Insertion.{fresh, rest, next, machine, passed}
+use Rattle.insertion.specs.Insertion.{fresh, rest, next, machine, passedBy, passed}
 use Rattle.insertion.specs.Calls.{opened, worked, passCall, callLeaves, PassCall}
 use Rattle.insertion.specs.declared.Inserted.{Inserted}
 use Rattle.insertion.specs.declared.Inserted.the-variants as Inserted′
@@ -30,11 +31,12 @@ unfolding historyOf editsOf inserted added
 inserted-edit bytes Inserted′.None = refl
 inserted-edit bytes (Inserted′.At place count glyphs) = omega (arith, length-glyphsAt bytes glyphs count)
 
-pub step-fits : (bytes : List ℕ) (states : States) (s : InsertionState) (l : Line) (i g : ℕ) (e : Bool) → Valid l → Fits (machine bytes states s l i g e .changes) l
+pub step-fits : (classes : ℕ → ℕ) (bytes : List ℕ) (states : States) (s : InsertionState) (l : Line) (i g : ℕ) (e : Bool) → Valid l
+    → Fits (machine classes bytes states s l i g e .changes) l
 unfolding machine
-step-fits bytes states s l i g e v =
-    let step : InsertionStep = next bytes states s (l .used) (length (l .glyphs)) i g e in
-    let f = next-fits bytes states s (l .used) (length (l .glyphs)) i g e (v .within) refl in
+step-fits classes bytes states s l i g e v =
+    let step : InsertionStep = next classes bytes states s (l .used) (length (l .glyphs)) i g e in
+    let f = next-fits classes bytes states s (l .used) (length (l .glyphs)) i g e (v .within) refl in
     omega (
       arith,
       f .within,
@@ -43,14 +45,14 @@ step-fits bytes states s l i g e v =
       inserted-edit bytes (step .current),
     )
 
-passed-fits : (bytes : List ℕ) (states : States) (l : Line) → Valid l → Fits (passed bytes states l .changes) l
-unfolding passed
-passed-fits bytes states l v = fitting-pass (machine bytes states) (step-fits bytes states) (rest fresh l 0) fresh l 0 v
+passed-fits : (classes : ℕ → ℕ) (bytes : List ℕ) (states : States) (l : Line) → Valid l → Fits (passedBy classes bytes states l .changes) l
+unfolding passedBy
+passed-fits classes bytes states l v = fitting-pass (machine classes bytes states) (step-fits classes bytes states) (rest fresh l 0) fresh l 0 v
 
 -- and one of a run
 pub worked-fits : (bytes : List ℕ) (l : Line) → Valid l → Fits (worked bytes l .changes) l
-unfolding worked
-worked-fits bytes l v = fitting-made l v _ (λ states. passed-fits (bodyOf bytes) states l v) (opened bytes)
+unfolding worked passed
+worked-fits bytes l v = fitting-made l v _ (λ states. passed-fits (classOf (bodyOf bytes) states) (bodyOf bytes) states l v) (opened bytes)
 
 call-fits : (table : List ℕ) (start : ℕ) (l : Line) → Valid l → Fits (passCall table start l .changes) l
 unfolding passCall

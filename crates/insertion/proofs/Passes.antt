@@ -7,12 +7,13 @@ use native.Mathlib.Omega.{arith}
 use lib.ListN.{length, getD}
 use Rattle.answers.specs.declared.Answer.{Answer}
 use Rattle.state_tables.specs.declared.States.{States}
+use Rattle.state_tables.specs.Classes.{classOf}
 use Rattle.line.specs.Line.{Line, lineOf}
 use Rattle.line.specs.Changes.{applyAll}
 use Rattle.machine.specs.Pass.{deleted, isDone}
 use Rattle.machine.proofs.Passing.{Passing, Over, passing-start, passing-step, passing-stop, passing-end}
 use Rattle.insertion.specs.Lists.{bothChanges}
-use Rattle.insertion.specs.Insertion.{fresh, next, machine, rest, passed}
+use Rattle.insertion.specs.Insertion.{fresh, next, machine, rest, passedBy, passed}
 use Rattle.insertion.specs.Work.{passedLeaves}
 use Rattle.insertion.specs.declared.InsertionState.{InsertionState}
 use Rattle.insertion.specs.declared.InsertionStep.{InsertionStep}
@@ -26,7 +27,7 @@ LeftBy bytes l step = Left (bothChanges bytes (step .marked) (step .current)) l
 module _ (bytes : List ℕ) (states : States) (l₀ : Line) where
   -- what the loop knows at place i
   pub record Going (glyphs tags homes : List ℕ) (used : ℕ) (s : InsertionState) (i : ℕ) : Type 0 where
-    pub passing : Passing (machine bytes states) rest l₀ (passed bytes states l₀) s (lineOf glyphs tags homes used) i
+    pub passing : Passing (machine (classOf bytes states) bytes states) rest l₀ (passed bytes states l₀) s (lineOf glyphs tags homes used) i
     pub cycles : s .cycles ≤ 17
     pub within : i ≤ used
     pub fits : used ≤ length glyphs
@@ -48,7 +49,7 @@ module _ (bytes : List ℕ) (states : States) (l₀ : Line) where
     some = omega (arith, g .cycles)
 
     ends : {answer : Answer} {glyphs′ tags′ : List ℕ} {used′ : ℕ} (step : InsertionStep)
-        → Over (machine bytes states) rest l₀ (passed bytes states l₀) answer (applyAll (bothChanges bytes (step .marked) (step .current)) here)
+        → Over (machine (classOf bytes states) bytes states) rest l₀ (passed bytes states l₀) answer (applyAll (bothChanges bytes (step .marked) (step .current)) here)
         → LeftBy bytes here step glyphs′ tags′ used′ → Ends answer glyphs′ tags′ used′
     unfolding passedLeaves
     ends step o p =
@@ -61,11 +62,11 @@ module _ (bytes : List ℕ) (states : States) (l₀ : Line) where
 
     -- the step at place i
     abbrev at : InsertionStep
-    at = next bytes states s used (length glyphs) i (getD glyphs i 0) false
+    at = next (classOf bytes states) bytes states s used (length glyphs) i (getD glyphs i 0) false
 
     at-advances : i < used → isDone (at .answer) ≡ true → Advances used (length glyphs) i s at
     at-advances h done =
-        shape-advances used (length glyphs) i h (g .fits) (next-shape bytes states s used (length glyphs) i (getD glyphs i 0) false (g .fits)) done
+        shape-advances used (length glyphs) i h (g .fits) (next-shape (classOf bytes states) bytes states s used (length glyphs) i (getD glyphs i 0) false (g .fits)) done
         (g .cycles)
 
     at-goes : {glyphs′ tags′ : List ℕ} {used′ : ℕ} → i < used → isDone (at .answer) ≡ true → LeftBy bytes here at glyphs′ tags′ used′
@@ -78,12 +79,12 @@ module _ (bytes : List ℕ) (states : States) (l₀ : Line) where
         let room : length (applyAll (bothChanges bytes (at .marked) (at .current)) here .glyphs) ≡ length glyphs = ap length (sym (p .glyphs-left)) ∙ lg in
         record {
           passing =
-              subst⁻¹ (λ (l : Line). Passing (machine bytes states) rest l₀ (passed bytes states l₀) (at .state) l (i + at .advance)) line
-              (passing-step (machine bytes states) rest l₀ (passed bytes states l₀) (g .passing) some h done
+              subst⁻¹ (λ (l : Line). Passing (machine (classOf bytes states) bytes states) rest l₀ (passed bytes states l₀) (at .state) l (i + at .advance)) line
+              (passing-step (machine (classOf bytes states) bytes states) rest l₀ (passed bytes states l₀) (g .passing) some h done
               (subst⁻¹ (λ (n : ℕ). (n - (i + at .advance)) * 18 + (18 - at .state .cycles) < rest s here i) room (a .less)));
           cycles = a .sound;
           within = omega (arith, a .within, grown);
-          fits = omega (arith, next-fits bytes states s used (length glyphs) i (getD glyphs i 0) false (g .fits) refl .within, grown, lg);
+          fits = omega (arith, next-fits (classOf bytes states) bytes states s used (length glyphs) i (getD glyphs i 0) false (g .fits) refl .within, grown, lg);
           long-glyphs = lg ∙ g .long-glyphs;
           long-tags = lt ∙ g .long-tags;
         }
@@ -91,7 +92,7 @@ module _ (bytes : List ℕ) (states : States) (l₀ : Line) where
     module _ {step : InsertionStep} where
       module _ (e : step ≡ at) where
         pub going-fits : Both bytes used (length glyphs) step
-        going-fits = next-fits bytes states s used (length glyphs) i (getD glyphs i 0) false (g .fits) e
+        going-fits = next-fits (classOf bytes states) bytes states s used (length glyphs) i (getD glyphs i 0) false (g .fits) e
 
         module _ (h : i < used) where
           pub going-step : {glyphs′ tags′ : List ℕ} {used′ : ℕ} → isDone (step .answer) ≡ true → LeftBy bytes here step glyphs′ tags′ used′
@@ -113,30 +114,30 @@ module _ (bytes : List ℕ) (states : States) (l₀ : Line) where
           unfolding machine
           going-stop done p =
               ends step
-              (subst⁻¹ (λ (r : InsertionStep). Over (machine bytes states) rest l₀ (passed bytes states l₀) (r .answer) (applyAll (bothChanges bytes (r .marked) (r .current)) here)) e
-              (passing-stop (machine bytes states) rest l₀ (passed bytes states l₀) (g .passing) some h
+              (subst⁻¹ (λ (r : InsertionStep). Over (machine (classOf bytes states) bytes states) rest l₀ (passed bytes states l₀) (r .answer) (applyAll (bothChanges bytes (r .marked) (r .current)) here)) e
+              (passing-stop (machine (classOf bytes states) bytes states) rest l₀ (passed bytes states l₀) (g .passing) some h
               (subst (λ (r : InsertionStep). isDone (r .answer) ≡ false) e done)))
               p
 
-      module _ (e : step ≡ next bytes states s used (length glyphs) used deleted true) where
+      module _ (e : step ≡ next (classOf bytes states) bytes states s used (length glyphs) used deleted true) where
         pub ending-fits : Both bytes used (length glyphs) step
-        ending-fits = next-fits bytes states s used (length glyphs) used deleted true (g .fits) e
+        ending-fits = next-fits (classOf bytes states) bytes states s used (length glyphs) used deleted true (g .fits) e
 
         pub going-end : {glyphs′ tags′ : List ℕ} {used′ : ℕ} → used ≤ i → LeftBy bytes here step glyphs′ tags′ used′ → Ends (step .answer) glyphs′ tags′ used′
         unfolding machine
         going-end h p =
             ends step
-            (subst⁻¹ (λ (r : InsertionStep). Over (machine bytes states) rest l₀ (passed bytes states l₀) (r .answer) (applyAll (bothChanges bytes (r .marked) (r .current)) here)) e
-            (passing-end (machine bytes states) rest l₀ (passed bytes states l₀) (g .passing) some h))
+            (subst⁻¹ (λ (r : InsertionStep). Over (machine (classOf bytes states) bytes states) rest l₀ (passed bytes states l₀) (r .answer) (applyAll (bothChanges bytes (r .marked) (r .current)) here)) e
+            (passing-end (machine (classOf bytes states) bytes states) rest l₀ (passed bytes states l₀) (g .passing) some h))
             p
 
 pub going-start : (bytes : List ℕ) (states : States) (glyphs tags homes : List ℕ) (used : ℕ) (s : InsertionState) → used ≤ length glyphs → s ≡ fresh
     → Going bytes states (lineOf glyphs tags homes used) glyphs tags homes used s 0
-unfolding passed
+unfolding passed passedBy
 going-start bytes states glyphs tags homes used s h e =
     subst⁻¹ (λ (r : InsertionState). Going bytes states (lineOf glyphs tags homes used) glyphs tags homes used r 0) e
     (record {
-      passing = passing-start (machine bytes states) rest _ fresh (lineOf glyphs tags homes used) (omega arith);
+      passing = passing-start (machine (classOf bytes states) bytes states) rest _ fresh (lineOf glyphs tags homes used) (omega arith);
       cycles = omega arith;
       within = omega arith;
       fits = h;

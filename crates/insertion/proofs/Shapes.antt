@@ -17,7 +17,6 @@ use Rattle.state_tables.specs.declared.entries.Entered.the-variants as Entered�
 use Rattle.state_tables.specs.Entries.{entryOf, onEntry}
 use Rattle.parse.specs.Reads.{u16At}
 use Rattle.laws.specs.Bits.{isSet}
-use Rattle.state_tables.specs.Classes.{classOf}
 use Rattle.machine.specs.Entry.{classHere}
 use Rattle.machine.specs.Stall.{stalled}
 use Rattle.machine.specs.Pass.{isDone}
@@ -64,10 +63,10 @@ module _ (bytes : List ℕ) (s : InsertionState) (index used room : ℕ) where
       go _ (made marked g) = followed-shape (withState s (entry .state)) (entry .flags) (u16At bytes (entry .payload)) marked refl g
       go _ (over answer n) = stops answer _ Inserted′.None n (fitting-none h)
 
-pub next-shape : (bytes : List ℕ) (states : States) (s : InsertionState) (used room index glyph : ℕ) (ends : Bool) → used ≤ room
-    → Shape bytes s used room (next bytes states s used room index glyph ends)
+pub next-shape : (classes : ℕ → ℕ) (bytes : List ℕ) (states : States) (s : InsertionState) (used room index glyph : ℕ) (ends : Bool) → used ≤ room
+    → Shape bytes s used room (next classes bytes states s used room index glyph ends)
 unfolding next
-next-shape bytes states s used room index glyph ends h = go (entryOf bytes states (s .state) (classHere (classOf bytes states) glyph ends) 4)
+next-shape classes bytes states s used room index glyph ends h = go (entryOf bytes states (s .state) (classHere classes glyph ends) 4)
   where
     go : (e : Entered) → Shape bytes s used room (onEntry e (λ entry. acted bytes s entry index used room) (stopped Answer′.Ended s Inserted′.None))
     go (Entered′.At entry) = acted-shape bytes s index used room entry h
@@ -86,10 +85,10 @@ shape-fits (stops answer s′ marked n f) = record { marked-inside = f .inside; 
 shape-fits (finishes s′ flags marked current c f g) =
     record { marked-inside = f .inside; current-inside = g .inside; within = g .within }
 
-pub next-fits : (bytes : List ℕ) (states : States) (s : InsertionState) (used room index glyph : ℕ) (ends : Bool) {step : InsertionStep} → used ≤ room
-    → step ≡ next bytes states s used room index glyph ends → Both bytes used room step
-next-fits bytes states s used room index glyph ends h e =
-    subst⁻¹ (λ (r : InsertionStep). Both bytes used room r) e (shape-fits (next-shape bytes states s used room index glyph ends h))
+pub next-fits : (classes : ℕ → ℕ) (bytes : List ℕ) (states : States) (s : InsertionState) (used room index glyph : ℕ) (ends : Bool) {step : InsertionStep} → used ≤ room
+    → step ≡ next classes bytes states s used room index glyph ends → Both bytes used room step
+next-fits classes bytes states s used room index glyph ends h e =
+    subst⁻¹ (λ (r : InsertionStep). Both bytes used room r) e (shape-fits (next-shape classes bytes states s used room index glyph ends h))
 
 -- a step that is DONE stays in the line and comes nearer to the end of the pass
 pub record Advances (used room i : ℕ) (s : InsertionState) (step : InsertionStep) : Type 0 where

@@ -22,6 +22,7 @@ use Rattle.parse.proofs.Laws.{inside-fits}
 use Rattle.state_tables.specs.declared.States.{States}
 use Rattle.state_tables.specs.declared.Made.{Made}
 use Rattle.state_tables.specs.declared.Made.the-variants as Made′
+use Rattle.state_tables.specs.Classes.{classOf}
 use Rattle.state_tables.specs.States.{extendedAt}
 use Rattle.machine.specs.Head.{hasKind, bodyOf}
 use Rattle.machine.specs.Call as Call′
@@ -120,13 +121,13 @@ module _ (table : List ℕ) (start : ℕ) (s : InsertionState) (len room index g
   step-headless e h r = r ∙ sym (rw (sym tested ∙ e, stepCall) (rw (sym head ∙ h)))
 
   pub step-worked : {states : States} {body : List ℕ} {step : InsertionStep} {marked current : Inserted} → check ≡ Passed → made ≡ Made′.Ready states
-      → body ≡ drop 12 bytes → step ≡ next body states s len room index glyph ends → marked ≡ movedBy (start + 12) (step .marked)
+      → body ≡ drop 12 bytes → step ≡ next (classOf body states) body states s len room index glyph ends → marked ≡ movedBy (start + 12) (step .marked)
       → current ≡ movedBy (start + 12) (step .current)
       → record { answer = step .answer; state = step .state; advance = step .advance; marked = marked; current = current }
       ≡ stepCall table start s len room index glyph ends
   unfolding stepCall
   step-worked {states} {body} {step} e r d w p q =
-      let is : stepCall table start s len room index glyph ends ≡ fromTable (start + 12) (next body states s len room index glyph ends) =
+      let is : stepCall table start s len room index glyph ends ≡ fromTable (start + 12) (next (classOf body states) body states s len room index glyph ends) =
       rw (sym tested ∙ e, stepCall)
-      (rw (sym head ∙ r) (ap (λ (x : List ℕ). fromTable (start + 12) (next x states s len room index glyph ends)) (sym (d ∙ ap (drop 12) b)))) in
+      (rw (sym head ∙ r) (ap (λ (x : List ℕ). fromTable (start + 12) (next (classOf x states) x states s len room index glyph ends)) (sym (d ∙ ap (drop 12) b)))) in
       rw (p, q) (ap (fromTable (start + 12)) w ∙ sym is)

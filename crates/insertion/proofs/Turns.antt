@@ -12,7 +12,7 @@ use Rattle.line.proofs.Histories.{By, by-changes}
 use Rattle.machine.specs.Pass.{isDone, passFrom}
 use Rattle.machine.proofs.Turns.{Counts, enough-turns}
 use Rattle.insertion.specs.Lists.{bothChanges}
-use Rattle.insertion.specs.Insertion.{fresh, next, machine, rest, passed}
+use Rattle.insertion.specs.Insertion.{fresh, next, machine, rest, passedBy}
 use Rattle.insertion.specs.declared.InsertionState.{InsertionState}
 use Rattle.insertion.specs.declared.InsertionStep.{InsertionStep}
 use Rattle.insertion.proofs.Shapes.{Advances, next-shape, shape-advances}
@@ -22,30 +22,30 @@ use Rattle.insertion.proofs.Honesty.{step-fits}
 abbrev Sound : InsertionState → Line → ℕ → Type 0
 Sound s l i = (s .cycles ≤ 17) × Valid l
 
-module _ (bytes : List ℕ) (states : States) (s : InsertionState) (l : Line) (i : ℕ) (ok : Sound s l i) where
+module _ (classes : ℕ → ℕ) (bytes : List ℕ) (states : States) (s : InsertionState) (l : Line) (i : ℕ) (ok : Sound s l i) where
   abbrev step : InsertionStep
-  step = next bytes states s (l .used) (length (l .glyphs)) i (getD (l .glyphs) i 0) false
+  step = next classes bytes states s (l .used) (length (l .glyphs)) i (getD (l .glyphs) i 0) false
 
   advances : i < l .used → isDone (step .answer) ≡ true → Advances (l .used) (length (l .glyphs)) i s step
   advances h done =
       shape-advances (l .used) (length (l .glyphs)) i h (ok .1 .within)
-      (next-shape bytes states s (l .used) (length (l .glyphs)) i (getD (l .glyphs) i 0) false (ok .1 .within)) done (ok .0)
+      (next-shape classes bytes states s (l .used) (length (l .glyphs)) i (getD (l .glyphs) i 0) false (ok .1 .within)) done (ok .0)
 
   left : By l (historyOf (bothChanges bytes (step .marked) (step .current))) (applyAll (bothChanges bytes (step .marked) (step .current)) l)
   unfolding machine
-  left = by-changes (bothChanges bytes (step .marked) (step .current)) l (ok .1) (step-fits bytes states s l i (getD (l .glyphs) i 0) false (ok .1))
+  left = by-changes (bothChanges bytes (step .marked) (step .current)) l (ok .1) (step-fits classes bytes states s l i (getD (l .glyphs) i 0) false (ok .1))
 
-counts : (bytes : List ℕ) (states : States) → Counts (machine bytes states) Sound rest
+counts : (classes : ℕ → ℕ) (bytes : List ℕ) (states : States) → Counts (machine classes bytes states) Sound rest
 unfolding machine
-counts bytes states =
+counts classes bytes states =
     record {
       some = λ s l i ok. omega (arith, ok .0);
-      sound = λ s l i ok h done. (advances bytes states s l i ok h done .sound, left bytes states s l i ok .valid);
-      fewer = λ s l i ok h done. omega (arith, advances bytes states s l i ok h done .less, left bytes states s l i ok .same);
+      sound = λ s l i ok h done. (advances classes bytes states s l i ok h done .sound, left classes bytes states s l i ok .valid);
+      fewer = λ s l i ok h done. omega (arith, advances classes bytes states s l i ok h done .less, left classes bytes states s l i ok .same);
     }
 
-pub insertion-turns : (bytes : List ℕ) (states : States) (l : Line) (more : ℕ) → Valid l
-    → passFrom (machine bytes states) (more + rest fresh l 0) fresh l 0 ≡ passed bytes states l
-unfolding passed
-insertion-turns bytes states l more v =
-    enough-turns (machine bytes states) Sound rest (counts bytes states) more (rest fresh l 0) fresh l 0 (omega arith, v) (omega arith)
+pub insertion-turns : (classes : ℕ → ℕ) (bytes : List ℕ) (states : States) (l : Line) (more : ℕ) → Valid l
+    → passFrom (machine classes bytes states) (more + rest fresh l 0) fresh l 0 ≡ passedBy classes bytes states l
+unfolding passedBy
+insertion-turns classes bytes states l more v =
+    enough-turns (machine classes bytes states) Sound rest (counts classes bytes states) more (rest fresh l 0) fresh l 0 (omega arith, v) (omega arith)

@@ -15,6 +15,7 @@ use Rattle.parse.specs.Use.{onU32}
 use Rattle.state_tables.specs.declared.States.{States}
 use Rattle.state_tables.specs.declared.Made.{Made}
 use Rattle.state_tables.specs.declared.Made.the-variants as Made′
+use Rattle.state_tables.specs.Classes.{classOf}
 use Rattle.line.specs.Line.{Line}
 use Rattle.line.specs.Changes.{applyAll}
 use Rattle.machine.specs.Head.{bodyOf}
@@ -79,7 +80,7 @@ stepBy Check′.Passed (Made′.Ready states) s work = work states
 unfoldable pub stepCall : List ℕ → (start : ℕ) → InsertionState → (used room index glyph : ℕ) → (ends : Bool) → InsertionStep
 stepCall table start s used room index glyph ends =
     stepBy (refuse (stepTests (length table) used room index s (opened (drop start table)))) (opened (drop start table)) s
-    (λ states. fromTable (start + 12) (next (bodyOf (drop start table)) states s used room index glyph ends))
+    (λ states. fromTable (start + 12) (next (classOf (bodyOf (drop start table)) states) (bodyOf (drop start table)) states s used room index glyph ends))
 
 -- a call of the pass, as one of a sequence of calls
 pub record PassCall : Type 0 where

@@ -90,16 +90,16 @@ acted bytes s entry index used room =
     (λ answer. stopped answer s′ Inserted′.None)
 
 -- a step: class, then entry, then what the entry does; without an entry it is ENDED and the state as it was
-unfoldable pub next : List ℕ → States → InsertionState → (used room index glyph : ℕ) → (ends : Bool) → InsertionStep
-next bytes states s used room index glyph ends =
-    onEntry (entryOf bytes states (s .state) (classHere (classOf bytes states) glyph ends) 4)
+unfoldable pub next : (classes : ℕ → ℕ) → List ℕ → States → InsertionState → (used room index glyph : ℕ) → (ends : Bool) → InsertionStep
+next classes bytes states s used room index glyph ends =
+    onEntry (entryOf bytes states (s .state) (classHere classes glyph ends) 4)
     (λ entry. acted bytes s entry index used room)
     (stopped Answer′.Ended s Inserted′.None)
 
 -- the machine that passes are made of: its room is the line's
-unfoldable pub machine : List ℕ → States → Machine InsertionState
-machine bytes states s l index glyph ends =
-    let step : InsertionStep = next bytes states s (l .used) (length (l .glyphs)) index glyph ends in
+unfoldable pub machine : (classes : ℕ → ℕ) → List ℕ → States → Machine InsertionState
+machine classes bytes states s l index glyph ends =
+    let step : InsertionStep = next classes bytes states s (l .used) (length (l .glyphs)) index glyph ends in
     record {
       answer = step .answer;
       state = step .state;
@@ -112,6 +112,10 @@ machine bytes states s l index glyph ends =
 abbrev pub rest : InsertionState → Line → ℕ → ℕ
 rest s l i = (length (l .glyphs) - i) * 18 + (18 - s .cycles)
 
+-- the pass over a line, by any classes
+unfoldable pub passedBy : (classes : ℕ → ℕ) → List ℕ → States → Line → Passed
+passedBy classes bytes states l = passOf (machine classes bytes states) (rest fresh l 0) fresh l
+
 -- the pass over a line
 unfoldable pub passed : List ℕ → States → Line → Passed
-passed bytes states l = passOf (machine bytes states) (rest fresh l 0) fresh l
+passed bytes states l = passedBy (classOf bytes states) bytes states l

@@ -12,6 +12,7 @@ ghost use Prim.Native.Nat.{_+_, _*_, _<_, _≤_, _^_};
 ghost use lib.ListN.{length, take, drop};
 ghost use Rattle.answers.specs.Limits as Limits;
 ghost use Rattle.answers.specs.Refuse.{refuse};
+ghost use Rattle.state_tables.specs.Classes.{classOf};
 ghost use Rattle.line.specs.Line.{lineOf};
 ghost use Rattle.line.specs.Changes.{applyAll};
 ghost use Rattle.insertion.specs.Lists.{glyphList, insertionOf, countOf, changesOf, bothChanges, movedBy};
@@ -342,7 +343,7 @@ impl InsertionState {
         ends: bool,
     ) -> InsertionStep
         requires { ⌜ (index ≤ used) × (used ≤ room) × (room ≤ Limits.roomLimit) ⌝ }
-        ensures { λ r. ⌜ r ≡ next (now (bytes .entry)) states self used room index glyph ends ⌝ }
+        ensures { λ r. ⌜ r ≡ next (classOf (now (bytes .entry)) states) (now (bytes .entry)) states self used room index glyph ends ⌝ }
     {
         let class = machine::class_at(bytes, states, glyph, ends);
         let Entered::At(entry) = entries::entry_of(bytes, states, self.state, class, 4) else {

@@ -181,16 +181,17 @@ module _ {X : Type 0} (part : Line → X) (kept : (at : ℕ) (new : List ℕ) (l
   kept-inserted bytes Inserted′.None = kept-none part
   kept-inserted bytes (Inserted′.At place count glyphs) = kept-one part (Change.insertion place (IL.glyphsAt bytes glyphs count)) (kept place (IL.glyphsAt bytes glyphs count))
 
-  insertion-step : (bytes : List ℕ) (states : States) (s : InsertionState) (k : Line) (i g : ℕ) (e : Bool) → Kept part (IM.machine bytes states s k i g e .changes)
+  insertion-step : (classes : ℕ → ℕ) (bytes : List ℕ) (states : States) (s : InsertionState) (k : Line) (i g : ℕ) (e : Bool) → Kept part (IM.machine classes bytes states s k i g e .changes)
   unfolding IM.machine
-  insertion-step bytes states s k i g e =
-      let step : InsertionStep = IM.next bytes states s (k .used) (length (k .glyphs)) i g e in
+  insertion-step classes bytes states s k i g e =
+      let step : InsertionStep = IM.next classes bytes states s (k .used) (length (k .glyphs)) i g e in
       kept-append part (IL.changesOf bytes (step .marked)) (IL.changesOf bytes (step .current)) (kept-inserted bytes (step .marked)) (kept-inserted bytes (step .current))
 
   pub kept-insertion : (bytes : List ℕ) (l : Line) → Kept part (I.worked bytes l .changes)
-  unfolding I.worked IM.passed
+  unfolding I.worked IM.passed IM.passedBy
   kept-insertion bytes l =
-      kept-machine part (I.opened bytes) (IM.machine (bodyOf bytes)) (IM.rest IM.fresh l 0) IM.fresh l (insertion-step (bodyOf bytes))
+      kept-machine part (I.opened bytes) (λ states. IM.machine (classOf (bodyOf bytes) states) (bodyOf bytes) states) (IM.rest IM.fresh l 0) IM.fresh l
+      (λ states. insertion-step (classOf (bodyOf bytes) states) (bodyOf bytes) states)
 
 -- what is refused leaves the line as it is
 headless : (l : Line) → Leaves (record { answer = Answer′.Refused Refusal′.Head; changes = [] }) l (record { answer = Answer′.Refused Refusal′.Head; used = l .used }) (l .glyphs) (l .tags) (l .homes)

@@ -54,8 +54,9 @@ pub record Demand1 : Type 0 where
   pub ligature-turns : (classes : ℕ → ℕ) (bytes : List ℕ) (states : States) (l : Line) (more : ℕ)
       → passFrom (Ligature.machine classes bytes states) (more + Ligature.rest Ligature.fresh l 0) Ligature.fresh l 0
       ≡ Ligature.passedBy classes bytes states l
-  pub insertion-turns : (bytes : List ℕ) (states : States) (l : Line) (more : ℕ) → Valid l
-      → passFrom (Insertion.machine bytes states) (more + Insertion.rest Insertion.fresh l 0) Insertion.fresh l 0 ≡ Insertion.passed bytes states l
+  pub insertion-turns : (classes : ℕ → ℕ) (bytes : List ℕ) (states : States) (l : Line) (more : ℕ) → Valid l
+      → passFrom (Insertion.machine classes bytes states) (more + Insertion.rest Insertion.fresh l 0) Insertion.fresh l 0
+      ≡ Insertion.passedBy classes bytes states l
   pub kerning-turns : (bytes : List ℕ) (kerning : Kerning) (glyphs : List ℕ) (used more : ℕ)
       → KerningMachine.passFrom bytes kerning glyphs used (more + KerningMachine.rest used KerningMachine.fresh 0) KerningMachine.fresh 0
       ≡ KerningMachine.passed bytes kerning glyphs used

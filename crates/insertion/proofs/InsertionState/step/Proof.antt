@@ -68,7 +68,7 @@ moved-by-requires c κs =
     let at-open = at-refuse-step .before in
     let at-from = at-open .before in
     let t = step-told _ _ _ _ _ _ (at-refuse-step .refuse-step .ensures) (at-enum-told .enum-told .given .1) in
-    let f = next-fits _ _ _ _ _ _ _ _ (t .within) (at-next .next .ensures) in
+    let f = next-fits _ _ _ _ _ _ _ _ _ (t .within) (at-next .next .ensures) in
     list-fits _ _ (t .short) (at-from .from .ensures) (at-open .«open» .ensures) (at-made .made .given .1) (at-from2 .from2 .ensures) _ (f .marked-inside)
 
 add-moved-by-2 : tie.Need-add-moved-by-2
@@ -92,7 +92,7 @@ moved-by-requires-2 c κs =
     let at-open = at-refuse-step .before in
     let at-from = at-open .before in
     let t = step-told _ _ _ _ _ _ (at-refuse-step .refuse-step .ensures) (at-enum-told .enum-told .given .1) in
-    let f = next-fits _ _ _ _ _ _ _ _ (t .within) (at-next .next .ensures) in
+    let f = next-fits _ _ _ _ _ _ _ _ _ (t .within) (at-next .next .ensures) in
     list-fits _ _ (t .short) (at-from .from .ensures) (at-open .«open» .ensures) (at-made .made .given .1) (at-from2 .from2 .ensures) _ (f .current-inside)
 
 returns-3 : tie.Need-returns-3
