@@ -2,6 +2,7 @@
 mod Lists
 mod Shapes
 mod Edits
+mod Entries
 pub mod Passes
 mod Steps
 mod Calls

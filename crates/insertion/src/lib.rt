@@ -7,18 +7,23 @@ use state_tables::States;
 use state_tables::entries;
 use state_tables::entries::Entered;
 use state_tables::entries::Entry;
+use state_tables::opened;
+use state_tables::opened::Classes;
 ghost use mathlib.Core.Path.{_≡_};
 ghost use Prim.Native.Nat.{_+_, _*_, _<_, _≤_, _^_};
-ghost use lib.ListN.{length, take, drop};
+ghost use lib.Dec.{eqb};
+ghost use lib.ListN.{length, getD, take, drop};
 ghost use Rattle.answers.specs.Limits as Limits;
 ghost use Rattle.answers.specs.Refuse.{refuse};
 ghost use Rattle.state_tables.specs.Classes.{classOf};
+ghost use Rattle.state_tables.specs.Opened.{classBy, LiesIn, Remembers};
+ghost use Rattle.machine.specs.Entry.{classHere};
 ghost use Rattle.line.specs.Line.{lineOf};
 ghost use Rattle.line.specs.Changes.{applyAll};
 ghost use Rattle.insertion.specs.Lists.{glyphList, insertionOf, countOf, changesOf, bothChanges, movedBy};
 ghost use Rattle.insertion.specs.Insertion.{fresh, insertionPlace, advanceOf, withState, withMark, stopped, finished, afterMarked, acted, next, passed};
 ghost use Rattle.insertion.specs.Calls.{opened, worked, passCall, callLeaves, stepTests, fromTable, stepCall};
-ghost use Rattle.insertion.specs.Work.{endOf, passedLeaves, workLeaves};
+ghost use Rattle.insertion.specs.Work.{endOf, isQuiet, ledBy, passedLeaves, workLeaves};
 
 // The state of a pass: the state table's state, the marked place, and how many steps in a row did not advance.
 pub struct InsertionState {
@@ -200,9 +205,6 @@ impl InsertionState {
 
     pub const MOST_CYCLES: u16 = 17;
 
-    // The glyph of the end call.
-    pub const END: u16 = 0xFFFF;
-
     // The state at the start of a pass.
     pub fn new() -> InsertionState
         ensures { λ r. ⌜ r ≡ fresh ⌝ }
@@ -328,6 +330,21 @@ impl InsertionState {
                 room,
             ),
             Tried::Over(answer) => stopped(answer, state, Inserted::None),
+        }
+    }
+
+    // The state that an entry which inserts nothing and advances leads to.
+    fn led_by(self, entry: Entry, place: usize) -> InsertionState
+        ensures { λ r. ⌜ r ≡ ledBy self entry place ⌝ }
+    {
+        let marked = self.with_mark(
+            machine::is_set(entry.flags, InsertionState::SET_MARK),
+            place,
+        );
+        InsertionState {
+            state: entry.state,
+            mark: marked.mark,
+            cycles: 0,
         }
     }
 
@@ -513,6 +530,44 @@ fn edit(
     put(bytes, glyphs, tags, homes, between, current)
 }
 
+// The class of a place of the line, or of the end of text behind it.
+fn class_now(
+    bytes: &[u8],
+    opened: Classes,
+    memo: &mut [u32; 64],
+    glyphs: &[u16],
+    used: usize,
+    place: usize,
+) -> u16
+    requires { ⌜ LiesIn (now bytes) opened × Remembers (classBy (now bytes) opened) (now memo) × (place ≤ used) × (used ≤ length (now glyphs)) ⌝ }
+    ensures class { λ r. ⌜ r ≡ classHere (classBy (now (bytes .entry)) opened) (getD (now (glyphs .entry)) place 0) (eqb place used) ⌝ }
+    ensures memo { λ _. ⌜ Remembers (classBy (now (bytes .entry)) opened) (now (memo .exit)) ⌝ }
+{
+    if place == used {
+        return 0;
+    }
+    let glyph = glyphs[place];
+    let Classes::Words { base, first, count } = opened else {
+        return opened::remembered(bytes, opened, memo, glyph);
+    };
+    opened::class_in_words(bytes, base, first, count, glyph)
+}
+
+// Whether an entry inserts nothing and advances.
+fn is_quiet(bytes: &[u8], entry: Entry) -> bool
+    requires { ⌜ entry .payload + 4 ≤ length (now bytes) ⌝ }
+    ensures { λ r. ⌜ r ≡ isQuiet (now (bytes .entry)) entry ⌝ }
+{
+    if machine::is_set(entry.flags, InsertionState::DONT_ADVANCE) {
+        return false;
+    }
+    let numbers = entries::two_numbers(bytes, entry.payload);
+    if numbers.first != InsertionState::NO_ACTION {
+        return false;
+    }
+    numbers.second == InsertionState::NO_ACTION
+}
+
 // The pass over a line that LINE has taken, with the bytes from the state table on.
 fn pass_line(
     bytes: &[u8],
@@ -528,25 +583,46 @@ fn pass_line(
     ensures glyphs { λ _. ⌜ now (glyphs .exit) ≡ passedLeaves (now (bytes .entry)) states (lineOf (now (glyphs .entry)) (now (tags .entry)) (now (homes .entry)) used) .glyphs ⌝ }
     ensures tags { λ _. ⌜ now (tags .exit) ≡ passedLeaves (now (bytes .entry)) states (lineOf (now (glyphs .entry)) (now (tags .entry)) (now (homes .entry)) used) .tags ⌝ }
 {
+    let opened = opened::open(bytes, states);
+    let mut memo = opened::nothing_found();
     let mut state = InsertionState::new();
     let mut place = 0;
     let mut end = used;
-    while place < end {
-        let step = state.next(
-            bytes,
-            states,
-            end,
-            glyphs.len(),
-            place,
-            glyphs[place],
-            false,
-        );
+    loop {
+        let class = class_now(bytes, opened, &mut memo, glyphs, end, place);
+        let Entered::At(entry) = entries::entry_of(bytes, states, state.state, class, 4) else {
+            return InsertionPass {
+                answer: Answer::Ended,
+                used: end,
+            };
+        };
+        if is_quiet(bytes, entry) {
+            if place == end {
+                return InsertionPass {
+                    answer: Answer::Done,
+                    used: end,
+                };
+            }
+            state = state.led_by(entry, place);
+            place += 1;
+            continue;
+        }
+        let step = state.act(bytes, entry, place, end, glyphs.len());
         let marked = step.marked;
         let current = step.current;
-        end = edit(bytes, glyphs, tags, homes, end, marked, current);
         let answer = step.answer;
+        let longer = edit(bytes, glyphs, tags, homes, end, marked, current);
+        if place == end {
+            return InsertionPass {
+                answer,
+                used: longer,
+            };
+        }
         if !machine::is_done(answer) {
-            return InsertionPass { answer, used: end };
+            return InsertionPass {
+                answer,
+                used: longer,
+            };
         }
         let after = step.state;
         // Field by field: a copy as a whole would wait for the stores that the step has just made.
@@ -556,23 +632,7 @@ fn pass_line(
             cycles: after.cycles,
         };
         place += step.advance;
-    }
-    let step = state.next(
-        bytes,
-        states,
-        end,
-        glyphs.len(),
-        end,
-        InsertionState::END,
-        true,
-    );
-    let marked = step.marked;
-    let current = step.current;
-    let answer = step.answer;
-    let after = edit(bytes, glyphs, tags, homes, end, marked, current);
-    InsertionPass {
-        answer,
-        used: after,
+        end = longer;
     }
 }
 
