@@ -80,11 +80,16 @@ link() { # PROGRAM OBJECT..
     quietly "$tools/bin/rattle-link" --target $target --toolchain "$tools/toolchain" -o "$@" "$archive"
 }
 
-find_archive() {
+# Proves the archive, by a command, where its sources are newer.
+prove_archive() { # COMMAND..
     if [ -n "${BESIDE_ARCHIVE:-}" ]; then return; fi
     if is_stale "$archive" "$top/crates.txt" "$top"/crates/*/{src,specs,proofs}; then
-        (cd "$top" && rt staticlib firmware) >&2 || give_up 2 "there is no archive to compare"
+        (cd "$top" && "$@") >&2 || give_up 2 "there is no archive to compare"
     fi
+}
+
+find_archive() {
+    prove_archive rt staticlib firmware
 }
 
 # The box as a program.
