@@ -110,23 +110,43 @@ impl<'a> Subtable<'a> {
     /// The same, and a panic of the crate is one.
     pub fn add(&self, glyphs: &[u16], along: &mut [i64]) -> Answer<()> {
         match self {
-            Subtable::KernPairs(pairs) => add_pairs(glyphs, along, |left, right| pairs.get(left, right)),
-            Subtable::KerxPairs(pairs) => add_pairs(glyphs, along, |left, right| pairs.get(left, right)),
-            Subtable::KerxClasses(classes) => add_pairs(glyphs, along, |left, right| classes.get(left, right)),
-            Subtable::KernMachine(machine) => {
-                let mut state = kern::Format1State::new();
-                make_steps(glyphs, |place, glyph| {
-                    machine.next(&mut state, place, glyph, |at, number| add_at(along, at, number))
-                })
-            }
-            Subtable::KerxMachine(machine) => {
-                let mut state = kerx::ContextualState::new();
-                make_steps(glyphs, |place, glyph| {
-                    machine.next(&mut state, place, glyph, |at, number| add_at(along, at, number))
-                })
-            }
+            Subtable::KernPairs(pairs) => add_kern_pairs(pairs, glyphs, along),
+            Subtable::KerxPairs(pairs) => add_kerx_pairs(pairs, glyphs, along),
+            Subtable::KerxClasses(classes) => add_kerx_classes(classes, glyphs, along),
+            Subtable::KernMachine(machine) => add_by_kern_machine(machine, glyphs, along),
+            Subtable::KerxMachine(machine) => add_by_kerx_machine(machine, glyphs, along),
         }
     }
+}
+
+// The pass by each of the crate's subtables is a function of its own in the machine code, too, so that its times do not hang on
+// who else calls it.
+
+#[inline(never)]
+fn add_kern_pairs(pairs: &kern::Format0, glyphs: &[u16], along: &mut [i64]) -> Answer<()> {
+    add_pairs(glyphs, along, |left, right| pairs.get(left, right))
+}
+
+#[inline(never)]
+fn add_kerx_pairs(pairs: &kerx::Format0, glyphs: &[u16], along: &mut [i64]) -> Answer<()> {
+    add_pairs(glyphs, along, |left, right| pairs.get(left, right))
+}
+
+#[inline(never)]
+fn add_kerx_classes(classes: &kerx::Format2, glyphs: &[u16], along: &mut [i64]) -> Answer<()> {
+    add_pairs(glyphs, along, |left, right| classes.get(left, right))
+}
+
+#[inline(never)]
+fn add_by_kern_machine(machine: &kern::Format1, glyphs: &[u16], along: &mut [i64]) -> Answer<()> {
+    let mut state = kern::Format1State::new();
+    make_steps(glyphs, |place, glyph| machine.next(&mut state, place, glyph, |at, number| add_at(along, at, number)))
+}
+
+#[inline(never)]
+fn add_by_kerx_machine(machine: &kerx::Format1, glyphs: &[u16], along: &mut [i64]) -> Answer<()> {
+    let mut state = kerx::ContextualState::new();
+    make_steps(glyphs, |place, glyph| machine.next(&mut state, place, glyph, |at, number| add_at(along, at, number)))
 }
 
 /// The number of every two neighbours, added at the first.

@@ -1,4 +1,5 @@
-//! Document 01's pass over a line by each of the crate's machines, as published.
+//! Document 01's pass over a line by each of the crate's machines, as published. Each is a function of its own in the machine
+//! code, too, so that its times do not hang on who else calls it.
 
 use crate::line::Line;
 use crate::oracle::aat::morx::{
@@ -47,6 +48,7 @@ pub fn number(subtable: &SubtableKind) -> u32 {
 }
 
 /// Each rearrangement is applied to glyphs and tags as it is handed over.
+#[inline(never)]
 fn rearrangement(machine: &Rearrangement, line: &mut Line) -> Answer<()> {
     let mut state = RearrangementState::new();
     make_steps(line, |line, place, glyph, is_end| {
@@ -60,6 +62,7 @@ fn rearrangement(machine: &Rearrangement, line: &mut Line) -> Answer<()> {
 }
 
 /// Each glyph is written as it is handed over.
+#[inline(never)]
 fn contextual(machine: &Contextual, line: &mut Line) -> Answer<()> {
     let mut state = ContextualState::new();
     make_steps(line, |line, place, glyph, is_end| {
@@ -72,6 +75,7 @@ fn contextual(machine: &Contextual, line: &mut Line) -> Answer<()> {
 }
 
 /// Each ligature is written, and its components go, as they are handed over.
+#[inline(never)]
 fn ligature(machine: &Ligature, line: &mut Line) -> Answer<()> {
     let mut state = LigatureState::new();
     make_steps(line, |line, place, glyph, is_end| {
@@ -84,6 +88,7 @@ fn ligature(machine: &Ligature, line: &mut Line) -> Answer<()> {
 }
 
 /// Each glyph by itself; there is nothing for the end of text to do.
+#[inline(never)]
 fn noncontextual(lookup: &NonContextual, line: &mut Line) -> Answer<()> {
     let length = line.length();
     for glyph in &mut line.glyphs[..length] {
@@ -93,6 +98,7 @@ fn noncontextual(lookup: &NonContextual, line: &mut Line) -> Answer<()> {
 }
 
 /// Glyphs are put in as they are handed over; the first that do not fit end the pass.
+#[inline(never)]
 fn insertion(machine: &Insertion, line: &mut Line) -> Answer<()> {
     let mut state = InsertionState::new();
     make_steps(line, |line, place, glyph, is_end| {
