@@ -41,52 +41,74 @@ use rearrange::rearrange;
 use sides::{ours, theirs};
 use state_tables::{classic, extended};
 use std::process::ExitCode;
-use timing::{time_alone, Figure, Subject, TABLE_HEAD, TURNS};
+use timing::{Group, Subject, TABLE_HEAD, TURNS};
 
 const GLYPHS: usize = 50_000;
 const NAMES: usize = 500;
 const VERBS: usize = 100;
 
-/// bench PROCESSOR [FILE]
+/// bench PROCESSOR [--only WORD] [FILE]
 fn main() -> ExitCode {
-    let words: Vec<String> = std::env::args().skip(1).collect();
-    let processor = format!("processor: {}", words.first().map_or("unknown", String::as_str));
+    let mut words = std::env::args().skip(1);
+    let processor = format!("processor: {}", words.next().unwrap_or_default());
+    let mut rest: Vec<String> = words.collect();
+    let word = if rest.first().map_or(false, |word| word == "--only") { rest.drain(..2).nth(1) } else { None };
     println!("{}\ntime of a call, ours to the crate's: ratio of the medians of {} turns (quartiles)", processor, TURNS);
-    let mut random = Random::new(1);
-    let figures: Vec<Figure> = subjects(&mut random).into_iter().map(measure).collect();
-    let line_test = time_line_test(&mut random);
-    println!("{:56} {:.1} ns", LINE_TEST, line_test);
-    if let Some(file) = words.get(1) {
-        let rows: Vec<String> = figures.iter().map(Figure::row).collect();
-        let alone = format!("| {} | | | {:.1} ns | |", LINE_TEST, line_test);
-        let table = format!("{}\n\n{}\n{}\n{}\n", processor, TABLE_HEAD, rows.join("\n"), alone);
-        if let Err(error) = std::fs::write(file, table) {
+    let mut is_same = true;
+    let mut tables = processor;
+    for (heading, subjects) in chosen(groups(&mut Random::new(1)), &word.unwrap_or_default()) {
+        println!("\n{}", heading);
+        tables += &format!("\n\n### {}\n\n{}", heading, TABLE_HEAD);
+        for subject in subjects {
+            let figure = subject.measured();
+            println!("{}", figure.describe());
+            tables += &format!("\n{}", figure.row());
+            is_same &= figure.is_same();
+        }
+    }
+    if let Some(file) = rest.first() {
+        if let Err(error) = std::fs::write(file, tables + "\n") {
             eprintln!("{}: {}", file, error);
             return ExitCode::from(2);
         }
     }
-    if figures.iter().any(|figure| !figure.is_same) {
+    if !is_same {
         println!("the two sides differ");
         return ExitCode::FAILURE;
     }
     ExitCode::SUCCESS
 }
 
-fn measure(subject: Subject) -> Figure {
-    let figure = subject.measured();
-    println!("{}", figure.describe());
-    figure
+/// The subjects whose names have this word in them, in the groups that have any.
+fn chosen(groups: Vec<Group>, word: &str) -> Vec<Group> {
+    let choose = |(heading, subjects): Group| {
+        let subjects: Vec<Subject> = subjects.into_iter().filter(|subject| subject.name.contains(word)).collect();
+        if subjects.is_empty() {
+            None
+        } else {
+            Some((heading, subjects))
+        }
+    };
+    groups.into_iter().filter_map(choose).collect()
 }
 
-fn subjects(random: &mut Random) -> Vec<Subject> {
-    let mut subjects = Vec::from(lookups(random));
-    subjects.extend(searches(random));
-    subjects.extend(classes(random));
-    subjects.push(languages(random));
-    subjects.extend([1, 3, 5, 6, 13].map(|verb| one_verb(random, verb)));
-    subjects.extend(timed_passes::subjects(random));
-    subjects.extend(timed_kerning::subjects(random));
-    subjects
+fn groups(random: &mut Random) -> Vec<Group> {
+    let mut looked_up = Vec::from(lookups(random));
+    looked_up.extend(searches(random));
+    looked_up.extend(classes(random));
+    looked_up.push(languages(random));
+    let mut verbs: Vec<Subject> = [1, 3, 5, 6, 13].into_iter().map(|verb| one_verb(random, verb)).collect();
+    let passes = timed_passes::passes(random);
+    let runs = timed_passes::runs(random);
+    let kerning = timed_kerning::subjects(random);
+    verbs.push(line_test(random));
+    vec![
+        ("Lookups, classes and languages", looked_up),
+        ("Verbs", verbs),
+        ("Passes of morx", passes),
+        ("Runs of morx", runs),
+        ("Passes and runs of kern and kerx", kerning),
+    ]
 }
 
 fn lookups(random: &mut Random) -> [Subject; 3] {
@@ -162,12 +184,11 @@ fn one_verb(random: &mut Random, verb: u16) -> Subject {
     Subject::of_work(format!("verb {}, 4,096 places", verb), VERBS, line, false, ours, theirs)
 }
 
-const LINE_TEST: &str = "the test of a line (verb 0), 4,096 places";
-
-/// How long verb 0 takes, which tests the line and moves nothing; the crate has nothing like it.
-fn time_line_test(random: &mut Random) -> f64 {
-    let mut line = Line::any(random, LARGEST_ROOM, LARGEST_ROOM, 65_536);
-    time_alone(VERBS, move || ours::verb(&mut line, 0))
+/// Verb 0, which tests the line and moves nothing; the crate has nothing like it.
+fn line_test(random: &mut Random) -> Subject {
+    let line = Line::any(random, LARGEST_ROOM, LARGEST_ROOM, 65_536);
+    let name = "the test of a line (verb 0), 4,096 places".into();
+    Subject::of_ours(name, VERBS, line, |line| ours::verb(line, 0))
 }
 
 /// The lengths of lines that passes and runs go over.

@@ -9,12 +9,18 @@ use crate::sides::{ours, theirs};
 use crate::timing::Subject;
 use crate::{calls_on, grouped, LENGTHS};
 
-/// Every pass on lines of every length, and runs on lines of every length and of more and more subtables.
-pub fn subjects(random: &mut Random) -> Vec<Subject> {
+/// Every pass on lines of every length.
+pub fn passes(random: &mut Random) -> Vec<Subject> {
     let mut subjects = Vec::new();
-    for made in passes(random) {
+    for made in all_passes(random) {
         subjects.extend(LENGTHS.map(|room| made.subject(random, room)));
     }
+    subjects
+}
+
+/// Runs on lines of every length, and of more and more subtables.
+pub fn runs(random: &mut Random) -> Vec<Subject> {
+    let mut subjects = Vec::new();
     let table = with_subtables(random, 10);
     for length in LENGTHS {
         let name = format!("run of morx, 10 subtables, {} places", grouped(length));
@@ -53,7 +59,7 @@ impl Pass {
 /// So many glyphs have a class of their machine's own.
 pub const CLASSED: u16 = 2_000;
 
-fn passes(random: &mut Random) -> Vec<Pass> {
+fn all_passes(random: &mut Random) -> Vec<Pass> {
     let mut passes = Vec::from(rearrangement_passes(random));
     passes.extend(noncontextual_passes());
     passes.extend(contextual_passes(random));

@@ -2,13 +2,16 @@
 
 use std::rc::Rc;
 
-/// What both sides do: in a turn, each makes so many calls and gives a sum of what they found.
+/// What both sides do, or ours alone: in a turn, each makes so many calls and gives a sum of what they found.
 pub struct Subject {
-    name: String,
+    pub name: String,
     calls: usize,
     ours: Turn,
-    theirs: Turn,
+    theirs: Option<Turn>,
 }
+
+/// Subjects under a heading.
+pub type Group = (&'static str, Vec<Subject>);
 
 type Turn = Box<dyn FnMut() -> u64>;
 
@@ -32,7 +35,7 @@ impl Subject {
     ) -> Self {
         let calls = items.len();
         let asked = Rc::new((table, items));
-        Subject { name, calls, ours: turn(asked.clone(), ours), theirs: turn(asked, theirs) }
+        Subject { name, calls, ours: turn(asked.clone(), ours), theirs: Some(turn(asked, theirs)) }
     }
 
     /// So many calls on one line, again and again, or each on a fresh copy of it; both sides begin with the same line.
@@ -45,18 +48,29 @@ impl Subject {
         theirs: impl Fn(&mut T) + 'static,
     ) -> Self {
         let [ours, theirs] = [turn_on(calls, first.clone(), is_fresh, ours), turn_on(calls, first, is_fresh, theirs)];
-        Subject { name, calls, ours, theirs }
+        Subject { name, calls, ours, theirs: Some(theirs) }
     }
 
-    /// How long the two sides take.
+    /// So many calls that the crate has no counterpart of, on one line, again and again.
+    pub fn of_ours<T: Worked>(name: String, calls: usize, line: T, ours: impl Fn(&mut T) + 'static) -> Self {
+        Subject { name, calls, ours: turn_on(calls, line, false, ours), theirs: None }
+    }
+
+    /// How long the sides take.
     pub fn measured(mut self) -> Figure {
-        let turns: Vec<_> =
-            (0..TURNS).map(|_| (time(&mut self.ours, self.calls), time(&mut self.theirs, self.calls))).collect();
+        let mut turns = Vec::new();
+        for _ in 0..TURNS {
+            let ours = time(&mut self.ours, self.calls);
+            turns.push((ours, self.theirs.as_mut().map(|theirs| time(theirs, self.calls))));
+        }
         let [_, ours, _] = quartiles(turns.iter().map(|(ours, _)| ours.0));
-        let [_, theirs, _] = quartiles(turns.iter().map(|(_, theirs)| theirs.0));
-        let [lower, _, upper] = quartiles(turns.iter().map(|(ours, theirs)| ours.0 / theirs.0));
-        let is_same = turns.iter().all(|(ours, theirs)| ours.1 == theirs.1);
-        Figure { name: self.name, ours, theirs, lower, upper, is_same }
+        let pairs = || turns.iter().filter_map(|(ours, theirs)| Some((ours, theirs.as_ref()?)));
+        let beside = self.theirs.map(|_| {
+            let [_, theirs, _] = quartiles(pairs().map(|(_, theirs)| theirs.0));
+            let [lower, _, upper] = quartiles(pairs().map(|(ours, theirs)| ours.0 / theirs.0));
+            Beside { theirs, lower, upper, is_same: pairs().all(|(ours, theirs)| ours.1 == theirs.1) }
+        });
+        Figure { name: self.name, ours, beside }
     }
 }
 
@@ -102,15 +116,6 @@ fn nanoseconds() -> i64 {
     time[0] * 1_000_000_000 + time[1]
 }
 
-/// The median nanoseconds of a call that only one side has.
-pub fn time_alone(calls: usize, mut call: impl FnMut() + 'static) -> f64 {
-    let mut turn: Turn = Box::new(move || {
-        (0..calls).for_each(|_| call());
-        0
-    });
-    quartiles((0..TURNS).map(|_| time(&mut turn, calls).0))[1]
-}
-
 /// The numbers that a quarter, a half and three quarters are not above.
 fn quartiles(numbers: impl Iterator<Item = f64>) -> [f64; 3] {
     let mut numbers: Vec<f64> = numbers.collect();
@@ -118,36 +123,52 @@ fn quartiles(numbers: impl Iterator<Item = f64>) -> [f64; 3] {
     [1, 2, 3].map(|quarter| numbers[numbers.len() * quarter / 4])
 }
 
-/// The median times of a call, and the quartiles of the ratios of turns.
+/// The median time of a call, and what stands beside it.
 pub struct Figure {
     name: String,
     ours: f64,
+    beside: Option<Beside>,
+}
+
+/// The median time of the other side's call, and the quartiles of the ratios of turns.
+struct Beside {
     theirs: f64,
     lower: f64,
     upper: f64,
-    /// Whether both sides found the same.
-    pub is_same: bool,
+    is_same: bool,
 }
 
 impl Figure {
+    /// Whether both sides found the same, where there are two.
+    pub fn is_same(&self) -> bool {
+        self.beside.as_ref().map_or(true, |beside| beside.is_same)
+    }
+
     /// The figure in a line.
     pub fn describe(&self) -> String {
-        let Figure { name, ours, theirs, lower, upper, .. } = self;
-        format!("{:56} {:.2} ({:.2} to {:.2}): {:.1} ns to {:.1} ns", name, ours / theirs, lower, upper, ours, theirs)
+        let Figure { name, ours, beside } = self;
+        match beside {
+            None => format!("{:64} {:.1} ns", name, ours),
+            Some(Beside { theirs, lower, upper, .. }) => {
+                let ratio = ours / theirs;
+                format!("{:64} {:.2} ({:.2} to {:.2}): {:.1} ns to {:.1} ns", name, ratio, lower, upper, ours, theirs)
+            }
+        }
     }
 
     /// The figure as a row of a table, which has this head.
     pub fn row(&self) -> String {
-        let Figure { name, ours, theirs, lower, upper, .. } = self;
-        format!(
-            "| {} | {:.2} | {:.2} to {:.2} | {:.1} ns | {:.1} ns |",
-            name,
-            ours / theirs,
-            lower,
-            upper,
-            ours,
-            theirs
-        )
+        let Figure { name, ours, beside } = self;
+        match beside {
+            None => format!("| {} | | | {:.1} ns | |", name, ours),
+            Some(Beside { theirs, lower, upper, .. }) => {
+                let ratio = ours / theirs;
+                format!(
+                    "| {} | {:.2} | {:.2} to {:.2} | {:.1} ns | {:.1} ns |",
+                    name, ratio, lower, upper, ours, theirs
+                )
+            }
+        }
     }
 }
 
