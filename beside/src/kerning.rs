@@ -193,10 +193,21 @@ pub fn are_roomy(along: &[i64], length: u64) -> bool {
 }
 
 /// A line with the adjustments that are lent with it.
-#[derive(Clone)]
 pub struct Kerned {
     pub line: Line,
     pub along: Vec<i64>,
+}
+
+impl Clone for Kerned {
+    fn clone(&self) -> Self {
+        Kerned { line: self.line.clone(), along: self.along.clone() }
+    }
+
+    /// Takes no new memory where the parts are as long as those copied.
+    fn clone_from(&mut self, other: &Self) {
+        self.line.clone_from(&other.line);
+        self.along.clone_from(&other.along);
+    }
 }
 
 impl Kerned {

@@ -90,26 +90,57 @@ fn with_subtables(random: &mut Random, count: usize) -> Vec<u8> {
     morx(&[chain(1, &[], &subtables)])
 }
 
-/// A subtable of this kind: a machine of one state with any of the classes 4 to 7 for a glyph, and these entries for its
-/// classes.
-fn one_state(random: &mut Random, kind: u32, format: u16, entries: [&[u16]; 8], more: &[Vec<u8>]) -> Vec<u8> {
+/// A class table of this format with any of the classes 4 to 7 for a glyph.
+fn any_classes(random: &mut Random, format: u16) -> Vec<u8> {
     let classes: Vec<u16> = (0..CLASSED).map(|_| 4 + random.below(4) as u16).collect();
-    let numbers: Vec<u16> = (0..8).collect();
-    let parts = [with_values(format, 0, &classes), words(&numbers), words(&entries.concat())];
-    subtable(kind, &machine(8, &[&parts, more].concat()))
+    with_values(format, 0, &classes)
 }
 
-/// Passes that do nothing, and passes that move a few glyphs at one place of four.
+/// What the machines of a kind do.
+pub struct Actions {
+    kind: u32,
+    pub entry: Entry,
+    /// The entries, but for their new state, for the classes from 0 to 3 and for each from 4 to 7.
+    none: Vec<u16>,
+    acts: [Vec<u16>; 4],
+    /// What the kind has behind its entries.
+    more: Vec<Vec<u8>>,
+}
+
+impl Actions {
+    /// The subtable of so many states with this class table. Where there are several, the classes from 8 to 11 do what those
+    /// from 4 to 7 do, and go on to the next state.
+    pub fn subtable(&self, class_table: Vec<u8>, states: u16) -> Vec<u8> {
+        let classes = if states == 1 { 8 } else { 12 };
+        let rows: Vec<u16> = (0..states * classes).collect();
+        let entry = |row: &u16| {
+            let (state, class) = (row / classes, row % classes);
+            let next = if class < 8 { state } else { (state + 1) % states };
+            let act = if class < 4 { &self.none } else { &self.acts[usize::from(class % 4)] };
+            [&[next], &act[..]].concat()
+        };
+        let entries: Vec<u16> = rows.iter().flat_map(entry).collect();
+        let parts = [class_table, words(&rows), words(&entries)];
+        subtable(self.kind, &machine(classes, &[&parts, &self.more[..]].concat()))
+    }
+}
+
+/// Nothing, or a few glyphs are moved at one place of four.
+pub fn rearranging(does_move: bool) -> Actions {
+    let none = vec![0];
+    let verbs = if does_move { [0, 0x8000, 0x2003, 0x2000] } else { [0; 4] };
+    let acts = verbs.map(|flags| vec![flags]);
+    Actions { kind: 0, entry: Entry::RearrangementPass, none, acts, more: vec![] }
+}
+
 fn rearrangement_passes(random: &mut Random) -> [Pass; 3] {
-    let none: &[u16] = &[0, 0];
-    let verbs: [&[u16]; 8] = [none, none, none, none, none, &[0, 0x8000], &[0, 0x2003], &[0, 0x2000]];
     let passes = [
-        ("rearrangement, format 8, no verbs", 8, [none; 8]),
-        ("rearrangement, format 8, verbs", 8, verbs),
-        ("rearrangement, format 6, verbs", 6, verbs),
+        ("rearrangement, format 8, no verbs", 8, false),
+        ("rearrangement, format 8, verbs", 8, true),
+        ("rearrangement, format 6, verbs", 6, true),
     ];
-    passes.map(|(name, format, entries)| {
-        let table = one_state(random, 0, format, entries, &[]);
+    passes.map(|(name, format, does_move)| {
+        let table = rearranging(does_move).subtable(any_classes(random, format), 1);
         Pass { name, entry: Entry::RearrangementPass, table }
     })
 }
@@ -127,34 +158,48 @@ fn noncontextual_passes() -> [Pass; 2] {
     })
 }
 
-/// Passes that do nothing, and passes that mark one glyph of four, and change one and the marked one at two others.
+const NO_LIST: u16 = 0xFFFF;
+
+/// Nothing, or one glyph of four is marked, and one and the marked one change at two others.
+pub fn contextual(does_change: bool) -> Actions {
+    let none = vec![0, NO_LIST, NO_LIST];
+    let acts = [[0, NO_LIST, NO_LIST], [0x8000, NO_LIST, NO_LIST], [0, NO_LIST, 0], [0, 0, NO_LIST]];
+    let acts = acts.map(|act| if does_change { act.to_vec() } else { none.clone() });
+    let more = vec![[words(&[0, 4]), neighbours(8)].concat()];
+    Actions { kind: 1, entry: Entry::ContextualPass, none, acts, more }
+}
+
 fn contextual_passes(random: &mut Random) -> [Pass; 2] {
-    let none: &[u16] = &[0, 0, 0xFFFF, 0xFFFF];
-    let changes: [&[u16]; 8] =
-        [none, none, none, none, none, &[0, 0x8000, 0xFFFF, 0xFFFF], &[0, 0, 0xFFFF, 0], &[0, 0, 0, 0xFFFF]];
-    let passes = [("contextual, format 8, no changes", [none; 8]), ("contextual, format 8, changes", changes)];
-    passes.map(|(name, entries)| {
-        let substitutions = [words(&[0, 4]), neighbours(8)].concat();
-        let table = one_state(random, 1, 8, entries, &[substitutions]);
+    let passes = [("contextual, format 8, no changes", false), ("contextual, format 8, changes", true)];
+    passes.map(|(name, does_change)| {
+        let table = contextual(does_change).subtable(any_classes(random, 8), 1);
         Pass { name, entry: Entry::ContextualPass, table }
     })
 }
 
-/// Two glyphs of four are pushed, of which one makes a ligature of two, and one of four empties the stack.
-fn ligature_pass(random: &mut Random) -> Pass {
-    let none: &[u16] = &[0, 0, 0];
-    let entries: [&[u16]; 8] = [none, none, none, none, none, &[0, 0x8000, 0], &[0, 0xA000, 0], &[0, 0x2000, 2]];
+/// Two glyphs of four are pushed, of which one makes a ligature of two, and one of four empties the stack. All are below this
+/// number.
+pub fn ligating(glyphs: u16) -> Actions {
+    let acts = [[0, 0], [0x8000, 0], [0xA000, 0], [0x2000, 2]].map(Vec::from);
     let actions = [[0, 0], [0x8000, 0], [0; 2]].concat();
     let actions = [actions, vec![0; 2 * 40]].concat();
-    let lists = [words(&actions), words(&[0; CLASSED as usize]), words(&[7; 8])];
-    Pass { name: "ligature, format 8", entry: Entry::LigaturePass, table: one_state(random, 2, 8, entries, &lists) }
+    let more = vec![words(&actions), words(&vec![0; glyphs.into()]), words(&[7; 8])];
+    Actions { kind: 2, entry: Entry::LigaturePass, none: vec![0, 0], acts, more }
+}
+
+fn ligature_pass(random: &mut Random) -> Pass {
+    let table = ligating(CLASSED).subtable(any_classes(random, 8), 1);
+    Pass { name: "ligature, format 8", entry: Entry::LigaturePass, table }
 }
 
 /// So many glyphs are put in behind one glyph of four, and one of four is marked.
+pub fn inserting(count: u16) -> Actions {
+    let none = vec![0, NO_LIST, NO_LIST];
+    let acts = [none.clone(), vec![0x8000, NO_LIST, NO_LIST], vec![count << 5, 0, NO_LIST], none.clone()];
+    Actions { kind: 5, entry: Entry::InsertionPass, none, acts, more: vec![words(&[7; 8])] }
+}
+
 fn insertion_pass(random: &mut Random, count: u16) -> Pass {
-    let none: &[u16] = &[0, 0, 0xFFFF, 0xFFFF];
-    let entries: [&[u16]; 8] =
-        [none, none, none, none, none, &[0, 0x8000, 0xFFFF, 0xFFFF], &[0, count << 5, 0, 0xFFFF], none];
-    let table = one_state(random, 5, 8, entries, &[words(&[7; 8])]);
+    let table = inserting(count).subtable(any_classes(random, 8), 1);
     Pass { name: "insertion, format 8", entry: Entry::InsertionPass, table }
 }

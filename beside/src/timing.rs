@@ -18,7 +18,7 @@ type Turn = Box<dyn FnMut() -> u64>;
 /// So many turns are taken, ours and theirs one after the other.
 pub const TURNS: usize = 101;
 
-/// What calls change: each turn of one side begins with what its last left, or with a copy of the first.
+/// What calls change.
 pub trait Worked: Clone + 'static {
     /// A number that depends on what calls change, but takes little time.
     fn glance(&self) -> u64;
@@ -47,13 +47,29 @@ impl Subject {
         ours: impl Fn(&mut T) + 'static,
         theirs: impl Fn(&mut T) + 'static,
     ) -> Self {
-        let [ours, theirs] = [turn_on(calls, first.clone(), is_fresh, ours), turn_on(calls, first, is_fresh, theirs)];
+        if is_fresh {
+            return Subject::of_lines(name, calls, vec![first], ours, theirs);
+        }
+        let [ours, theirs] = [turn_on(calls, first.clone(), ours), turn_on(calls, first, theirs)];
+        Subject { name, calls, ours, theirs: Some(theirs) }
+    }
+
+    /// So many calls, each on a fresh copy of the next of these lines, which both sides have to copy.
+    pub fn of_lines<T: Worked>(
+        name: String,
+        calls: usize,
+        lines: Vec<T>,
+        ours: impl Fn(&mut T) + 'static,
+        theirs: impl Fn(&mut T) + 'static,
+    ) -> Self {
+        let lines = Rc::new(lines);
+        let [ours, theirs] = [turn_over(calls, lines.clone(), ours), turn_over(calls, lines, theirs)];
         Subject { name, calls, ours, theirs: Some(theirs) }
     }
 
     /// So many calls that the crate has no counterpart of, on one line, again and again.
     pub fn of_ours<T: Worked>(name: String, calls: usize, line: T, ours: impl Fn(&mut T) + 'static) -> Self {
-        Subject { name, calls, ours: turn_on(calls, line, false, ours), theirs: None }
+        Subject { name, calls, ours: turn_on(calls, line, ours), theirs: None }
     }
 
     /// How long the sides take.
@@ -74,13 +90,21 @@ impl Subject {
     }
 }
 
-fn turn_on<T: Worked>(calls: usize, first: T, is_fresh: bool, call: impl Fn(&mut T) + 'static) -> Turn {
-    let mut line = first.clone();
+fn turn_on<T: Worked>(calls: usize, mut line: T, call: impl Fn(&mut T) + 'static) -> Turn {
     Box::new(move || {
-        for _ in 0..calls {
-            if is_fresh {
-                line.clone_from(&first);
-            }
+        (0..calls).for_each(|_| call(&mut line));
+        line.glance()
+    })
+}
+
+/// Each turn begins one line further, so that the glance at its end is at another.
+fn turn_over<T: Worked>(calls: usize, lines: Rc<Vec<T>>, call: impl Fn(&mut T) + 'static) -> Turn {
+    let mut line = lines[0].clone();
+    let mut first = 0;
+    Box::new(move || {
+        first = (first + 1) % lines.len();
+        for fresh in lines.iter().cycle().skip(first).take(calls) {
+            line.clone_from(fresh);
             call(&mut line);
         }
         line.glance()
