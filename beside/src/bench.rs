@@ -29,8 +29,10 @@ mod rearrange;
 mod sides;
 #[allow(dead_code)]
 mod state_tables;
+mod text;
 mod timed_kerning;
 mod timed_passes;
+mod timed_text;
 mod timing;
 
 use language_tables::with_tags;
@@ -54,6 +56,7 @@ fn main() -> ExitCode {
     let mut rest: Vec<String> = words.collect();
     let word = if rest.first().map_or(false, |word| word == "--only") { rest.drain(..2).nth(1) } else { None };
     println!("{}\ntime of a call, ours to the crate's: ratio of the medians of {} turns (quartiles)", processor, TURNS);
+    println!("text: glyphs as text repeats them, from {} of which that of rank n has weight 1/n", text::TEXT_GLYPHS);
     let mut is_same = true;
     let mut tables = processor;
     for (heading, subjects) in chosen(groups(&mut Random::new(1)), &word.unwrap_or_default()) {
@@ -102,12 +105,17 @@ fn groups(random: &mut Random) -> Vec<Group> {
     let runs = timed_passes::runs(random);
     let kerning = timed_kerning::subjects(random);
     verbs.push(line_test(random));
+    let [searches, lines, states] =
+        [timed_text::searches, timed_text::lines, timed_text::states].map(|made| made(random));
     vec![
         ("Lookups, classes and languages", looked_up),
         ("Verbs", verbs),
         ("Passes of morx", passes),
         ("Runs of morx", runs),
         ("Passes and runs of kern and kerx", kerning),
+        ("Passes by class tables that are searched, over one line", searches),
+        ("Passes over lines that differ", lines),
+        ("Machines of several states", states),
     ]
 }
 

@@ -1,7 +1,7 @@
 //! Passes and runs of kern and kerx whose times are taken.
 
 use crate::kerning::{Kerned, Kerning, ALONE_AT};
-use crate::kerning_tables::{classes, Edition, Entry, Pair, Parts, NONE, PUSH};
+use crate::kerning_tables::{classes, Edition, Entry, Pair, Parts, NONE, PUSH, RESET};
 use crate::line::Line;
 use crate::lookup_tables::with_values;
 use crate::random::Random;
@@ -10,7 +10,7 @@ use crate::timing::Subject;
 use crate::{calls_on, grouped, LENGTHS};
 
 const KERN: Edition = Edition::new(Kerning::Kern, 1, 0);
-const KERX: Edition = Edition::new(Kerning::Kerx, 2, 0);
+pub const KERX: Edition = Edition::new(Kerning::Kerx, 2, 0);
 
 /// Every pass and both runs on lines of every length, and passes by lists of more and more pairs.
 pub fn subjects(random: &mut Random) -> Vec<Subject> {
@@ -73,21 +73,53 @@ fn class_pairs(random: &mut Random) -> Vec<u8> {
     KERX.subtable(KERX.plain(), 2, &classes(16, left, right, &numbers))
 }
 
-/// A machine that pushes one glyph of three classes, and at the next of them pushes it and kerns both.
 fn machine(random: &mut Random, edition: Edition) -> Vec<u8> {
     let class_of: Vec<u8> = (0..GLYPHS).map(|_| 4 + random.below(4) as u8).collect();
+    edition.subtable(edition.plain(), 1, &of_two_states(edition, &class_of))
+}
+
+/// A machine's body that pushes one glyph of three classes, and at the next of them pushes it and kerns both.
+fn of_two_states(edition: Edition, class_of: &[u8]) -> Vec<u8> {
     let rows = [[0, 0, 0, 0, 1, 1, 1, 0], [3, 3, 3, 3, 2, 2, 2, 3]].concat();
-    let entry = |state, flags, list| Entry { state, flags, list };
     let entries = [entry(0, 0, NONE), entry(1, PUSH, NONE), entry(0, PUSH, 0), entry(1, 0, NONE)];
-    let body = edition.machine(&Parts {
+    edition.machine(&Parts {
         first: 0,
-        classes: &class_of,
+        classes: class_of,
         count: 8,
         rows: &rows,
         entries: &entries,
         lists: &[20, 41, 61],
-    });
-    edition.subtable(edition.plain(), 1, &body)
+    })
+}
+
+/// A machine's body that kerns one glyph of four by itself; the classes from 8 on do what those from 4 to 7 do, and go on to the
+/// next state.
+fn of_states(states: u16) -> Vec<u8> {
+    let rows: Vec<u8> = (0..12 * states as u8).collect();
+    let act = |row: &u8| {
+        let (state, class) = (u16::from(row / 12), row % 12);
+        let next = if class < 8 { state } else { (state + 1) % states };
+        match class {
+            5 | 9 => entry(next, RESET, NONE),
+            6 | 10 => entry(next, PUSH, 0),
+            _ => entry(next, 0, NONE),
+        }
+    };
+    let entries: Vec<Entry> = rows.iter().map(act).collect();
+    KERX.machine(&Parts { first: 0, classes: &[], count: 12, rows: &rows, entries: &entries, lists: &[20, 41] })
+}
+
+fn entry(state: u16, flags: u16, list: u16) -> Entry {
+    Entry { state, flags, list }
+}
+
+/// A subtable of kerx with a machine of two states, or of so many, and this class table.
+pub fn kerx_machine(class_table: Vec<u8>, states: u16) -> Vec<u8> {
+    let mut body = if states == 1 { of_two_states(KERX, &[]) } else { of_states(states) };
+    let at = body.len() as u32;
+    body[4..8].copy_from_slice(&at.to_be_bytes());
+    body.extend(class_table);
+    KERX.subtable(KERX.plain(), 1, &body)
 }
 
 fn any_kerned(random: &mut Random, length: usize) -> Kerned {

@@ -4,10 +4,12 @@ use crate::entries::Entry;
 use crate::line::Line;
 use crate::lookup_tables::{with_values, words};
 use crate::morx_tables::{chain, in_chain, machine, morx, subtable};
+use crate::pass::line_of;
 use crate::random::Random;
 use crate::sides::{ours, theirs};
 use crate::timing::Subject;
 use crate::{calls_on, grouped, LENGTHS};
+use std::rc::Rc;
 
 /// Every pass on lines of every length.
 pub fn passes(random: &mut Random) -> Vec<Subject> {
@@ -75,6 +77,16 @@ fn run(random: &mut Random, name: String, table: &[u8], length: usize) -> Subjec
     let ours = move |line: &mut Line| ours::run(line, &our_table);
     let theirs = move |line: &mut Line| theirs::run(line, &their_table);
     Subject::of_work(name, calls_on(length), line, true, ours, theirs)
+}
+
+/// A run over lines that differ, of these glyphs.
+pub fn run_over(random: &mut Random, name: String, glyphs: &[Vec<u16>]) -> Subject {
+    let lines: Vec<Line> = glyphs.iter().map(|glyphs| line_of(glyphs, glyphs.len())).collect();
+    let table = Rc::new(with_subtables(random, 10));
+    let our_table = table.clone();
+    let ours = move |line: &mut Line| ours::run(line, &our_table);
+    let theirs = move |line: &mut Line| theirs::run(line, &table);
+    Subject::of_lines(name, lines.len(), lines, ours, theirs)
 }
 
 /// A table of so many subtables, of all kinds in turn; those that could put glyphs in only mark them.

@@ -172,10 +172,10 @@ impl Figure {
     pub fn describe(&self) -> String {
         let Figure { name, ours, beside } = self;
         match beside {
-            None => format!("{:64} {:.1} ns", name, ours),
+            None => format!("{:78} {:.1} ns", name, ours),
             Some(Beside { theirs, lower, upper, .. }) => {
                 let ratio = ours / theirs;
-                format!("{:64} {:.2} ({:.2} to {:.2}): {:.1} ns to {:.1} ns", name, ratio, lower, upper, ours, theirs)
+                format!("{:78} {:.2} ({:.2} to {:.2}): {:.1} ns to {:.1} ns", name, ratio, lower, upper, ours, theirs)
             }
         }
     }
