@@ -32,6 +32,7 @@ mod state_tables;
 mod text;
 mod timed_kerning;
 mod timed_passes;
+mod timed_shaping;
 mod timed_text;
 mod timing;
 
@@ -59,7 +60,7 @@ fn main() -> ExitCode {
     println!("text: glyphs as text repeats them, from {} of which that of rank n has weight 1/n", text::TEXT_GLYPHS);
     let mut is_same = true;
     let mut tables = processor;
-    for (heading, subjects) in chosen(groups(&mut Random::new(1)), &word.unwrap_or_default()) {
+    for Group { heading, subjects, note } in chosen(groups(&mut Random::new(1)), &word.unwrap_or_default()) {
         println!("\n{}", heading);
         tables += &format!("\n\n### {}\n\n{}", heading, TABLE_HEAD);
         for subject in subjects {
@@ -67,6 +68,10 @@ fn main() -> ExitCode {
             println!("{}", figure.describe());
             tables += &format!("\n{}", figure.row());
             is_same &= figure.is_same();
+        }
+        if !note.is_empty() {
+            println!("{}", note);
+            tables += &format!("\n\n{}", note);
         }
     }
     if let Some(file) = rest.first() {
@@ -83,16 +88,12 @@ fn main() -> ExitCode {
 }
 
 /// The subjects whose names have this word in them, in the groups that have any.
-fn chosen(groups: Vec<Group>, word: &str) -> Vec<Group> {
-    let choose = |(heading, subjects): Group| {
-        let subjects: Vec<Subject> = subjects.into_iter().filter(|subject| subject.name.contains(word)).collect();
-        if subjects.is_empty() {
-            None
-        } else {
-            Some((heading, subjects))
-        }
-    };
-    groups.into_iter().filter_map(choose).collect()
+fn chosen(mut groups: Vec<Group>, word: &str) -> Vec<Group> {
+    for group in &mut groups {
+        group.subjects.retain(|subject| subject.name.contains(word));
+    }
+    groups.retain(|group| !group.subjects.is_empty());
+    groups
 }
 
 fn groups(random: &mut Random) -> Vec<Group> {
@@ -108,14 +109,15 @@ fn groups(random: &mut Random) -> Vec<Group> {
     let [searches, lines, states] =
         [timed_text::searches, timed_text::lines, timed_text::states].map(|made| made(random));
     vec![
-        ("Lookups, classes and languages", looked_up),
-        ("Verbs", verbs),
-        ("Passes of morx", passes),
-        ("Runs of morx", runs),
-        ("Passes and runs of kern and kerx", kerning),
-        ("Passes by class tables that are searched, over one line", searches),
-        ("Passes over lines that differ", lines),
-        ("Machines of several states", states),
+        Group::new("Lookups, classes and languages", looked_up),
+        Group::new("Verbs", verbs),
+        Group::new("Passes of morx", passes),
+        Group::new("Runs of morx", runs),
+        Group::new("Passes and runs of kern and kerx", kerning),
+        Group::new("Passes by class tables that are searched, over one line", searches),
+        Group::new("Passes over lines that differ", lines),
+        Group::new("Machines of several states", states),
+        timed_shaping::group(random),
     ]
 }
 

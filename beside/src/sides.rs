@@ -37,11 +37,17 @@ impl Worked for Kerned {
     }
 }
 
+/// The tables that a line is shaped and kerned by; kerx's begins behind a few bytes, as the crate takes none at 0.
+pub struct Tables {
+    pub morx: Vec<u8>,
+    pub kerx: Vec<u8>,
+}
+
 /// The proved entries.
 pub mod ours {
-    use super::{Kerned, Line};
+    use super::{Kerned, Line, Tables};
     use crate::entries::Entry;
-    use crate::kerning::Kerning;
+    use crate::kerning::{Kerning, ALONE_AT};
 
     extern "C" {
         fn aat_lookup(table: *const u8, table_len: usize, start: usize, glyph: u16, value: *mut u32) -> u32;
@@ -54,6 +60,15 @@ pub mod ours {
             name: *const u8,
             name_len: usize,
             value: *mut u32,
+        ) -> u32;
+        fn aat_fresh(
+            glyphs: *const u16,
+            glyphs_len: usize,
+            tags: *mut u16,
+            tags_len: usize,
+            homes: *mut u16,
+            homes_len: usize,
+            used: *mut u64,
         ) -> u32;
         fn aat_verb(
             glyphs: *mut u16,
@@ -208,12 +223,24 @@ pub mod ours {
             Kerning::Kerx => call!(aat_kerx_run, table, start, [0], line, [length, along, room, &mut heads]),
         }
     }
+
+    /// Starts a line of the glyphs that stand in its first places, shapes it and kerns it.
+    #[inline(always)]
+    pub fn shape(kerned: &mut Kerned, tables: &Tables) {
+        let line = &mut kerned.line;
+        let (glyphs, tags, homes) = (line.glyphs.as_ptr(), line.tags.as_mut_ptr(), line.homes.as_mut_ptr());
+        let (room, characters) = (line.glyphs.len(), line.homes.len());
+        let answer = unsafe { aat_fresh(glyphs, room, tags, room, homes, characters, &mut line.used) };
+        assert_eq!(answer, 0, "a fresh line");
+        run(line, &tables.morx);
+        kerning_run(Kerning::Kerx, kerned, &tables.kerx, ALONE_AT);
+    }
 }
 
 /// The crate, each call a call as ours are, so that no part of it leaves the loop.
 pub mod theirs {
-    use super::{Kerned, Line};
-    use crate::kerning::{Kerning, Subtable};
+    use super::{Kerned, Line, Tables};
+    use crate::kerning::{Kerning, Subtable, ALONE_AT};
     use crate::morx_tables::the_subtable;
     use crate::oracle::aat::{self, kern, kerx, morx, ExtendedStateTable, StateTable};
     use crate::oracle::Bytes;
@@ -257,6 +284,7 @@ pub mod theirs {
         let subtable = the_subtable(table).expect("a subtable");
         assert_eq!(passes_by_crate::pass(&subtable, line).number(), 0, "a pass over a line");
     }
+
     /// A run of a morx table over the line, from left to right.
     #[inline(never)]
     pub fn run(line: &mut Line, table: &[u8]) {
@@ -305,6 +333,19 @@ pub mod theirs {
                     }
                 }),
         }
+    }
+
+    /// Starts a line of the glyphs that stand in its first places, shapes it and kerns it.
+    #[inline(never)]
+    pub fn shape(kerned: &mut Kerned, tables: &Tables) {
+        let Line { tags, homes, used, .. } = &mut kerned.line;
+        for (character, (tag, home)) in tags.iter_mut().zip(homes.iter_mut()).enumerate() {
+            *tag = character as u16;
+            *home = character as u16;
+        }
+        *used = homes.len() as u64;
+        run(&mut kerned.line, &tables.morx);
+        kerning_run(Kerning::Kerx, kerned, &tables.kerx, ALONE_AT);
     }
 
     fn add(kerned: &mut Kerned, subtable: Option<Subtable>) {

@@ -49,7 +49,7 @@ fn passes(random: &mut Random) -> Vec<(Edition, &'static str, Vec<u8>)> {
         (KERN, "2,000 ordered pairs", kern_pairs),
         (KERN, "machine", kern_machine),
         (KERX, "2,000 ordered pairs", kerx_pairs),
-        (KERX, "class pairs", class_pairs(random)),
+        (KERX, "class pairs", class_pairs(random, GLYPHS)),
         (KERX, "machine", kerx_machine),
     ]
 }
@@ -65,9 +65,9 @@ fn ordered_pairs(random: &mut Random, edition: Edition, count: usize) -> Vec<u8>
     edition.subtable(edition.plain(), 0, &edition.pairs(count as u32, &pairs))
 }
 
-/// Eight classes of left glyphs and eight of right ones, for all glyphs.
-fn class_pairs(random: &mut Random) -> Vec<u8> {
-    let mut any_classes = |size: u16| -> Vec<u16> { (0..GLYPHS).map(|_| size * random.below(8) as u16).collect() };
+/// Eight classes of left glyphs and eight of right ones, for all glyphs below this number.
+pub fn class_pairs(random: &mut Random, glyphs: u16) -> Vec<u8> {
+    let mut any_classes = |size: u16| -> Vec<u16> { (0..glyphs).map(|_| size * random.below(8) as u16).collect() };
     let [left, right] = [16, 2].map(|size| with_values(8, 0, &any_classes(size)));
     let numbers: Vec<u16> = (0..64).map(|number| number * 3).collect();
     KERX.subtable(KERX.plain(), 2, &classes(16, left, right, &numbers))

@@ -124,11 +124,33 @@ impl Actions {
     /// from 4 to 7 do, and go on to the next state.
     pub fn subtable(&self, class_table: Vec<u8>, states: u16) -> Vec<u8> {
         let classes = if states == 1 { 8 } else { 12 };
+        self.machine(class_table, classes, states, |state, class| {
+            let next = if class < 8 { state } else { (state + 1) % states };
+            (next, if class < 4 { &self.none } else { &self.acts[usize::from(class % 4)] })
+        })
+    }
+
+    /// The subtable with this class table that acts where a glyph of class 5 is next to one of class 4, as most do: what it
+    /// does at class 5 otherwise at the first, and what at class 6 at the other.
+    pub fn of_neighbours(&self, class_table: Vec<u8>) -> Vec<u8> {
+        self.machine(class_table, 8, 3, |state, class| match (state, class) {
+            (_, 4) => (2, &self.acts[1]),
+            (2, 5) => (0, &self.acts[2]),
+            _ => (0, &self.none),
+        })
+    }
+
+    /// The subtable with these entries, each for a state and a class: the new state and what is done.
+    fn machine<'a>(
+        &self,
+        class_table: Vec<u8>,
+        classes: u16,
+        states: u16,
+        entry: impl Fn(u16, u16) -> (u16, &'a Vec<u16>),
+    ) -> Vec<u8> {
         let rows: Vec<u16> = (0..states * classes).collect();
         let entry = |row: &u16| {
-            let (state, class) = (row / classes, row % classes);
-            let next = if class < 8 { state } else { (state + 1) % states };
-            let act = if class < 4 { &self.none } else { &self.acts[usize::from(class % 4)] };
+            let (next, act) = entry(row / classes, row % classes);
             [&[next], &act[..]].concat()
         };
         let entries: Vec<u16> = rows.iter().flat_map(entry).collect();

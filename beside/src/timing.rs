@@ -10,8 +10,19 @@ pub struct Subject {
     theirs: Option<Turn>,
 }
 
-/// Subjects under a heading.
-pub type Group = (&'static str, Vec<Subject>);
+/// Subjects under a heading, and what is to be said of them.
+pub struct Group {
+    pub heading: &'static str,
+    pub subjects: Vec<Subject>,
+    pub note: String,
+}
+
+impl Group {
+    /// Subjects of which nothing is to be said.
+    pub fn new(heading: &'static str, subjects: Vec<Subject>) -> Self {
+        Group { heading, subjects, note: String::new() }
+    }
+}
 
 type Turn = Box<dyn FnMut() -> u64>;
 
@@ -67,6 +78,11 @@ impl Subject {
         Subject { name, calls, ours, theirs: Some(theirs) }
     }
 
+    /// So many calls in each turn of either side.
+    pub fn of_turns(name: String, calls: usize, ours: impl FnMut() + 'static, theirs: impl FnMut() + 'static) -> Self {
+        Subject { name, calls, ours: summed(ours), theirs: Some(summed(theirs)) }
+    }
+
     /// So many calls that the crate has no counterpart of, on one line, again and again.
     pub fn of_ours<T: Worked>(name: String, calls: usize, line: T, ours: impl Fn(&mut T) + 'static) -> Self {
         Subject { name, calls, ours: turn_on(calls, line, ours), theirs: None }
@@ -88,6 +104,14 @@ impl Subject {
         });
         Figure { name: self.name, ours, beside }
     }
+}
+
+/// A turn that finds nothing to compare.
+fn summed(mut turn: impl FnMut() + 'static) -> Turn {
+    Box::new(move || {
+        turn();
+        0
+    })
 }
 
 fn turn_on<T: Worked>(calls: usize, mut line: T, call: impl Fn(&mut T) + 'static) -> Turn {
