@@ -2,6 +2,7 @@
 
 #[allow(dead_code)]
 mod entries;
+mod harfbuzz;
 #[allow(dead_code)]
 mod hex;
 #[allow(dead_code)]
@@ -26,6 +27,8 @@ mod passes_by_crate;
 mod random;
 #[allow(dead_code)]
 mod rearrange;
+#[allow(dead_code)]
+mod sfnt;
 mod sides;
 #[allow(dead_code)]
 mod state_tables;

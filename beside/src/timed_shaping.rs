@@ -1,5 +1,6 @@
 //! Lines whose times are taken from typed glyphs to kerned ones, as a box has them.
 
+use crate::harfbuzz::Harfbuzz;
 use crate::kerning::{Kerned, ALONE_AT};
 use crate::kerning_tables::Pair;
 use crate::line::{Line, DELETED};
@@ -22,10 +23,50 @@ pub fn group(random: &mut Random) -> Group {
     let kerx = KERX.table(&[ordered_pairs(random, &morx, &lines), class_pairs(random, GLYPHS)]);
     let tables = Rc::new(Tables { morx, kerx: [&[0; ALONE_AT], &kerx[..]].concat() });
     let name = format!("fresh, run of morx, run of kerx, text, {} lines of {} places", LINES, PLACES);
+    let (beside, note) = beside_harfbuzz(format!("{}, beside HarfBuzz", name), tables.clone(), &lines);
     let our_tables = tables.clone();
     let ours = move |kerned: &mut Kerned| ours::shape(kerned, &our_tables);
     let theirs = move |kerned: &mut Kerned| theirs::shape(kerned, &tables);
-    Group::new("A line from typed glyphs to kerned ones", vec![Subject::of_lines(name, LINES, lines, ours, theirs)])
+    let mut subjects = vec![Subject::of_lines(name, LINES, lines, ours, theirs)];
+    subjects.extend(beside);
+    Group { heading: "A line from typed glyphs to kerned ones", subjects, note }
+}
+
+/// The same with HarfBuzz in the crate's place, where it is there, and how its work is another.
+fn beside_harfbuzz(name: String, tables: Rc<Tables>, lines: &[Kerned]) -> (Option<Subject>, String) {
+    let mut harfbuzz = match Harfbuzz::open(GLYPHS, &tables.morx, &tables.kerx[ALONE_AT..]) {
+        Some(harfbuzz) => harfbuzz,
+        None => return (None, "HarfBuzz was not measured, as its library is not there".into()),
+    };
+    let typed = |kerned: &Kerned| Harfbuzz::typed(&kerned.line.glyphs[..kerned.line.length()]);
+    let characters: Vec<Vec<u32>> = lines.iter().map(typed).collect();
+    let mut line = lines[0].clone();
+    let mut differ = (lines.iter().zip(&characters)).filter_map(|(fresh, typed)| {
+        line.clone_from(fresh);
+        ours::shape(&mut line, &tables);
+        harfbuzz.shape(typed);
+        let (ours, its) = (left_of(&line.line), harfbuzz.glyphs());
+        (ours != its).then(|| format!("{:?} where ours are {:?}", its, ours))
+    });
+    let glyphs = match differ.next() {
+        None => "its glyphs are ours on every line, its kerning was not compared".into(),
+        Some(first) => format!("its glyphs differ on {} lines, on the first {}", 1 + differ.count(), first),
+    };
+    let note = format!(
+        "HarfBuzz {}, besides morx and kerx, sets its buffer up, maps characters to glyphs by cmap, sets advances, merges clusters \
+         and takes deleted glyphs out before it kerns; {}",
+        harfbuzz.version(),
+        glyphs
+    );
+    let fresh = lines.to_vec();
+    let ours = move || {
+        for kerned in &fresh {
+            line.clone_from(kerned);
+            ours::shape(&mut line, &tables);
+        }
+    };
+    let its = move || characters.iter().for_each(|typed| harfbuzz.shape(typed));
+    (Some(Subject::of_turns(name, lines.len(), ours, its)), note)
 }
 
 /// A line of these glyphs, in a room of twice its places, and its adjustments.
