@@ -53,17 +53,26 @@ const GLYPHS: usize = 50_000;
 const NAMES: usize = 500;
 const VERBS: usize = 100;
 
-/// bench PROCESSOR [--only WORD] [FILE]
+/// bench times PROCESSOR WORD [FILE]   the rows that have this word in their name
+/// bench counts WORD                   their turns for a tool that counts instructions, and their names and places
 fn main() -> ExitCode {
-    let mut words = std::env::args().skip(1);
-    let processor = format!("processor: {}", words.next().unwrap_or_default());
-    let mut rest: Vec<String> = words.collect();
-    let word = if rest.first().map_or(false, |word| word == "--only") { rest.drain(..2).nth(1) } else { None };
+    let words: Vec<String> = std::env::args().skip(1).collect();
+    let words: Vec<&str> = words.iter().map(String::as_str).collect();
+    match words[..] {
+        ["times", processor, word] => times(processor, word, None),
+        ["times", processor, word, file] => times(processor, word, Some(file)),
+        ["counts", word] => counts(word),
+        _ => ExitCode::from(2),
+    }
+}
+
+fn times(processor: &str, word: &str, file: Option<&str>) -> ExitCode {
+    let processor = format!("processor: {}", processor);
     println!("{}\ntime of a call, ours to the crate's: ratio of the medians of {} turns (quartiles)", processor, TURNS);
     println!("text: glyphs as text repeats them, from {} of which that of rank n has weight 1/n", text::TEXT_GLYPHS);
     let mut is_same = true;
     let mut tables = processor;
-    for Group { heading, subjects, note } in chosen(groups(&mut Random::new(1)), &word.unwrap_or_default()) {
+    for Group { heading, subjects, note } in chosen(groups(&mut Random::new(1)), word) {
         println!("\n{}", heading);
         tables += &format!("\n\n### {}\n\n{}", heading, TABLE_HEAD);
         for subject in subjects {
@@ -77,7 +86,7 @@ fn main() -> ExitCode {
             tables += &format!("\n\n{}", note);
         }
     }
-    if let Some(file) = rest.first() {
+    if let Some(file) = file {
         if let Err(error) = std::fs::write(file, tables + "\n") {
             eprintln!("{}: {}", file, error);
             return ExitCode::from(2);
@@ -86,6 +95,17 @@ fn main() -> ExitCode {
     if !is_same {
         println!("the two sides differ");
         return ExitCode::FAILURE;
+    }
+    ExitCode::SUCCESS
+}
+
+/// Of lines of 256 places, one line each: the places gone over, and the name.
+fn counts(word: &str) -> ExitCode {
+    for group in chosen(groups(&mut Random::new(1)), word) {
+        for subject in group.subjects.into_iter().filter(|subject| subject.name.ends_with(", 256 places")) {
+            let name = subject.name.clone();
+            println!("{}\t{}", subject.counted(), name);
+        }
     }
     ExitCode::SUCCESS
 }

@@ -24,6 +24,10 @@ fn some_places(line: &Line) -> [usize; 7] {
 }
 
 impl Worked for Line {
+    fn places(&self) -> usize {
+        self.length()
+    }
+
     fn glance(&self) -> u64 {
         let add = |seen, place: usize| seen * 31 + u64::from(self.glyphs[place]) * 7 + u64::from(self.tags[place]);
         some_places(self).into_iter().fold(self.used, add)
@@ -31,6 +35,10 @@ impl Worked for Line {
 }
 
 impl Worked for Kerned {
+    fn places(&self) -> usize {
+        self.line.length()
+    }
+
     fn glance(&self) -> u64 {
         let add = |seen: u64, place: usize| seen.wrapping_mul(31).wrapping_add(self.along[place] as u64);
         some_places(&self.line).into_iter().fold(self.line.glance(), add)

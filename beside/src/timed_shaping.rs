@@ -66,7 +66,7 @@ fn beside_harfbuzz(name: String, tables: Rc<Tables>, lines: &[Kerned]) -> (Optio
         }
     };
     let its = move || characters.iter().for_each(|typed| harfbuzz.shape(typed));
-    (Some(Subject::of_turns(name, lines.len(), ours, its)), note)
+    (Some(Subject::of_turns(name, PLACES, lines.len(), ours, its)), note)
 }
 
 /// A line of these glyphs, in a room of twice its places, and its adjustments.

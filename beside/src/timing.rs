@@ -5,6 +5,8 @@ use std::rc::Rc;
 /// What both sides do, or ours alone: in a turn, each makes so many calls and gives a sum of what they found.
 pub struct Subject {
     pub name: String,
+    /// How many places a call goes over.
+    pub places: usize,
     calls: usize,
     ours: Turn,
     theirs: Option<Turn>,
@@ -31,6 +33,9 @@ pub const TURNS: usize = 101;
 
 /// What calls change.
 pub trait Worked: Clone + 'static {
+    /// How many places it has.
+    fn places(&self) -> usize;
+
     /// A number that depends on what calls change, but takes little time.
     fn glance(&self) -> u64;
 }
@@ -46,7 +51,8 @@ impl Subject {
     ) -> Self {
         let calls = items.len();
         let asked = Rc::new((table, items));
-        Subject { name, calls, ours: turn(asked.clone(), ours), theirs: Some(turn(asked, theirs)) }
+        let [ours, theirs] = [turn(asked.clone(), ours), turn(asked, theirs)];
+        Subject { name, places: 1, calls, ours, theirs: Some(theirs) }
     }
 
     /// So many calls on one line, again and again, or each on a fresh copy of it; both sides begin with the same line.
@@ -61,8 +67,9 @@ impl Subject {
         if is_fresh {
             return Subject::of_lines(name, calls, vec![first], ours, theirs);
         }
+        let places = first.places();
         let [ours, theirs] = [turn_on(calls, first.clone(), ours), turn_on(calls, first, theirs)];
-        Subject { name, calls, ours, theirs: Some(theirs) }
+        Subject { name, places, calls, ours, theirs: Some(theirs) }
     }
 
     /// So many calls, each on a fresh copy of the next of these lines, which both sides have to copy.
@@ -73,19 +80,35 @@ impl Subject {
         ours: impl Fn(&mut T) + 'static,
         theirs: impl Fn(&mut T) + 'static,
     ) -> Self {
+        let places = lines[0].places();
         let lines = Rc::new(lines);
         let [ours, theirs] = [turn_over(calls, lines.clone(), ours), turn_over(calls, lines, theirs)];
-        Subject { name, calls, ours, theirs: Some(theirs) }
+        Subject { name, places, calls, ours, theirs: Some(theirs) }
     }
 
-    /// So many calls in each turn of either side.
-    pub fn of_turns(name: String, calls: usize, ours: impl FnMut() + 'static, theirs: impl FnMut() + 'static) -> Self {
-        Subject { name, calls, ours: summed(ours), theirs: Some(summed(theirs)) }
+    /// So many calls in each turn of either side, each over so many places.
+    pub fn of_turns(
+        name: String,
+        places: usize,
+        calls: usize,
+        ours: impl FnMut() + 'static,
+        theirs: impl FnMut() + 'static,
+    ) -> Self {
+        Subject { name, places, calls, ours: summed(ours), theirs: Some(summed(theirs)) }
     }
 
     /// So many calls that the crate has no counterpart of, on one line, again and again.
     pub fn of_ours<T: Worked>(name: String, calls: usize, line: T, ours: impl Fn(&mut T) + 'static) -> Self {
-        Subject { name, calls, ours: turn_on(calls, line, ours), theirs: None }
+        Subject { name, places: line.places(), calls, ours: turn_on(calls, line, ours), theirs: None }
+    }
+
+    /// Takes few turns and more of them, ours and then theirs, for a tool that counts instructions; and gives the places that
+    /// they go over beyond those of the few.
+    pub fn counted(mut self) -> usize {
+        for side in [Some(&mut self.ours), self.theirs.as_mut()].into_iter().flatten() {
+            [FEW_TURNS, MORE_TURNS].into_iter().for_each(|turns| counted_turns(side, turns));
+        }
+        self.places * self.calls * (MORE_TURNS - FEW_TURNS)
     }
 
     /// How long the sides take.
@@ -133,6 +156,18 @@ fn turn_over<T: Worked>(calls: usize, lines: Rc<Vec<T>>, call: impl Fn(&mut T) +
         }
         line.glance()
     })
+}
+
+const FEW_TURNS: usize = 1;
+const MORE_TURNS: usize = 3;
+
+/// So many turns; the tool knows it by its name.
+#[no_mangle]
+#[inline(never)]
+fn counted_turns(turn: &mut Turn, turns: usize) {
+    for _ in 0..turns {
+        turn();
+    }
 }
 
 fn turn<T: Copy + 'static>(asked: Rc<(Vec<u8>, Vec<T>)>, call: impl Fn(&[u8], T) -> Option<u32> + 'static) -> Turn {
