@@ -81,7 +81,7 @@ fn run(random: &mut Random, name: String, table: &[u8], length: usize) -> Subjec
 
 /// A run over lines that differ, of these glyphs.
 pub fn run_over(random: &mut Random, name: String, glyphs: &[Vec<u16>]) -> Subject {
-    let lines: Vec<Line> = glyphs.iter().map(|glyphs| line_of(glyphs, glyphs.len())).collect();
+    let lines: Vec<Line> = glyphs.iter().map(|glyphs| line_of(glyphs, 2 * glyphs.len())).collect();
     let table = Rc::new(with_subtables(random, 10));
     let our_table = table.clone();
     let ours = move |line: &mut Line| ours::run(line, &our_table);
