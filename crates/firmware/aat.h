@@ -14,7 +14,8 @@
 #ifndef AAT_H
 #define AAT_H
 
-/* The types of <stdint.h> and <stddef.h>, so that a program without them can include this header. */
+/* A program without <stdint.h> and <stddef.h> defines AAT_OWN_TYPES before it includes this header. */
+#ifdef AAT_OWN_TYPES
 typedef __UINT8_TYPE__ uint8_t;
 typedef __UINT16_TYPE__ uint16_t;
 typedef __UINT32_TYPE__ uint32_t;
@@ -22,6 +23,17 @@ typedef __UINT64_TYPE__ uint64_t;
 typedef __INT32_TYPE__ int32_t;
 typedef __INT64_TYPE__ int64_t;
 typedef __SIZE_TYPE__ size_t;
+#else
+#include <stddef.h>
+#include <stdint.h>
+#endif
+
+/* Rises with every entry or value that is added; what is there stays. */
+#define AAT_VERSION 1
+
+#ifdef __cplusplus
+extern "C" {
+#endif
 
 enum aat_answer {
     AAT_DONE = 0,    /* all was done, and the lent numbers hold the result */
@@ -42,7 +54,55 @@ enum aat_verdict {
     AAT_BAD = 2,        /* some record is out of order or not wholly in the table */
 };
 
-enum { AAT_LONGEST_TABLE = 16777216, AAT_LARGEST_ROOM = 4096 };
+enum { AAT_LONGEST_TABLE = 16777216, AAT_LARGEST_ROOM = 4096, AAT_MOST_HEADS = 65535, AAT_DELETED = 0xFFFF };
+
+/* How many numbers each state, cursor and row of fields has, and which number is which. */
+enum aat_sizes {
+    AAT_CURSOR = 2,
+    AAT_CHAIN_FIELDS = 6,
+    AAT_FEATURE_FIELDS = 5,
+    AAT_SUBTABLE_FIELDS = 6,
+    AAT_KERN_CURSOR = 3,
+    AAT_KERN_FIELDS = 5,
+    AAT_REARRANGEMENT_STATE = 4,
+    AAT_WINDOW = 3,
+    AAT_CONTEXTUAL_STATE = 4,
+    AAT_LIGATURE_STATE = 66,
+    AAT_INSERTION_STATE = 3,
+    AAT_EDITS = 7,
+    AAT_KERNING_STATE = 11,
+};
+
+/* of a cursor; the version is kern's and kerx's alone */
+enum aat_cursor { AAT_CURSOR_PLACE = 0, AAT_CURSOR_LEFT = 1, AAT_CURSOR_VERSION = 2 };
+
+/* of the fields of a list's element: AAT_FOUND is 1 where there is one, and the others follow it */
+enum { AAT_FOUND = 0 };
+enum aat_chain { AAT_CHAIN_FLAGS = 1, AAT_CHAIN_FEATURES = 2, AAT_CHAIN_SUBTABLES = 4 }; /* the last two are cursors */
+enum aat_feature { AAT_FEATURE_TYPE = 1, AAT_FEATURE_SETTING = 2, AAT_FEATURE_ENABLES = 3, AAT_FEATURE_KEEPS = 4 };
+enum aat_subtable {
+    AAT_SUBTABLE_START = 1,
+    AAT_SUBTABLE_COVERAGE = 2,
+    AAT_SUBTABLE_FLAGS = 3,
+    AAT_SUBTABLE_KIND = 4,
+    AAT_SUBTABLE_ORDER = 5,
+};
+enum aat_kern_subtable { AAT_KERN_START = 1, AAT_KERN_FORMAT = 2, AAT_KERN_PASSED_OVER = 3, AAT_KERN_TURNED = 4 };
+
+/* of a machine's state: the state table's own is the first number of each */
+enum { AAT_STATE_NUMBER = 0 };
+enum aat_rearrangement { AAT_REARRANGEMENT_FIRST = 1, AAT_REARRANGEMENT_LAST = 2, AAT_REARRANGEMENT_CYCLES = 3 };
+enum aat_contextual { AAT_CONTEXTUAL_MARKED = 1, AAT_CONTEXTUAL_MARK = 2, AAT_CONTEXTUAL_MARK_GLYPH = 3 };
+enum aat_ligature { AAT_LIGATURE_DEPTH = 1, AAT_LIGATURE_PLACES = 2, AAT_LIGATURE_GLYPHS = 34 }; /* 32 of each */
+enum aat_insertion { AAT_INSERTION_MARK = 1, AAT_INSERTION_CYCLES = 2 };
+enum aat_kerning { AAT_KERNING_DEPTH = 1, AAT_KERNING_CYCLES = 2, AAT_KERNING_PLACES = 3 }; /* 8 of them */
+
+/* of what a step hands over to be made */
+enum aat_window { AAT_WINDOW_FIRST = 0, AAT_WINDOW_LAST = 1, AAT_WINDOW_VERB = 2 };
+enum aat_edits { AAT_EDITS_COUNT = 0, AAT_EDITS_FIRST = 1, AAT_EDITS_SECOND = 4 };
+enum aat_edit { AAT_EDIT_PLACE = 0, AAT_EDIT_GLYPHS = 1, AAT_EDIT_BYTE = 2 }; /* from where its edit begins on */
+
+enum aat_order { AAT_LAYOUT = 0, AAT_REVERSE_LAYOUT = 1, AAT_LOGICAL = 2, AAT_REVERSE_LOGICAL = 3 };
 
 /* Lookups, classes and languages */
 
@@ -142,18 +202,21 @@ uint32_t aat_morx_run(const uint8_t *table, size_t table_len, size_t start, uint
    table, the answer is AAT_DONE, too, the fields are 0 each, and the cursor stays as it was. The other answer is AAT_TABLE. */
 
 /* The cursor at the chains of the morx table at start. AAT_HEAD, too: the start is past the table. Writes: cursor. */
-uint32_t aat_morx_chains(const uint8_t *table, size_t table_len, size_t start, uint64_t cursor[2]);
+uint32_t aat_morx_chains(const uint8_t *table, size_t table_len, size_t start, uint64_t cursor[AAT_CURSOR]);
 
 /* The next chain. Writes: cursor; fields: 1, the default flags, the cursor at its features, the cursor at its subtables. */
-uint32_t aat_morx_next_chain(const uint8_t *table, size_t table_len, uint64_t cursor[2], uint64_t fields[6]);
+uint32_t aat_morx_next_chain(const uint8_t *table, size_t table_len, uint64_t cursor[AAT_CURSOR],
+                             uint64_t fields[AAT_CHAIN_FIELDS]);
 
 /* The next feature. Writes: cursor; fields: 1, the type, the setting, the flags that it enables, those that it does not
    disable. */
-uint32_t aat_morx_next_feature(const uint8_t *table, size_t table_len, uint64_t cursor[2], uint64_t fields[5]);
+uint32_t aat_morx_next_feature(const uint8_t *table, size_t table_len, uint64_t cursor[AAT_CURSOR],
+                               uint64_t fields[AAT_FEATURE_FIELDS]);
 
 /* The next subtable. Writes: cursor; fields: 1, the byte where its head begins, which is the start for the passes, the
    coverage, the flags, the kind, and the order as aat_morx_order gives it. */
-uint32_t aat_morx_next_subtable(const uint8_t *table, size_t table_len, uint64_t cursor[2], uint64_t fields[6]);
+uint32_t aat_morx_next_subtable(const uint8_t *table, size_t table_len, uint64_t cursor[AAT_CURSOR],
+                                uint64_t fields[AAT_SUBTABLE_FIELDS]);
 
 /* The order in which a subtable of this coverage wants the glyphs. It is always AAT_DONE.
    Writes: order: 0 layout, 1 reverse layout, 2 logical, 3 reverse logical. */
@@ -212,14 +275,16 @@ uint32_t aat_kerx_run(const uint8_t *table, size_t table_len, size_t start, uint
 
 /* The cursor at the subtables of the kern or kerx table at start; start 0 is no table, and has none. AAT_HEAD, too: the start
    is past the table. Writes: cursor. */
-uint32_t aat_kern_subtables(const uint8_t *table, size_t table_len, size_t start, uint64_t cursor[3]);
-uint32_t aat_kerx_subtables(const uint8_t *table, size_t table_len, size_t start, uint64_t cursor[3]);
+uint32_t aat_kern_subtables(const uint8_t *table, size_t table_len, size_t start, uint64_t cursor[AAT_KERN_CURSOR]);
+uint32_t aat_kerx_subtables(const uint8_t *table, size_t table_len, size_t start, uint64_t cursor[AAT_KERN_CURSOR]);
 
 /* The next subtable. Writes: cursor; fields: 1, the byte where its head begins, which is the start for pairs, passes and
    steps, the format, whether a run passes over it, and whether a run from left to right turns the line for it, 1 or 0 each.
    In kerx a run from right to left turns the line where that is 0; in kern no run does, and it is 0. */
-uint32_t aat_kern_next_subtable(const uint8_t *table, size_t table_len, uint64_t cursor[3], uint64_t fields[5]);
-uint32_t aat_kerx_next_subtable(const uint8_t *table, size_t table_len, uint64_t cursor[3], uint64_t fields[5]);
+uint32_t aat_kern_next_subtable(const uint8_t *table, size_t table_len, uint64_t cursor[AAT_KERN_CURSOR],
+                                uint64_t fields[AAT_KERN_FIELDS]);
+uint32_t aat_kerx_next_subtable(const uint8_t *table, size_t table_len, uint64_t cursor[AAT_KERN_CURSOR],
+                                uint64_t fields[AAT_KERN_FIELDS]);
 
 /* Single steps of the machines
 
@@ -233,35 +298,41 @@ uint32_t aat_kerx_next_subtable(const uint8_t *table, size_t table_len, uint64_t
 /* Rearrangement, on a line of used places. state: the state table's, the first and the last mark, and the steps in a row
    that did not advance. Writes, too: window, what aat_verb is to be called with: first and last place, and verb; 0 each
    where there is no edit. */
-uint32_t aat_rearrangement_step(uint64_t state[4], const uint8_t *table, size_t table_len, size_t start, size_t used,
-                                size_t index, uint16_t glyph, uint32_t ends, size_t *advance, uint64_t window[3]);
+uint32_t aat_rearrangement_step(uint64_t state[AAT_REARRANGEMENT_STATE], const uint8_t *table, size_t table_len, size_t start,
+                                size_t used, size_t index, uint16_t glyph, uint32_t ends, size_t *advance,
+                                uint64_t window[AAT_WINDOW]);
 
 /* Contextual substitution. state: the state table's, whether a mark is set (1 or 0), its place, and the glyph remembered
    for it.
    Writes, too: glyphs. */
-uint32_t aat_contextual_step(uint64_t state[4], const uint8_t *table, size_t table_len, size_t start, uint16_t *glyphs,
-                             size_t glyphs_len, const uint16_t *tags, size_t tags_len, const uint16_t *homes,
+uint32_t aat_contextual_step(uint64_t state[AAT_CONTEXTUAL_STATE], const uint8_t *table, size_t table_len, size_t start,
+                             uint16_t *glyphs, size_t glyphs_len, const uint16_t *tags, size_t tags_len, const uint16_t *homes,
                              size_t homes_len, size_t used, size_t index, uint16_t glyph, uint32_t ends, size_t *advance);
 
 /* Ligatures. state: the state table's, how many slots of the stack are used, 32 places and 32 glyphs. Writes, too: glyphs,
    homes. */
-uint32_t aat_ligature_step(uint64_t state[66], const uint8_t *table, size_t table_len, size_t start, uint16_t *glyphs,
-                           size_t glyphs_len, const uint16_t *tags, size_t tags_len, uint16_t *homes, size_t homes_len,
+uint32_t aat_ligature_step(uint64_t state[AAT_LIGATURE_STATE], const uint8_t *table, size_t table_len, size_t start,
+                           uint16_t *glyphs, size_t glyphs_len, const uint16_t *tags, size_t tags_len, uint16_t *homes, size_t homes_len,
                            size_t used, size_t index, uint16_t glyph, uint32_t ends, size_t *advance);
 
 /* Insertion, on a line of used places in a room of room. AAT_FULL, too. state: the state table's, the mark, and the steps
    in a row that did not advance. Writes, too: edits, what is to be put in: how many times (0, 1 or 2), then each time the
    place, how many glyphs, and the byte of the table where they begin; the rest of it is 0. */
-uint32_t aat_insertion_step(uint64_t state[3], const uint8_t *table, size_t table_len, size_t start, size_t used,
-                            size_t room, size_t index, uint16_t glyph, uint32_t ends, size_t *advance, uint64_t edits[7]);
+uint32_t aat_insertion_step(uint64_t state[AAT_INSERTION_STATE], const uint8_t *table, size_t table_len, size_t start,
+                            size_t used, size_t room, size_t index, uint16_t glyph, uint32_t ends, size_t *advance,
+                            uint64_t edits[AAT_EDITS]);
 
 /* Kerning by format 1 of kern or kerx, on a line of used places; it has no end of text. AAT_LINE is for an along_len above
    AAT_LARGEST_ROOM or below used, and for an adjustment beyond 2^40 in size, and AAT_HEAD for every format but 1. state: the
    state table's, how many slots of the stack are used, the steps in a row that did not advance, and 8 places. Writes, too:
    along. */
-uint32_t aat_kern_step(uint64_t state[11], const uint8_t *table, size_t table_len, size_t start, uint16_t version,
+uint32_t aat_kern_step(uint64_t state[AAT_KERNING_STATE], const uint8_t *table, size_t table_len, size_t start, uint16_t version,
                        size_t used, size_t index, uint16_t glyph, int64_t *along, size_t along_len, size_t *advance);
-uint32_t aat_kerx_step(uint64_t state[11], const uint8_t *table, size_t table_len, size_t start, uint16_t version,
+uint32_t aat_kerx_step(uint64_t state[AAT_KERNING_STATE], const uint8_t *table, size_t table_len, size_t start, uint16_t version,
                        size_t used, size_t index, uint16_t glyph, int64_t *along, size_t along_len, size_t *advance);
+
+#ifdef __cplusplus
+}
+#endif
 
 #endif

@@ -59,6 +59,7 @@
 
    Replies are sent when the input runs dry. Exit status 0 when it ends between calls, 1 for anything out of this form. */
 
+#define AAT_OWN_TYPES
 #include "aat.h"
 
 long read(int file, void *to, size_t length);
@@ -86,13 +87,13 @@ static int64_t along[AAT_LARGEST_ROOM + 64];
 static size_t along_len;
 
 /* A step's state, what it is told, and what it hands over. */
-static uint64_t state[66], edits[7];
+static uint64_t state[AAT_LIGATURE_STATE], edits[AAT_EDITS];
 static size_t start, index, advance;
 static uint16_t glyph, version;
 static uint32_t ends;
 
 /* Where a list goes on, and what its next element has. */
-static uint64_t cursor[3], fields[6];
+static uint64_t cursor[AAT_KERN_CURSOR], fields[AAT_CHAIN_FIELDS];
 
 static uint8_t input[65536], output[65536];
 static size_t input_len, input_at, output_len;
