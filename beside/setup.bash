@@ -1,4 +1,5 @@
 # What the scripts share: where things lie, a Rust compiler, the archive of the proved entries, and the box.
+# What is missing is installed where BESIDE_INSTALL is set, as .ci/run does, and only named otherwise.
 # BESIDE_ARCHIVE names another archive, to see that wrong entries are caught, and BESIDE_SHAPE the shaper's program, which has to be
 # there then.
 set -euo pipefail
@@ -15,6 +16,16 @@ give_up() { # STATUS WORDS..
     echo "${*:2}" >&2
     exit "$1"
 }
+
+# The script's own head, for whoever asked with other words than it takes; 0 where --help was asked for.
+usage() { # STATUS
+    sed -n '2,/^[^#]/{/^#/s/^# \{0,1\}//p}' "$0" >&2
+    exit "$1"
+}
+
+is_number() { [[ ${1:-} =~ ^[0-9]+$ ]]; }
+
+if [ "${1:-}" = --help ]; then usage 0; fi
 
 # Runs a command and shows what it says only if it fails.
 quietly() {
@@ -45,9 +56,10 @@ choose_rustc() {
 
 find_rustc() {
     choose_rustc && return
+    [ -n "${BESIDE_INSTALL:-}" ] || give_up 77 "there is no rustc 1.63 or newer, so nothing was done; BESIDE_INSTALL=1 lets this script install it"
     echo "installing rustc" >&2
     install_rustc >"$built/log" 2>&1 || true
-    choose_rustc || give_up 77 "there is no rustc 1.63 or newer and none could be installed, so nothing was compared"
+    choose_rustc || give_up 77 "there is no rustc 1.63 or newer and none could be installed, so nothing was done"
 }
 
 find_kit() {
