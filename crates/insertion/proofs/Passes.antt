@@ -54,7 +54,7 @@ module _ (bytes : List ℕ) (states : States) (l₀ : Line) where
     pub long-glyphs : length glyphs ≡ length (l₀ .glyphs)
     pub long-tags : length tags ≡ length (l₀ .tags)
     pub paired : length (l₀ .tags) ≡ length (l₀ .glyphs)
-    pub limited : length (l₀ .glyphs) ≤ Limits.room
+    pub limited : length (l₀ .glyphs) ≤ Limits.roomLimit
 
   -- what a pass that ends here answers and leaves
   pub record Ends (answer : Answer) (glyphs tags : List ℕ) (used : ℕ) : Type 0 where
@@ -240,7 +240,7 @@ module _ (bytes : List ℕ) (states : States) (l₀ : Line) where
               act-less = due-less act-due p done ne
 
 pub going-start : (bytes : List ℕ) (states : States) (glyphs tags homes : List ℕ) (used : ℕ) {opened : Classes} {memo : List ℕ} {s : InsertionState}
-    → used ≤ length glyphs → length tags ≡ length glyphs → length glyphs ≤ Limits.room → opened ≡ openedClasses bytes (states .edition) → memo ≡ nothingFound → s ≡ fresh
+    → used ≤ length glyphs → length tags ≡ length glyphs → length glyphs ≤ Limits.roomLimit → opened ≡ openedClasses bytes (states .edition) → memo ≡ nothingFound → s ≡ fresh
     → Going bytes states (lineOf glyphs tags homes used) opened memo glyphs tags homes used s 0
 unfolding passed passedBy
 going-start bytes states glyphs tags homes used {opened} {memo} h p n o m e =
