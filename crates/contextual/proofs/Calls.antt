@@ -4,8 +4,8 @@ use mathlib.Core.Path.{_≡_, refl, sym, _∙_, ap}
 use mathlib.Core.Bool.{Bool, true, false, not}
 use mathlib.Core.List.{List, [], _∷_}
 use lib.ListN.{length, drop}
-use borrow.Author.Tests.{lt-ltb, le-ltb}
-use Rattle.answers.proofs.Refusals.{refuse-here, refuse-later}
+use borrow.Author.Tests.{lt-ltb, le-ltb, ltb-false}
+use Rattle.answers.proofs.Refusals.{refuse-here, refuse-later, passed-here, passed-later}
 use Rattle.answers.specs.Refuse.{Test, refuse, tableTest}
 use Rattle.answers.specs.declared.Refusal.{Refusal}
 use Rattle.answers.specs.declared.Refusal.the-variants as Refusal′
@@ -18,19 +18,20 @@ use Rattle.state_tables.specs.declared.Made.{Made}
 use Rattle.state_tables.specs.declared.Made.the-variants as Made′
 use Rattle.state_tables.specs.Classes.{classOf}
 use Rattle.line.specs.Line.{Line, lineOf}
-use Rattle.line.specs.Test.{isValid}
+use Rattle.line.specs.Test.{isValid, lineTest}
 use Rattle.line.specs.Changes.{applyAll}
 use Rattle.machine.specs.Head.{bodyOf}
 use Rattle.machine.specs.Pass.{Stepped, Passed}
-use Rattle.machine.specs.Call.{headTest, passTests, refusedStep}
+use Rattle.machine.specs.Call.{headTest, passTests, placeTest, lineStepTests, refusedStep}
 use Rattle.machine.proofs.Calls as Machine′
 use Rattle.machine.proofs.Calls.{taken-line, past-place, stepped-line, head-refused, head-passed}
-use Rattle.contextual.specs.Contextual.{next, stepped, machine, passed}
+use Rattle.contextual.specs.Contextual.{Ran, next, stepped, machine, passed}
 use Rattle.contextual.specs.Calls.{opened, worked, passCall, callLeaves, stateTest, stepTests, stepCall, stepLeaves}
-use Rattle.contextual.specs.Work.{writtenAll, stepOf, passedLeaves, workLeaves}
+use Rattle.contextual.specs.Work.{writtenAll, stepOf, ranAll, passedLeaves, workLeaves}
 use Rattle.contextual.specs.declared.ContextualState.{ContextualState}
 use Rattle.contextual.specs.declared.ContextualStep.{ContextualStep}
 use Rattle.contextual.proofs.Writes.{written-line}
+use Rattle.contextual.proofs.Passes.{alone}
 
 -- an answer and glyphs that are what a pass gives
 pub record Ends (whole : Passed) (l : Line) (answer : Answer) (glyphs : List ℕ) : Type 0 where
@@ -126,6 +127,16 @@ step-fits n glyphs tags homes used index s made k e =
     let l : Line = lineOf glyphs tags homes used in
     stepped-line n l index (stateTest l s ∷ headTest made ∷ []) (sym k ∙ e) .within
 
+-- and its index is not above the used length
+pub step-inside : (n : ℕ) (l : Line) (index : ℕ) (s : ContextualState) (made : Made) {check : Check}
+    → check ≡ refuse (stepTests n l index s made) → check ≡ Check′.Passed → index ≤ l .used
+unfolding stepTests lineStepTests placeTest
+step-inside n l index s made k e =
+    let later : List Test = stateTest l s ∷ headTest made ∷ [] in
+    let at-line = passed-later (tableTest n) (lineTest l ∷ placeTest l index ∷ later) (sym k ∙ e) in
+    let at-place = passed-later (lineTest l) (placeTest l index ∷ later) at-line in
+    ltb-false (l .used) index (passed-here (placeTest l index) later at-place)
+
 -- what a call of the step answers and leaves
 pub record StepEnds (table : List ℕ) (start : ℕ) (s : ContextualState) (l : Line) (index glyph : ℕ) (ends : Bool) (step : ContextualStep) (glyphs : List ℕ) : Type 0 where
   pub answers : step ≡ stepOf (stepCall table start s l index glyph ends)
@@ -163,12 +174,14 @@ module _ (table : List ℕ) (start : ℕ) (s : ContextualState) (glyphs tags hom
   step-headless e h = step-ends (refusedStep Refusal′.Head s) (rw (sym tested ∙ e, stepCall) (rw (sym head ∙ h))) refl refl
 
   pub step-worked : {states : States} {body glyphs′ : List ℕ} {step : ContextualStep} → check ≡ Check′.Passed → made ≡ Made′.Ready states
-      → body ≡ drop 12 bytes → step ≡ stepOf (stepped (next (classOf body states) body states s index glyph ends))
-      → glyphs′ ≡ writtenAll used (next (classOf body states) body states s index glyph ends .writes) glyphs → StepEnds table start s l index glyph ends step glyphs′
+      → body ≡ drop 12 bytes → step ≡ stepOf (stepped (ranAll (classOf body states) body states used 1 s glyphs index glyph ends))
+      → glyphs′ ≡ writtenAll used (ranAll (classOf body states) body states used 1 s glyphs index glyph ends .writes) glyphs
+      → StepEnds table start s l index glyph ends step glyphs′
   unfolding stepCall machine
   step-worked {states} {body} e r d a g =
       let d′ : body ≡ bodyOf (drop start table) = d ∙ ap (drop 12) b in
+      let one = alone (classOf body states) body states used s glyphs index glyph ends in
       step-ends (stepped (next (classOf body states) body states s index glyph ends))
       (rw (sym tested ∙ e, stepCall) (rw (sym head ∙ r) (ap (λ (x : List ℕ). stepped (next (classOf x states) x states s index glyph ends)) (sym d′))))
-      a
-      (g ∙ ap (λ (x : Line). x .glyphs) (written-line used (next (classOf body states) body states s index glyph ends .writes) glyphs tags homes))
+      (a ∙ ap (λ (x : Ran). stepOf (stepped x)) one)
+      (g ∙ ap (λ (x : Ran). writtenAll used (x .writes) glyphs) one ∙ ap (λ (x : Line). x .glyphs) (written-line used (next (classOf body states) body states s index glyph ends .writes) glyphs tags homes))

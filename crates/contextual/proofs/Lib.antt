@@ -1,4 +1,5 @@
 -- Laws of the contextual machine.
+mod Classes
 mod Runs
 mod Writes
 mod Passes

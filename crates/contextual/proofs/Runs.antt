@@ -13,6 +13,7 @@ use Rattle.state_tables.specs.declared.entries.Entry.{Entry}
 use Rattle.state_tables.specs.declared.entries.Entered.{Entered}
 use Rattle.state_tables.specs.declared.entries.Entered.the-variants as Entered′
 use Rattle.state_tables.specs.Entries.{entryOf, onEntry}
+use Rattle.state_tables.specs.Opened.{Remembers}
 use Rattle.laws.specs.Bits.{isSet}
 use Rattle.machine.specs.Entry.{classHere}
 use Rattle.contextual.specs.Substitutes.{Write, writesOf}
@@ -45,17 +46,18 @@ module _ (classes : ℕ → ℕ) (bytes : List ℕ) (states : States) (index lef
     unfolding ran
     ran-goes f = rw (e, ran, onEntry) (rw f)
 
-more : (n : ℕ) → 0 < n → n ≡ suc (n - 1)
+pub more : (n : ℕ) → 0 < n → n ≡ suc (n - 1)
 more zero h = absurd (omega arith)
 more (suc n) h = omega arith
 
 module _ (classes : ℕ → ℕ) (bytes : List ℕ) (states : States) (index used : ℕ) (glyphs₀ : List ℕ) (whole : Ran) where
   -- what the loop knows with so many entries left
-  pub record Running (glyphs : List ℕ) (s : ContextualState) (class current left : ℕ) : Type 0 where
+  pub record Running (memo glyphs : List ℕ) (s : ContextualState) (current : ℕ) (ends : Bool) (left : ℕ) : Type 0 where
     pub done : List Write
-    pub same : ran classes bytes states index left s class current done ≡ whole
+    pub same : ran classes bytes states index left s (classHere classes current ends) current done ≡ whole
     pub made : glyphs ≡ writtenAll used done glyphs₀
     pub long : length glyphs ≡ length glyphs₀
+    pub memory : Remembers classes memo
 
   -- a step that ends here
   pub record Over (answer : Answer) (s : ContextualState) (glyphs : List ℕ) : Type 0 where
@@ -63,16 +65,18 @@ module _ (classes : ℕ → ℕ) (bytes : List ℕ) (states : States) (index use
     pub is : over answer s writes ≡ whole
     pub left : glyphs ≡ writtenAll used writes glyphs₀
 
-  module _ {glyphs : List ℕ} {s : ContextualState} {class current left : ℕ} (r : Running glyphs s class current left) where
+  module _ {memo glyphs : List ℕ} {s : ContextualState} {current : ℕ} {ends : Bool} {left : ℕ} (r : Running memo glyphs s current ends left) where
     pub running-out : left ≤ 0 → Over Answer′.Done s glyphs
     unfolding ran
     running-out h =
         let n : left ≡ 0 = omega arith in
-        record { writes = r .done; is = subst (λ (k : ℕ). ran classes bytes states index k s class current (r .done) ≡ whole) n (r .same); left = r .made }
+        record { writes = r .done; is = subst (λ (k : ℕ). ran classes bytes states index k s (classHere classes current ends) current (r .done) ≡ whole) n (r .same); left = r .made }
 
-    module _ (h : 0 < left) {e : Entered} (f : e ≡ entryOf bytes states (s .state) class 4) where
+    module _ (h : 0 < left) {class : ℕ} {e : Entered} (k : class ≡ classHere classes current ends) (f : e ≡ entryOf bytes states (s .state) class 4) where
       from-here : ran classes bytes states index (suc (left - 1)) s class current (r .done) ≡ whole
-      from-here = subst (λ (k : ℕ). ran classes bytes states index k s class current (r .done) ≡ whole) (more left h) (r .same)
+      from-here =
+          ap (λ (x : ℕ). ran classes bytes states index (suc (left - 1)) s x current (r .done)) k
+          ∙ subst (λ (n : ℕ). ran classes bytes states index n s (classHere classes current ends) current (r .done) ≡ whole) (more left h) (r .same)
 
       pub running-ended : e ≡ Entered′.Ended → Over Answer′.Ended s glyphs
       running-ended g =
@@ -103,23 +107,25 @@ module _ (classes : ℕ → ℕ) (bytes : List ℕ) (states : States) (index use
               left = made-after;
             }
 
-        pub running-goes : {class′ : ℕ} → not flag ≡ false → class′ ≡ classes (a .current) → length glyphs₁ ≡ length glyphs
-            → length glyphs₂ ≡ length glyphs₁ → Running glyphs₂ (a .state) class′ (a .current) (left - 1)
-        running-goes {class′} n k l₁ l₂ =
+        pub running-goes : {memo′ : List ℕ} → not flag ≡ false → Remembers classes memo′ → length glyphs₁ ≡ length glyphs
+            → length glyphs₂ ≡ length glyphs₁ → Running memo′ glyphs₂ (a .state) (a .current) false (left - 1)
+        unfolding classHere
+        running-goes n m l₁ l₂ =
             record {
               done = r .done ++ entryWrites s index a;
-              same = ap (λ (x : ℕ). ran classes bytes states index (left - 1) (a .state) x (a .current) (r .done ++ entryWrites s index a)) k
-                  ∙ ap (λ (x : Acted). ran classes bytes states index (left - 1) (x .state) (classes (x .current)) (x .current) (r .done ++ entryWrites s index x)) ae
+              same = ap (λ (x : Acted). ran classes bytes states index (left - 1) (x .state) (classes (x .current)) (x .current) (r .done ++ entryWrites s index x)) ae
                   ∙ sym (ran-goes classes bytes states index (left - 1) s class current (r .done) entry (sym f ∙ g) (sym b ∙ not-false flag n))
                   ∙ from-here;
               made = made-after;
               long = l₂ ∙ l₁ ∙ r .long;
+              memory = m;
             }
 
-pub running-start : (classes : ℕ → ℕ) (bytes : List ℕ) (states : States) (index used : ℕ) (glyphs : List ℕ) (s : ContextualState) (class current left : ℕ)
-    → Running classes bytes states index used glyphs (ran classes bytes states index left s class current []) glyphs s class current left
+pub running-start : (classes : ℕ → ℕ) (bytes : List ℕ) (states : States) (index used : ℕ) (memo glyphs : List ℕ) (s : ContextualState) (current : ℕ) (ends : Bool) (left : ℕ)
+    → Remembers classes memo
+    → Running classes bytes states index used glyphs (ran classes bytes states index left s (classHere classes current ends) current []) memo glyphs s current ends left
 unfolding writtenAll
-running-start classes bytes states index used glyphs s class current left = record { done = []; same = refl; made = refl; long = refl }
+running-start classes bytes states index used memo glyphs s current ends left m = record { done = []; same = refl; made = refl; long = refl; memory = m }
 
 -- what a step answers and leaves
 pub record Ends (used : ℕ) (glyphs₀ : List ℕ) (whole : Ran) (step : ContextualStep) (glyphs : List ℕ) : Type 0 where
@@ -132,13 +138,13 @@ module _ (classes : ℕ → ℕ) (bytes : List ℕ) (states : States) (s : Conte
   unfolding next writtenAll
   next-idle used glyphs e = rw (sym i ∙ e, next) (record { answers = refl; left = refl })
 
-  module _ {s₀ : ContextualState} {class₀ : ℕ} (n : idles ≡ false) (b : s₀ ≡ begun s index glyph ends) (k : class₀ ≡ classHere classes glyph ends) where
-    next-runs : ran classes bytes states index 18 s₀ class₀ glyph [] ≡ next classes bytes states s index glyph ends
+  module _ {s₀ : ContextualState} (n : idles ≡ false) (b : s₀ ≡ begun s index glyph ends) where
+    next-runs : ran classes bytes states index 18 s₀ (classHere classes glyph ends) glyph [] ≡ next classes bytes states s index glyph ends
     unfolding next
-    next-runs = rw (b, k) (sym (rw (sym i ∙ n, next)))
+    next-runs = rw b (sym (rw (sym i ∙ n, next)))
 
     pub next-over : {used : ℕ} {glyphs₀ glyphs : List ℕ} {answer : Answer} {s′ : ContextualState}
-        → Over classes bytes states index used glyphs₀ (ran classes bytes states index 18 s₀ class₀ glyph []) answer s′ glyphs
+        → Over classes bytes states index used glyphs₀ (ran classes bytes states index 18 s₀ (classHere classes glyph ends) glyph []) answer s′ glyphs
         → Ends used glyphs₀ (next classes bytes states s index glyph ends) (record { answer = answer; state = s′; advance = advanceOf answer }) glyphs
     next-over {used} {glyphs₀} o =
         let e = o .is ∙ next-runs in

@@ -20,7 +20,7 @@ use Rattle.contextual.proofs.Writes.{written-line}
 abbrev Sound : ContextualState → Line → ℕ → Type 0
 Sound s l i = 0 ≤ 0
 
-advances : (answer : Answer) → isDone answer ≡ true → advanceOf answer ≡ 1
+pub advances : (answer : Answer) → isDone answer ≡ true → advanceOf answer ≡ 1
 advances answer e = rw e
 
 used-kept : (ws : List Write) (l : Line) → applyAll (changesOf ws) l .used ≡ l .used

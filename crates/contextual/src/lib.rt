@@ -4,10 +4,11 @@ use answers::Check;
 use answers::Refusal;
 use state_tables::Made;
 use state_tables::States;
-use state_tables::classes;
 use state_tables::entries;
 use state_tables::entries::Entered;
 use state_tables::entries::Entry;
+use state_tables::opened;
+use state_tables::opened::Classes;
 use tables::lookup;
 use tables::lookup::Found;
 ghost use mathlib.Core.Path.{_≡_};
@@ -15,11 +16,13 @@ ghost use Prim.Native.Nat.{_+_, _≤_};
 ghost use lib.ListN.{length};
 ghost use Rattle.answers.specs.Refuse.{refuse};
 ghost use Rattle.state_tables.specs.Classes.{classOf};
+ghost use Rattle.state_tables.specs.Opened.{classBy, LiesIn, Remembers};
+ghost use Rattle.machine.specs.Entry.{classHere};
 ghost use Rattle.line.specs.Line.{lineOf};
 ghost use Rattle.contextual.specs.Substitutes.{substituteOf, glyphAfter, writesOf};
 ghost use Rattle.contextual.specs.Contextual.{fresh, idle, begun, seenGlyph, entered, acted, next, stepped, passed};
 ghost use Rattle.contextual.specs.Calls.{opened, worked, passCall, callLeaves, stepTests, stepCall, stepLeaves};
-ghost use Rattle.contextual.specs.Work.{writtenAll, stepOf, passedLeaves, workLeaves};
+ghost use Rattle.contextual.specs.Work.{writtenAll, stepOf, glyphAt, ranAll, passedLeaves, workLeaves};
 
 // The state of a pass: the state table's state, whether a mark was set, its place, and the glyph that is remembered for it.
 pub struct ContextualState {
@@ -103,6 +106,32 @@ fn replace(glyphs: &mut [u16], used: usize, place: usize, substitute: Substitute
         return;
     };
     line::edits::write(glyphs, used, place, glyph);
+}
+
+// The class of a glyph; that of the end of text is 0.
+fn class_now(bytes: &[u8], table: Classes, memo: &mut [u32; 64], glyph: u16, ends: bool) -> u16
+    requires { ⌜ LiesIn (now bytes) table × Remembers (classBy (now bytes) table) (now memo) ⌝ }
+    ensures class { λ r. ⌜ r ≡ classHere (classBy (now (bytes .entry)) table) glyph ends ⌝ }
+    ensures memo { λ _. ⌜ Remembers (classBy (now (bytes .entry)) table) (now (memo .exit)) ⌝ }
+{
+    if ends {
+        return 0;
+    }
+    let Classes::Words { base, first, count } = table else {
+        return opened::remembered(bytes, table, memo, glyph);
+    };
+    opened::class_in_words(bytes, base, first, count, glyph)
+}
+
+// The glyph that a step at this place is told: the place's own, or the end call's.
+fn glyph_at(glyphs: &[u16], used: usize, place: usize) -> u16
+    requires { ⌜ used ≤ length (now glyphs) ⌝ }
+    ensures { λ r. ⌜ r ≡ glyphAt (now (glyphs .entry)) used place ⌝ }
+{
+    if place < used {
+        return glyphs[place];
+    }
+    ContextualState::END
 }
 
 impl ContextualState {
@@ -209,15 +238,18 @@ impl ContextualState {
         self,
         bytes: &[u8],
         states: States,
+        table: Classes,
+        memo: &mut [u32; 64],
         glyphs: &mut [u16],
         used: usize,
         index: usize,
         glyph: u16,
         ends: bool,
     ) -> ContextualStep
-        requires { ⌜ used ≤ length (now glyphs) ⌝ }
-        ensures step { λ r. ⌜ r ≡ stepOf (stepped (next (classOf (now (bytes .entry)) states) (now (bytes .entry)) states self index glyph ends)) ⌝ }
-        ensures glyphs { λ _. ⌜ now (glyphs .exit) ≡ writtenAll used (next (classOf (now (bytes .entry)) states) (now (bytes .entry)) states self index glyph ends .writes) (now (glyphs .entry)) ⌝ }
+        requires { ⌜ (used ≤ length (now glyphs)) × LiesIn (now bytes) table × Remembers (classBy (now bytes) table) (now memo) ⌝ }
+        ensures step { λ r. ⌜ r ≡ stepOf (stepped (next (classBy (now (bytes .entry)) table) (now (bytes .entry)) states self index glyph ends)) ⌝ }
+        ensures memo { λ _. ⌜ Remembers (classBy (now (bytes .entry)) table) (now (memo .exit)) ⌝ }
+        ensures glyphs { λ _. ⌜ now (glyphs .exit) ≡ writtenAll used (next (classBy (now (bytes .entry)) table) (now (bytes .entry)) states self index glyph ends .writes) (now (glyphs .entry)) ⌝ }
     {
         if self.idle(ends) {
             return ContextualStep {
@@ -227,10 +259,11 @@ impl ContextualState {
             };
         }
         let mut state = self.begun(index, glyph, ends);
-        let mut class = machine::class_at(bytes, states, glyph, ends);
         let mut current = glyph;
+        let mut over = ends;
         let mut left = ContextualState::ENTRIES;
         while 0 < left {
+            let class = class_now(bytes, table, memo, current, over);
             let Entered::At(entry) = entries::entry_of(bytes, states, state.state, class, 4) else {
                 return ContextualStep {
                     answer: Answer::Ended,
@@ -252,7 +285,71 @@ impl ContextualState {
                 };
             }
             current = acted.current;
-            class = classes::class_of(bytes, states, current);
+            over = false;
+            left -= 1;
+        }
+        ContextualStep {
+            answer: Answer::Done,
+            state,
+            advance: 1,
+        }
+    }
+
+    // So many steps, one after the other: the first as told, the others at the places behind it. The pass, its end call and the lone step
+    // all come here, so that `next` has one caller and becomes part of the loop.
+    fn run(
+        self,
+        bytes: &[u8],
+        states: States,
+        glyphs: &mut [u16],
+        used: usize,
+        index: usize,
+        first: u16,
+        over: bool,
+        steps: usize,
+    ) -> ContextualStep
+        requires { ⌜ (used ≤ length (now glyphs)) × (index + steps ≤ used + 1) ⌝ }
+        ensures step { λ r. ⌜ r ≡ stepOf (stepped (ranAll (classOf (now (bytes .entry)) states) (now (bytes .entry)) states used steps self (now (glyphs .entry)) index first over)) ⌝ }
+        ensures glyphs { λ _. ⌜ now (glyphs .exit) ≡ writtenAll used (ranAll (classOf (now (bytes .entry)) states) (now (bytes .entry)) states used steps self (now (glyphs .entry)) index first over .writes) (now (glyphs .entry)) ⌝ }
+    {
+        let table = opened::open(bytes, states);
+        let mut memo = opened::nothing_found();
+        let mut state = self;
+        let mut place = index;
+        let mut glyph = first;
+        let mut ends = over;
+        let mut left = steps;
+        while 0 < left {
+            let step = state.next(
+                bytes,
+                states,
+                table,
+                &mut memo,
+                glyphs,
+                used,
+                place,
+                glyph,
+                ends,
+            );
+            let answer = step.answer;
+            let after = step.state;
+            // Field by field: as a whole it would be copied by memory, with what lies between its fields.
+            state = ContextualState {
+                state: after.state,
+                mark_set: after.mark_set,
+                mark_index: after.mark_index,
+                mark_id: after.mark_id,
+            };
+            if !machine::is_done(answer) {
+                return ContextualStep {
+                    answer,
+                    state,
+                    advance: 0,
+                };
+            }
+            place += 1;
+            glyph = glyph_at(glyphs, used, place);
+            ends = used <= place;
             left -= 1;
         }
         ContextualStep {
@@ -333,7 +430,7 @@ impl ContextualState {
                 advance: 0,
             };
         };
-        self.next(
+        self.run(
             parse::from(bytes, 12),
             states,
             glyphs,
@@ -341,6 +438,7 @@ impl ContextualState {
             index,
             glyph,
             ends,
+            1,
         )
     }
 }
@@ -368,33 +466,16 @@ fn pass_line(
     ensures answer { λ r. ⌜ r ≡ passed (now (bytes .entry)) states (lineOf (now (glyphs .entry)) (now (tags .entry)) (now (homes .entry)) used) .answer ⌝ }
     ensures glyphs { λ _. ⌜ now (glyphs .exit) ≡ passedLeaves (now (bytes .entry)) states (lineOf (now (glyphs .entry)) (now (tags .entry)) (now (homes .entry)) used) .glyphs ⌝ }
 {
-    let mut state = ContextualState::new();
-    let mut place = 0;
-    while place < used {
-        let glyph = glyphs[place];
-        let step = state.next(bytes, states, glyphs, used, place, glyph, false);
-        let answer = step.answer;
-        if !machine::is_done(answer) {
-            return answer;
-        }
-        let after = step.state;
-        // Field by field: a copy as a whole would wait for the stores that the step has just made.
-        state = ContextualState {
-            state: after.state,
-            mark_set: after.mark_set,
-            mark_index: after.mark_index,
-            mark_id: after.mark_id,
-        };
-        place += step.advance;
-    }
-    let step = state.next(
+    let first = glyph_at(glyphs, used, 0);
+    let step = ContextualState::new().run(
         bytes,
         states,
         glyphs,
         used,
-        used,
-        ContextualState::END,
-        true,
+        0,
+        first,
+        used == 0,
+        used + 1,
     );
     step.answer
 }

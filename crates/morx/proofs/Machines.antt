@@ -116,14 +116,15 @@ module _ {X : Type 0} (part : Line → X) (kept : (at glyph : ℕ) (l : Line) �
   kept-writes [] = kept-none part
   kept-writes (w ∷ ws) = kept-more part (Change.write (w .at) (w .glyph)) (S.changesOf ws) (kept (w .at) (w .glyph)) (kept-writes ws)
 
-  pub contextual-step : (bytes : List ℕ) (states : States) (s : ContextualState) (k : Line) (i g : ℕ) (e : Bool) → Kept part (C.machine bytes states s k i g e .changes)
+  pub contextual-step : (classes : ℕ → ℕ) (bytes : List ℕ) (states : States) (s : ContextualState) (k : Line) (i g : ℕ) (e : Bool) → Kept part (C.machine classes bytes states s k i g e .changes)
   unfolding C.machine
-  contextual-step bytes states s k i g e = kept-writes (C.next bytes states s i g e .writes)
+  contextual-step classes bytes states s k i g e = kept-writes (C.next classes bytes states s i g e .writes)
 
   pub kept-contextual : (bytes : List ℕ) (l : Line) → Kept part (CC.worked bytes l .changes)
-  unfolding CC.worked C.passed
+  unfolding CC.worked C.passed C.passedBy
   kept-contextual bytes l =
-      kept-machine part (CC.opened bytes) (C.machine (bodyOf bytes)) (C.rest C.fresh l 0) C.fresh l (contextual-step (bodyOf bytes))
+      kept-machine part (CC.opened bytes) (λ states. C.machine (classOf (bodyOf bytes) states) (bodyOf bytes) states) (C.rest C.fresh l 0) C.fresh l
+      (λ states. contextual-step (classOf (bodyOf bytes) states) (bodyOf bytes) states)
 
   -- and so does the non-contextual pass
   kept-found : (place : ℕ) (found : Found) → Kept part (N.writesOf place found)

@@ -87,8 +87,8 @@ module _ {X : Type 0} (part : Line → X) (l : Line) where
     contextual-step-keeps c =
         kept-stepped part (refuse (CC.stepTests (length (c .table)) l (c .index) (c .state) (CC.opened (drop (c .start) (c .table)))))
         (CC.opened (drop (c .start) (c .table))) (c .state)
-        (λ states. C.machine (bodyOf (drop (c .start) (c .table))) states (c .state) l (c .index) (c .glyph) (c .ends))
-        (λ states. contextual-step part writes (bodyOf (drop (c .start) (c .table))) states (c .state) l (c .index) (c .glyph) (c .ends)) l
+        (λ states. C.machine (classOf (bodyOf (drop (c .start) (c .table))) states) (bodyOf (drop (c .start) (c .table))) states (c .state) l (c .index) (c .glyph) (c .ends))
+        (λ states. contextual-step part writes (classOf (bodyOf (drop (c .start) (c .table))) states) (bodyOf (drop (c .start) (c .table))) states (c .state) l (c .index) (c .glyph) (c .ends)) l
 
     noncontextual-keeps : (table : List ℕ) (start : ℕ) → part (N.callLeaves table start l) ≡ part l
     unfolding N.callLeaves N.passCall

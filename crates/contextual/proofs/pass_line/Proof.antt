@@ -1,102 +1,31 @@
-use Prim.Native.Nat.{_-_}
-use mathlib.Core.Path.{sym, _∙_}
-use native.Mathlib.Omega.{arith}
 use borrow.Author.Needs.{needs}
-use borrow.Author.Tests.{not-true, not-false}
-use Rattle.line.specs.Line.{lineOf}
-use Rattle.contextual.proofs.Passes.{Going, going-start, going-step, going-less, going-stop, going-end}
+use Rattle.contextual.proofs.Passes.{pass-ends}
 use Rattle.contextual.proofs.pass_line.Statement.{statement}
 use Rattle.contextual.proofs.pass_line.Tie as tie
 
-abbrev Inv-loop : tie.InvT-loop
-Inv-loop bytes states glyphs₀ tags homes used state₀ place₀ glyphs state place =
-    Going bytes states (lineOf glyphs₀ tags homes used) glyphs tags homes used state place
+glyph-at-requires : tie.Need-glyph-at-requires
+glyph-at-requires c κs = search needs
 
-abbrev μ-loop : tie.MeasureT-loop
-μ-loop bytes states glyphs₀ tags homes used state₀ place₀ glyphs state place = used - place
-
-new-requires : tie.Need-new-requires Inv-loop μ-loop
+new-requires : tie.Need-new-requires
 new-requires c κs = search needs
 
-loop-holds : tie.Need-loop-holds Inv-loop μ-loop
-loop-holds c = going-start _ _ _ _ _ _ _ (c .new .ensures)
+add-run : tie.Need-add-run
+add-run c = search needs
 
-mul-glyph : tie.Need-mul-glyph Inv-loop μ-loop
-mul-glyph c = search needs
+run-requires : tie.Need-run-requires
+run-requires c κs = search needs
 
-slice-read-glyph : tie.Need-slice-read-glyph Inv-loop μ-loop
-slice-read-glyph c = omega arith
+same-length : tie.Need-same-length
+same-length c = search needs
 
-next-requires : tie.Need-next-requires Inv-loop μ-loop
-next-requires c κs = omega arith
-
-is-done-requires : tie.Need-is-done-requires Inv-loop μ-loop
-is-done-requires c κs = search needs
-
-same-length : tie.Need-same-length Inv-loop μ-loop
-same-length c = omega (arith, c .before .before .before .before .next .kept .1 .1 .1 .0)
-
-returns : tie.Need-returns Inv-loop μ-loop
+returns : tie.Need-returns
 returns c =
-    let at-is-done = c .before in
-    let at-next = at-is-done .before .before .before in
-    let at-loop-test = at-next .before .before .before in
-    let at-loop = at-loop-test .before in
-    let e = going-stop _ _ _ (at-loop .loop .inv) (at-loop-test .loop-test .taken) (at-next .next .ensures .0) (sym (at-is-done .is-done .ensures) ∙ not-true _ (c .if1 .taken)) (at-next .next .ensures .1) in
-    (e .answers, e .left)
-
-add-place : tie.Need-add-place Inv-loop μ-loop
-add-place c = omega (arith, (let at-if1 = c .before .before in let at-is-done = at-if1 .before in let at-next = at-is-done .before .before .before in let at-loop-test = at-next .before .before .before in let at-loop = at-loop-test .before in going-step _ _ _ (at-loop .loop .inv) (at-loop-test .loop-test .taken) (at-next .next .ensures .0) (sym (at-is-done .is-done .ensures) ∙ not-false _ (at-if1 .if1 .left)) (at-next .next .ensures .1) (at-next .next .kept .1 .1 .1 .0) .within))
-
-loop-less : tie.Need-loop-less Inv-loop μ-loop
-loop-less c =
-    let at-if1 = c .before .before in
-    let at-is-done = at-if1 .before in
-    let at-next = at-is-done .before .before .before in
-    let at-loop-test = at-next .before .before .before in
-    let at-loop = at-loop-test .before in
-    going-less _ _ _ (at-loop .loop .inv) (at-loop-test .loop-test .taken) (at-next .next .ensures .0) (sym (at-is-done .is-done .ensures) ∙ not-false _ (at-if1 .if1 .left))
-
-loop-again : tie.Need-loop-again Inv-loop μ-loop
-loop-again c =
-    let at-if1 = c .before .before in
-    let at-is-done = at-if1 .before in
-    let at-next = at-is-done .before .before .before in
-    let at-loop-test = at-next .before .before .before in
-    let at-loop = at-loop-test .before in
-    going-step _ _ _ (at-loop .loop .inv) (at-loop-test .loop-test .taken) (at-next .next .ensures .0) (sym (at-is-done .is-done .ensures) ∙ not-false _ (at-if1 .if1 .left)) (at-next .next .ensures .1) (at-next .next .kept .1 .1 .1 .0)
-
-next-requires-2 : tie.Need-next-requires-2 Inv-loop μ-loop
-next-requires-2 c κs = omega arith
-
-same-length-2 : tie.Need-same-length-2 Inv-loop μ-loop
-same-length-2 c = omega (arith, c .before .before .next2 .kept .1 .1 .1 .0)
-
-returns-2 : tie.Need-returns-2 Inv-loop μ-loop
-returns-2 c =
-    let at-next2 = c .before .before in
-    let at-loop-test = at-next2 .before .before in
-    let at-loop = at-loop-test .before in
-    let e = going-end _ _ _ (at-loop .loop .inv) (at-loop-test .loop-test .left) (at-next2 .next2 .ensures .0) (at-next2 .next2 .ensures .1) in
+    let at-run = c .before .before in
+    let at-new = at-run .before .before in
+    let at-glyph-at = at-new .before in
+    let e = pass-ends _ _ _ _ _ _ (at-new .new .ensures) (at-glyph-at .glyph-at .ensures) (at-run .run .ensures .0) (at-run .run .ensures .1) in
     (e .answers, e .left)
 
 pub pass-line-spec : {M : Type 1} → statement M
 pass-line-spec =
-    tie.close
-    (tie.spec
-    Inv-loop
-    μ-loop
-    new-requires
-    loop-holds
-    mul-glyph
-    slice-read-glyph
-    next-requires
-    is-done-requires
-    same-length
-    returns
-    add-place
-    loop-less
-    loop-again
-    next-requires-2
-    same-length-2
-    returns-2)
+    tie.close (tie.spec glyph-at-requires new-requires add-run run-requires same-length returns)

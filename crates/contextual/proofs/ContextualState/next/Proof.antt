@@ -1,35 +1,45 @@
 use mathlib.Core.List.{[]}
 use native.Mathlib.Omega.{arith}
 use borrow.Author.Needs.{needs}
+use Rattle.state_tables.specs.Opened.{classBy}
 use Rattle.state_tables.proofs.Laws.{entry-payload}
-use Rattle.state_tables.specs.Classes.{classOf}
+use Rattle.machine.specs.Entry.{classHere}
 use Rattle.contextual.specs.Contextual.{ran}
 use Rattle.contextual.proofs.Runs.{Running, running-start, running-out, running-ended, running-stops, running-goes, next-idle, next-over}
 use Rattle.contextual.proofs.ContextualState.next.Statement.{statement}
 use Rattle.contextual.proofs.ContextualState.next.Tie as tie
 
 abbrev Inv-loop : tie.InvT-loop
-Inv-loop bytes states glyphs₀ used index glyph ends state₀ class₀ current₀ left₀ glyphs state class current left =
-    Running (classOf bytes states) bytes states index used glyphs₀ (ran (classOf bytes states) bytes states index left₀ state₀ class₀ current₀ []) glyphs state class current left
+Inv-loop bytes states table memo₀ glyphs₀ used index glyph ends state₀ current₀ over₀ left₀ memo glyphs state current over left =
+    Running (classBy bytes table) bytes states index used glyphs₀ (ran (classBy bytes table) bytes states index left₀ state₀ (classHere (classBy bytes table) current₀ over₀) current₀ []) memo glyphs state current over left
 
 abbrev μ-loop : tie.MeasureT-loop
-μ-loop bytes states glyphs₀ used index glyph ends state₀ class₀ current₀ left₀ glyphs state class current left =
+μ-loop bytes states table memo₀ glyphs₀ used index glyph ends state₀ current₀ over₀ left₀ memo glyphs state current over left =
     left
 
 idle-requires : tie.Need-idle-requires Inv-loop μ-loop
 idle-requires c κs = search needs
 
 returns : tie.Need-returns Inv-loop μ-loop
-returns c = let e = next-idle _ _ _ _ _ _ _ (c .before .idle .ensures) _ _ (c .if1 .taken) in (e .answers, e .left)
+returns c =
+    let start = c .before .before .before .before in
+    let e = next-idle _ _ _ _ _ _ _ (c .before .idle .ensures) _ _ (c .if1 .taken) in
+    (e .answers, (start .pre .2, e .left))
 
 begun-requires : tie.Need-begun-requires Inv-loop μ-loop
 begun-requires c κs = search needs
 
-class-at-requires : tie.Need-class-at-requires Inv-loop μ-loop
-class-at-requires c κs = search needs
-
 loop-holds : tie.Need-loop-holds Inv-loop μ-loop
-loop-holds c = running-start _ _ _ _ _ _ _ _ _ _
+loop-holds c =
+    let start = c .before .before .before .before .before in
+    running-start _ _ _ _ _ _ _ _ _ _ _ (start .pre .2)
+
+class-now-requires : tie.Need-class-now-requires Inv-loop μ-loop
+class-now-requires c κs =
+    let at-loop = c .before .before in
+    let at-idle = at-loop .before .before .before in
+    let start = at-idle .before .before .before in
+    (start .pre .1, at-loop .loop .inv .memory)
 
 entry-of-requires : tie.Need-entry-of-requires Inv-loop μ-loop
 entry-of-requires c κs = search needs
@@ -41,38 +51,54 @@ enum-told : tie.Need-enum-told Inv-loop μ-loop
 enum-told c = search needs
 
 same-length : tie.Need-same-length Inv-loop μ-loop
-same-length c = omega (arith, c .before .before .before .before .loop .inv .long)
+same-length c =
+    let at-loop = c .before .before .before .before .before .before in
+    omega (arith, at-loop .loop .inv .long)
 
 returns-2 : tie.Need-returns-2 Inv-loop μ-loop
 returns-2 c =
     let at-entry-of = c .before .before in
-    let at-loop-test = at-entry-of .before in
+    let at-class-now = at-entry-of .before in
+    let at-loop-test = at-class-now .before .before in
     let at-loop = at-loop-test .before in
-    let at-class-at = at-loop .before in
-    let at-begun = at-class-at .before in
+    let at-begun = at-loop .before in
     let at-if1 = at-begun .before in
     let at-idle = at-if1 .before in
-    let e = next-over _ _ _ _ _ _ _ (at-idle .idle .ensures) (at-if1 .if1 .left) (at-begun .begun .ensures) (at-class-at .class-at .ensures) (running-ended _ _ _ _ _ _ _ (at-loop .loop .inv) (at-loop-test .loop-test .taken) (at-entry-of .entry-of .ensures) (c .enum-told .given .1)) in
-    (e .answers, e .left)
+    let e = next-over _ _ _ _ _ _ _ (at-idle .idle .ensures) (at-if1 .if1 .left) (at-begun .begun .ensures) (running-ended _ _ _ _ _ _ _ (at-loop .loop .inv) (at-loop-test .loop-test .taken) (at-class-now .class-now .ensures .0) (at-entry-of .entry-of .ensures) (c .enum-told .given .1)) in
+    (e .answers, (at-class-now .class-now .ensures .1, e .left))
 
 act-requires : tie.Need-act-requires Inv-loop μ-loop
 act-requires c κs = entry-payload _ _ _ _ _ (c .before .before .before .entry-of .ensures) (c .before .entry .given .1)
 
 replace-requires : tie.Need-replace-requires Inv-loop μ-loop
-replace-requires c κs = omega arith
+replace-requires c κs =
+    let at-class-now = c .before .before .before .before .before .before in
+    let at-loop = at-class-now .before .before .before in
+    let at-idle = at-loop .before .before .before in
+    let start = at-idle .before .before .before in
+    omega (arith, start .pre .0, at-loop .loop .inv .long)
 
 replace-requires-2 : tie.Need-replace-requires-2 Inv-loop μ-loop
 replace-requires-2 c κs =
     let at-replace = c .before .before .before in
-    let at-loop = at-replace .before .before .before .before .before .before .before .before in
-    let start = at-loop .before .before .before .before .before .before .before in
-    omega (arith, start .pre, at-loop .loop .inv .long, at-replace .replace .kept .0)
+    let at-entry = at-replace .before .before .before .before in
+    let at-class-now = at-entry .before .before .before in
+    let at-loop = at-class-now .before .before .before in
+    let at-idle = at-loop .before .before .before in
+    let start = at-idle .before .before .before in
+    omega (arith, start .pre .0, at-loop .loop .inv .long, at-replace .replace .kept .0)
 
 is-set-requires : tie.Need-is-set-requires Inv-loop μ-loop
 is-set-requires c κs = search needs
 
 same-length-2 : tie.Need-same-length-2 Inv-loop μ-loop
-same-length-2 c = omega arith
+same-length-2 c =
+    let at-replace2 = c .before .before .before .before .before in
+    let at-replace = at-replace2 .before .before .before .before in
+    let at-act = at-replace .before .before in
+    let at-entry-of = at-act .before .before .before .before in
+    let at-loop = at-entry-of .before .before .before .before in
+    omega (arith, at-loop .loop .inv .long, at-replace .replace .kept .0, at-replace2 .replace2 .kept .0)
 
 returns-3 : tie.Need-returns-3 Inv-loop μ-loop
 returns-3 c =
@@ -82,17 +108,14 @@ returns-3 c =
     let at-act = at-replace .before .before in
     let at-entry = at-act .before .before in
     let at-entry-of = at-entry .before .before in
-    let at-loop-test = at-entry-of .before in
+    let at-class-now = at-entry-of .before in
+    let at-loop-test = at-class-now .before .before in
     let at-loop = at-loop-test .before in
-    let at-class-at = at-loop .before in
-    let at-begun = at-class-at .before in
+    let at-begun = at-loop .before in
     let at-if1 = at-begun .before in
     let at-idle = at-if1 .before in
-    let e = next-over _ _ _ _ _ _ _ (at-idle .idle .ensures) (at-if1 .if1 .left) (at-begun .begun .ensures) (at-class-at .class-at .ensures) (running-stops _ _ _ _ _ _ _ (at-loop .loop .inv) (at-loop-test .loop-test .taken) (at-entry-of .entry-of .ensures) (at-entry .entry .given .1) (at-act .act .ensures) (at-replace .replace .ensures) (at-replace2 .replace2 .ensures) (at-is-set .is-set .ensures) (c .if2 .taken)) in
-    (e .answers, e .left)
-
-class-of-requires : tie.Need-class-of-requires Inv-loop μ-loop
-class-of-requires c κs = search needs
+    let e = next-over _ _ _ _ _ _ _ (at-idle .idle .ensures) (at-if1 .if1 .left) (at-begun .begun .ensures) (running-stops _ _ _ _ _ _ _ (at-loop .loop .inv) (at-loop-test .loop-test .taken) (at-class-now .class-now .ensures .0) (at-entry-of .entry-of .ensures) (at-entry .entry .given .1) (at-act .act .ensures) (at-replace .replace .ensures) (at-replace2 .replace2 .ensures) (at-is-set .is-set .ensures) (c .if2 .taken)) in
+    (e .answers, (at-class-now .class-now .ensures .1, e .left))
 
 sub-left : tie.Need-sub-left Inv-loop μ-loop
 sub-left c = omega arith
@@ -109,12 +132,11 @@ same-length-3 c = omega (arith, c .before .loop .inv .long)
 returns-4 : tie.Need-returns-4 Inv-loop μ-loop
 returns-4 c =
     let at-loop = c .before in
-    let at-class-at = at-loop .before in
-    let at-begun = at-class-at .before in
+    let at-begun = at-loop .before in
     let at-if1 = at-begun .before in
     let at-idle = at-if1 .before in
-    let e = next-over _ _ _ _ _ _ _ (at-idle .idle .ensures) (at-if1 .if1 .left) (at-begun .begun .ensures) (at-class-at .class-at .ensures) (running-out _ _ _ _ _ _ _ (at-loop .loop .inv) (c .loop-test .left)) in
-    (e .answers, e .left)
+    let e = next-over _ _ _ _ _ _ _ (at-idle .idle .ensures) (at-if1 .if1 .left) (at-begun .begun .ensures) (running-out _ _ _ _ _ _ _ (at-loop .loop .inv) (c .loop-test .left)) in
+    (e .answers, (at-loop .loop .inv .memory, e .left))
 
 pub next-spec : {M : Type 1} → statement M
 next-spec =
@@ -125,8 +147,8 @@ next-spec =
     idle-requires
     returns
     begun-requires
-    class-at-requires
     loop-holds
+    class-now-requires
     entry-of-requires
     enum-known-entry
     enum-told
@@ -138,7 +160,6 @@ next-spec =
     is-set-requires
     same-length-2
     returns-3
-    class-of-requires
     sub-left
     loop-less
     loop-again

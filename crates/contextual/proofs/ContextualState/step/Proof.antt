@@ -1,5 +1,6 @@
-use Rattle.contextual.proofs.Calls.{step-fits, step-refused, step-headless, step-worked}
+use native.Mathlib.Omega.{arith}
 use borrow.Author.Needs.{needs}
+use Rattle.contextual.proofs.Calls.{step-fits, step-inside, step-refused, step-headless, step-worked}
 use Rattle.contextual.proofs.ContextualState.step.Statement.{statement}
 use Rattle.contextual.proofs.ContextualState.step.Tie as tie
 
@@ -51,22 +52,27 @@ returns-2 c =
 from-requires-2 : tie.Need-from-requires-2
 from-requires-2 c κs = search needs
 
-next-requires : tie.Need-next-requires
-next-requires c κs = search step-fits
+run-requires : tie.Need-run-requires
+run-requires c κs =
+    let at-enum-told = c .before .before .before .before .before in
+    let at-refuse-step = at-enum-told .before .before in
+    let tested = at-refuse-step .refuse-step .ensures in
+    let passed = at-enum-told .enum-told .given .1 in
+    (step-fits _ _ _ _ _ _ _ _ tested passed, omega (arith, step-inside _ _ _ _ _ tested passed))
 
 same-length-3 : tie.Need-same-length-3
 same-length-3 c = search needs
 
 returns-3 : tie.Need-returns-3
 returns-3 c =
-    let at-next = c .before .before in
-    let at-from2 = at-next .before .before in
+    let at-run = c .before .before in
+    let at-from2 = at-run .before .before in
     let at-made = at-from2 .before .before in
     let at-enum-told = at-made .before .before in
     let at-refuse-step = at-enum-told .before .before in
     let at-open = at-refuse-step .before .before in
     let at-from = at-open .before in
-    let e = step-worked _ _ _ _ _ _ _ _ _ _ (at-from .from .ensures) (at-open .«open» .ensures) (at-refuse-step .refuse-step .ensures) (at-enum-told .enum-told .given .1) (at-made .made .given .1) (at-from2 .from2 .ensures) (at-next .next .ensures .0) (at-next .next .ensures .1) in
+    let e = step-worked _ _ _ _ _ _ _ _ _ _ (at-from .from .ensures) (at-open .«open» .ensures) (at-refuse-step .refuse-step .ensures) (at-enum-told .enum-told .given .1) (at-made .made .given .1) (at-from2 .from2 .ensures) (at-run .run .ensures .0) (at-run .run .ensures .1) in
     (e .answers, e .left)
 
 pub step-spec : {M : Type 1} → statement M
@@ -85,6 +91,6 @@ step-spec =
     same-length-2
     returns-2
     from-requires-2
-    next-requires
+    run-requires
     same-length-3
     returns-3)
