@@ -5,3 +5,4 @@ pub mod Surveys
 pub mod Finding
 pub mod ManualLookup
 pub mod Openings
+mod Wholeness

@@ -3,6 +3,7 @@ pub mod Records
 pub mod Search
 pub mod Lookup
 pub mod Opened
+pub mod Whole
 pub mod Survey
 pub mod Order
 pub mod ManualLookup

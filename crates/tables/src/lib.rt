@@ -3,3 +3,4 @@ pub mod lookup;
 pub mod opened;
 pub mod records;
 pub mod survey;
+pub mod whole;

@@ -59,7 +59,7 @@ fn element_in_array(bytes: &[u8], place: usize, glyph: u16) -> Found
 }
 
 // The element of a glyph in the record that holds it.
-fn element_of(bytes: &[u8], kind: Kind, place: usize, glyph: u16) -> Found
+pub fn element_of(bytes: &[u8], kind: Kind, place: usize, glyph: u16) -> Found
     requires { ⌜ place < 2 ^ 36 ⌝ }
     ensures { λ r. ⌜ r ≡ elementOf (now (bytes .entry)) kind place glyph ⌝ }
 {
