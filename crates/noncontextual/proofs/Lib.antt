@@ -1,4 +1,5 @@
 -- Laws of the non-contextual pass.
 mod Calls
+mod Memos
 mod Passes
 pub mod Honesty

@@ -1,20 +1,24 @@
 -- The pass's loop: the places below i are done, and the others are as they were.
 use Prim.Native.Nat.{ℕ, _+_, _<_, _≤_}
-use mathlib.Core.Path.{_≡_, refl, sym, _∙_, ap}
+use mathlib.Core.Path.{_≡_, refl, sym, _∙_, ap, subst⁻¹}
 use mathlib.Core.List.{List}
 use native.Mathlib.Numerals.{add-one}
 use native.Mathlib.Omega.{arith}
-use lib.ListN.{length, getD}
-use lib.Seq.{getD-set-other}
+use lib.ListN.{length, getD, set, length-set}
+use lib.Seq.{getD-set-other, set-getD}
 use borrow.Author.Tests.{lt-ltb}
 use Rattle.tables.specs.Lookup.{lookupAt}
+use Rattle.tables.specs.Opened.{openedOf, plain, foundIn, LiesIn}
+use Rattle.tables.specs.Whole.{becomes}
+use Rattle.tables.specs.declared.opened.Opened.{Opened}
 use Rattle.tables.specs.declared.lookup.Found.{Found}
 use Rattle.tables.specs.declared.lookup.Found.the-variants as Found′
+use Rattle.tables.proofs.Openings.{opened-same, opened-lies}
 use Rattle.line.specs.Line.{Line, lineOf}
 use Rattle.line.specs.Changes.{written, apply, applyAll}
 use Rattle.line.proofs.Histories.{applyAll-append}
 use Rattle.noncontextual.specs.NonContextual.{writesOf, writesBelow, passed}
-use Rattle.noncontextual.specs.Work.{replaced, passedLeaves}
+use Rattle.noncontextual.specs.Work.{replaced, becomesBy, passedLeaves}
 
 -- a replacement is the writes of its place
 replaced-line : (place : ℕ) (found : Found) (glyphs tags homes : List ℕ) (used : ℕ)
@@ -29,6 +33,22 @@ replaced-other : (place : ℕ) (found : Found) (glyphs : List ℕ) (used : ℕ) 
 unfolding written
 replaced-other place (Found′.At glyph) glyphs used h k p = rw (lt-ltb place used h) (getD-set-other glyphs place k glyph 0 (omega arith))
 replaced-other place (Found′.Nothing why) glyphs used h k p = refl
+
+-- a lookup that was opened lies in its bytes
+pub opened-inside : (body : List ℕ) {opened : Opened} → opened ≡ openedOf body → LiesIn body opened
+opened-inside body o = subst⁻¹ (λ (x : Opened). LiesIn body x) o (opened-lies body)
+
+-- why nothing is found does not matter to it
+replaced-plain : (used place : ℕ) (found : Found) (glyphs : List ℕ) → replaced used place (plain found) glyphs ≡ replaced used place found glyphs
+replaced-plain used place (Found′.At glyph) glyphs = refl
+replaced-plain used place (Found′.Nothing why) glyphs = refl
+
+-- a glyph of the line that becomes itself stays
+becomes-replaced : (used place : ℕ) (found : Found) (glyphs : List ℕ) → place < used
+    → set glyphs place (becomes (getD glyphs place 0) found) ≡ replaced used place found glyphs
+unfolding written
+becomes-replaced used place (Found′.At glyph) glyphs h = rw (lt-ltb place used h)
+becomes-replaced used place (Found′.Nothing why) glyphs h = set-getD glyphs place 0
 
 module _ (body glyphs₀ tags homes : List ℕ) (used : ℕ) where
   -- what the loop knows at place i
@@ -55,6 +75,26 @@ module _ (body glyphs₀ tags homes : List ℕ) (used : ℕ) where
         ahead = λ k p. ap (λ (x : List ℕ). getD x k 0) e′ ∙ replaced-other i found glyphs used h k (omega arith) ∙ g .ahead k (omega arith);
         long = len ∙ g .long;
       }
+
+  -- a lookup that was opened
+  pub going-found : {glyphs glyphs′ : List ℕ} {i : ℕ} {opened : Opened} → opened ≡ openedOf body → Going glyphs i → i < used
+      → glyphs′ ≡ replaced used i (foundIn body opened (getD glyphs i 0)) glyphs → length glyphs′ ≡ length glyphs → Going glyphs′ (i + 1)
+  going-found {glyphs} {glyphs′} {i} o g h e len =
+      let glyph = getD glyphs i 0 in
+      let e′ : glyphs′ ≡ replaced used i (lookupAt body glyph) glyphs =
+      e
+      ∙ ap (λ (x : Opened). replaced used i (foundIn body x glyph) glyphs) o
+      ∙ ap (λ (found : Found). replaced used i found glyphs) (opened-same body glyph)
+      ∙ replaced-plain used i (lookupAt body glyph) glyphs in
+      going-step g h e′ len
+
+  -- what becomes of the glyph
+  pub going-becomes : {glyphs : List ℕ} {i becoming : ℕ} → Going glyphs i → i < used → becoming ≡ becomesBy body (getD glyphs i 0) → Going (set glyphs i becoming) (i + 1)
+  unfolding becomesBy
+  going-becomes {glyphs} {i} {becoming} g h e =
+      going-step g h
+      (ap (set glyphs i) e ∙ becomes-replaced used i (lookupAt body (getD glyphs i 0)) glyphs h)
+      (length-set glyphs i becoming)
 
   pub going-done : {glyphs : List ℕ} {i : ℕ} → Going glyphs i → used ≤ i → glyphs ≡ passedLeaves body (lineOf glyphs₀ tags homes used) .glyphs
   unfolding passedLeaves passed

@@ -1,7 +1,12 @@
 -- For the code alone; no entry and no promise rests on it, and nobody has to believe it. What the parts of the code leave: a lookup on the glyphs
--- alone, and a pass without its tests.
-use Prim.Native.Nat.{ℕ}
+-- alone, a pass without its tests, and what is remembered of a lookup that is searched.
+use Prim.Native.Nat.{ℕ, _+_, _*_, _/_, _%_}
+use mathlib.Core.Path.{_≡_}
 use mathlib.Core.List.{List}
+use lib.ListN.{length, getD, set, replicate}
+use Rattle.laws.specs.Choose.{ifEq}
+use Rattle.tables.specs.Lookup.{lookupAt}
+use Rattle.tables.specs.Whole.{becomes}
 use Rattle.tables.specs.declared.lookup.Found.{Found}
 use Rattle.tables.specs.declared.lookup.Found.the-variants as Found′
 use Rattle.line.specs.Line.{Line}
@@ -20,3 +25,20 @@ passedLeaves body l = applyAll (passed body l .changes) l
 -- the line that the pass by the subtable that the bytes begin with leaves
 unfoldable pub workLeaves : List ℕ → Line → Line
 workLeaves bytes l = applyAll (worked bytes l .changes) l
+
+-- what becomes of a glyph
+unfoldable pub becomesBy : List ℕ → (glyph : ℕ) → ℕ
+becomesBy body glyph = becomes glyph (lookupAt body glyph)
+
+-- 64 slots, of which each remembers one of its glyphs, the how many-th, and what that becomes; 0 is none
+abbrev pub nothingFound : List ℕ
+nothingFound = replicate 64 0
+
+pub record Remembers (becoming : ℕ → ℕ) (memo : List ℕ) : Type 0 where
+  pub long : length memo ≡ 64
+  pub slots : (glyph : ℕ) → getD memo (glyph % 64) 0 / 65536 ≡ glyph / 64 + 1 → getD memo (glyph % 64) 0 % 65536 ≡ becoming glyph
+
+-- what is remembered once a glyph was asked for
+unfoldable pub noted : (becoming : ℕ → ℕ) → (memo : List ℕ) → (glyph : ℕ) → List ℕ
+noted becoming memo glyph =
+    ifEq (getD memo (glyph % 64) 0 / 65536) (glyph / 64 + 1) memo (set memo (glyph % 64) ((glyph / 64 + 1) * 65536 + becoming glyph))

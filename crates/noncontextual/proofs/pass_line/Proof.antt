@@ -1,55 +1,54 @@
-use Prim.Native.Nat.{_-_}
-use native.Mathlib.Omega.{arith}
+use mathlib.Core.Path.{sym, _∙_}
 use borrow.Author.Needs.{needs}
-use Rattle.noncontextual.proofs.Passes.{Going, going-start, going-step, going-done}
 use Rattle.noncontextual.proofs.pass_line.Statement.{statement}
 use Rattle.noncontextual.proofs.pass_line.Tie as tie
+use Rattle.noncontextual.proofs.pass_line.Reads as reads
+use Rattle.noncontextual.proofs.pass_line.Lts as lts
+use Rattle.noncontextual.proofs.by_lookup.Reads as by-lookup-reads
+use Rattle.noncontextual.proofs.by_records.Reads as by-records-reads
+use Rattle.tables.proofs.whole.records_of.Reads as records-of-reads
 
-abbrev Inv-loop : tie.InvT-loop
-Inv-loop body glyphs₀ tags homes used place₀ glyphs place = Going body glyphs₀ tags homes used glyphs place
+records-of-requires : tie.Need-records-of-requires
+records-of-requires c κs = search needs
 
-abbrev μ-loop : tie.MeasureT-loop
-μ-loop body glyphs₀ tags homes used place₀ glyphs place = used - place
+enum-known-kind : tie.Need-enum-known-kind
+enum-known-kind c = search needs
 
-loop-holds : tie.Need-loop-holds Inv-loop μ-loop
-loop-holds c = going-start _ _ _ _ _
+enum-told : tie.Need-enum-told
+enum-told c = search needs
 
-mul-glyph : tie.Need-mul-glyph Inv-loop μ-loop
-mul-glyph c = search needs
+by-lookup-requires : tie.Need-by-lookup-requires
+by-lookup-requires c κs = search needs
 
-slice-read-glyph : tie.Need-slice-read-glyph Inv-loop μ-loop
-slice-read-glyph c = omega arith
+same-length : tie.Need-same-length
+same-length c = search needs
 
-replace-requires : tie.Need-replace-requires Inv-loop μ-loop
-replace-requires c κs = omega arith
+returns : tie.Need-returns
+returns c = search needs
 
-add-place : tie.Need-add-place Inv-loop μ-loop
-add-place c = omega arith
+by-records-requires : tie.Need-by-records-requires
+by-records-requires c κs =
+    let at-kind = c .before .before in
+    let at-records-of = at-kind .before .before in
+    let start = at-records-of .before .before .before .before .before in
+    (sym (at-records-of .records-of .ensures) ∙ at-kind .kind .given .1, start .pre)
 
-loop-less : tie.Need-loop-less Inv-loop μ-loop
-loop-less c = omega arith
+same-length-2 : tie.Need-same-length-2
+same-length-2 c = search needs
 
-loop-again : tie.Need-loop-again Inv-loop μ-loop
-loop-again c = search going-step
-
-same-length : tie.Need-same-length Inv-loop μ-loop
-same-length c = omega arith
-
-returns : tie.Need-returns Inv-loop μ-loop
-returns c = going-done _ _ _ _ _ (c .before .loop .inv) (c .loop-test .left)
+returns-2 : tie.Need-returns-2
+returns-2 c = search needs
 
 pub pass-line-spec : {M : Type 1} → statement M
 pass-line-spec =
     tie.close
     (tie.spec
-    Inv-loop
-    μ-loop
-    loop-holds
-    mul-glyph
-    slice-read-glyph
-    replace-requires
-    add-place
-    loop-less
-    loop-again
+    records-of-requires
+    enum-known-kind
+    enum-told
+    by-lookup-requires
     same-length
-    returns)
+    returns
+    by-records-requires
+    same-length-2
+    returns-2)
