@@ -110,8 +110,8 @@ nothing-counted new bytes v k h = rw (readU16-got bytes 0 (omega (arith, k)), v,
 
 pub kern-without-list : (edition : Edition) (bytes : List ℕ) → HasVersion edition bytes → 2 ≤ length bytes → length bytes < firstOf edition
     → walkOf bytes ≡ []
-unfolding walkOf heads
-kern-without-list edition bytes v k h = rw (nothing-counted edition bytes v k h, heads)
+unfolding walkOf headsFrom
+kern-without-list edition bytes v k h = rw (nothing-counted edition bytes v k h, headsFrom)
 
 -- the answer for a pair
 module _ (bytes : List ℕ) (left right : ℕ) where
