@@ -9,9 +9,9 @@ use lib.ListN.{length}
 use borrow.Author.Tests.{lt-ltb, le-ltb}
 use Rattle.laws.proofs.Numbers.{eq-or-ne, lt-or-ge}
 use Rattle.parse.specs.Reads.{u32At, readU16}
-use Rattle.parse.proofs.Laws.{readU16-got, readU32-got}
+use Rattle.parse.proofs.Laws.{readU16-got}
 use Rattle.tables.specs.Records.{recordPlace, pairPlace}
-use Rattle.tables.specs.Search.{against, sideOf, sideOfRecord, sideOfRange, sideOfArray, sideOfSingle, sideOfPair, find, searched}
+use Rattle.tables.specs.Search.{against, sideOf, sideOfRecord, sideOfRange, sideOfArray, sideOfSingle, find, searched}
 use Rattle.tables.specs.Order.{Good, InOrder, Holds, TheOne, firstOf, lastOf}
 use Rattle.tables.specs.declared.records.Keys.the-variants.{Glyphs, Pairs}
 use Rattle.tables.specs.declared.records.Kind.{Kind}
@@ -20,6 +20,7 @@ use Rattle.tables.specs.declared.records.Side.{Side}
 use Rattle.tables.specs.declared.records.Side.the-variants as Side′
 use Rattle.tables.specs.declared.records.Spot.{Spot}
 use Rattle.tables.specs.declared.records.Spot.the-variants.{At, Absent, Cut}
+use Rattle.tables.proofs.Pairs.{pair-side}
 use Rattle.tables.proofs.Halving.{middle, find-left, find-right, find-here, find-done}
 
 -- records in order, by the side on which the key lies from each: first and last are where they are compared
@@ -160,10 +161,6 @@ module _ (bytes : List ℕ) (first count key : ℕ) (whole : (i : ℕ) → i < c
   abbrev keyAt : ℕ → ℕ
   keyAt i = u32At bytes (pairPlace first i)
 
-  pair-side : (i : ℕ) → i < count → sideOf bytes first Pairs key i ≡ against key (keyAt i) (keyAt i)
-  unfolding sideOf sideOfPair
-  pair-side i h = rw (readU32-got bytes (pairPlace first i) (whole i h), sideOfPair)
-
   pub search-finds-pair : TheOne keyAt keyAt count key (searched bytes first Pairs count key)
   unfolding searched
-  search-finds-pair = find-finds (sideOf bytes first Pairs key) keyAt keyAt count key pair-side (λ i h. omega arith) upward
+  search-finds-pair = find-finds (sideOf bytes first Pairs key) keyAt keyAt count key (λ i h. pair-side bytes first key i (whole i h)) (λ i h. omega arith) upward

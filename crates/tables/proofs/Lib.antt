@@ -1,5 +1,6 @@
 -- Laws behind the functions' proofs and the theorems.
 mod Halving
+mod Pairs
 mod Scanning
 pub mod Surveys
 pub mod Finding

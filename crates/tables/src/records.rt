@@ -1,7 +1,10 @@
 // Sorted records, those of a lookup table and kerning pairs, and the one search over them.
 ghost use mathlib.Core.Path.{_≡_};
-ghost use Prim.Native.Nat.{_<_, _^_};
+ghost use Prim.Native.Nat.{_+_, _<_, _≤_, _^_};
+ghost use lib.ListN.{length};
+ghost use Rattle.parse.specs.Reads.{u32At};
 ghost use Rattle.tables.specs.Records.{recordPlace, pairPlace, formatOf};
+ghost use Rattle.tables.specs.declared.records.Keys.the-variants.{Pairs};
 ghost use Rattle.tables.specs.Search.{sideOfRange, sideOfArray, sideOfSingle, sideOfRecord, sideOfPair, sideOf, searched};
 
 // The records of formats 2, 4 and 6: last, first, element; last, first, offset; glyph, element.
@@ -179,6 +182,35 @@ pub fn search(bytes: &[u8], base: u16, keys: Keys, count: u32, key: u32) -> Spot
             Side::Right => lo = mid + 1,
             Side::Here => return Spot::At(mid as u32),
             Side::Cut => return Spot::Cut,
+        }
+    }
+    Spot::Absent
+}
+
+// The key of the pair at a place that is known to lie in the table.
+fn pair_at(bytes: &[u8], place: usize) -> u32
+    requires { ⌜ place + 4 ≤ length (now bytes) ⌝ }
+    ensures { λ r. ⌜ r ≡ u32At (now (bytes .entry)) place ⌝ }
+{
+    parse::u16_at(bytes, place) as u32 * 65536 + parse::u16_at(bytes, place + 2) as u32
+}
+
+// The same search over pairs that are known to lie in the table, whose reads need no test.
+pub fn search_inside(bytes: &[u8], base: u16, count: u32, key: u32) -> Spot
+    requires { ⌜ pairPlace base count ≤ length (now bytes) ⌝ }
+    ensures { λ r. ⌜ r ≡ searched (now (bytes .entry)) base Pairs count key ⌝ }
+{
+    let mut lo: usize = 0;
+    let mut hi = count as usize;
+    while lo < hi {
+        let mid = (lo + hi) / 2;
+        let pair = pair_at(bytes, base as usize + mid * 6);
+        if key < pair {
+            hi = mid;
+        } else if pair < key {
+            lo = mid + 1;
+        } else {
+            return Spot::At(mid as u32);
         }
     }
     Spot::Absent
