@@ -25,7 +25,8 @@ use Rattle.pairs.specs.declared.Opened.{Opened}
 use Rattle.pairs.specs.declared.Opened.the-variants as Opened′
 use Rattle.pairs.specs.declared.PairReply.{PairReply}
 use Rattle.pairs.specs.declared.PairReply.the-variants as Reply′
-use Rattle.pairs.proofs.Passes.{Sized, sized}
+use Rattle.pairs.specs.Work.{Sized}
+use Rattle.pairs.proofs.Passes.{sized}
 use Rattle.kerning_lists.specs.Walk.{onHead}
 use Rattle.kerning_lists.specs.declared.Head.{Head}
 use Rattle.kerning_lists.specs.declared.Head.the-variants as Head′

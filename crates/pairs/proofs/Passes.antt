@@ -17,6 +17,9 @@ use Rattle.parse.specs.Reads.{inside, u16At, readI16}
 use Rattle.tables.specs.Records.{pairPlace}
 use Rattle.tables.specs.Search.{searched}
 use Rattle.tables.specs.Lookup.{lookupAt}
+use Rattle.tables.specs.Opened.{openedOf, plain, foundIn}
+use Rattle.tables.specs.declared.opened.Opened as Tables′
+use Rattle.tables.proofs.Openings.{opened-same}
 use Rattle.tables.specs.declared.records.Keys.the-variants as Keys′
 use Rattle.tables.specs.declared.records.Spot.{Spot}
 use Rattle.tables.specs.declared.records.Spot.the-variants as Spot′
@@ -29,6 +32,7 @@ use Rattle.kerning.proofs.Adding.{length-addAll, addAll-none, addAll-append, wi
 use Rattle.pairs.specs.Pairs.{keyOf, numberAt, numberIn, orderedNumber, onClass, numberInRow, classNumber, pairNumber}
 use Rattle.pairs.specs.Reply.{replyOf}
 use Rattle.pairs.specs.declared.PairReply.the-variants as Reply′
+use Rattle.pairs.specs.Work.{onFound, openedNumber, Sized}
 use Rattle.pairs.specs.Pass.{additionOf, everyPlace, lastBelow, pairsBelow, workedBy}
 use Rattle.pairs.specs.declared.PairTable.{PairTable}
 use Rattle.pairs.specs.declared.PairTable.the-variants.{Ordered, Classes}
@@ -36,11 +40,6 @@ use Rattle.pairs.specs.declared.Opened.{Opened}
 use Rattle.pairs.specs.declared.Opened.the-variants.{Ready, Short}
 use Rattle.pairs.specs.declared.Number.{Number}
 use Rattle.pairs.specs.declared.Number.the-variants.{By, Nothing}
-
--- a pair's number is one of 16 bits
-abbrev pub Sized : Number → Type 0
-Sized (By z) = SFits w16 z
-Sized (Nothing why) = Unit {0}
 
 sized-at : (bytes : List ℕ) (place : ℕ) → Sized (numberAt bytes place)
 unfolding numberAt readI16
@@ -60,12 +59,46 @@ sized-class : (found : Found) (then : ℕ → Number) → ((class : ℕ) → Siz
 sized-class (Found′.At class) then s = s class
 sized-class (Found′.Nothing why) then s = tt
 
+pub sized-ordered : (bytes : List ℕ) (first count left right : ℕ) → Sized (orderedNumber bytes first count left right)
+unfolding orderedNumber
+sized-ordered bytes first count left right = sized-in bytes first (searched bytes first Keys′.Pairs count (keyOf left right))
+
 pub sized : (bytes : List ℕ) (pairs : PairTable) (left right : ℕ) → Sized (pairNumber bytes pairs left right)
-unfolding pairNumber orderedNumber classNumber numberInRow
-sized bytes (Ordered first count) left right = sized-in bytes first (searched bytes first Keys′.Pairs count (keyOf left right))
+unfolding pairNumber classNumber numberInRow
+sized bytes (Ordered first count) left right = sized-ordered bytes first count left right
 sized bytes (Classes rows columns array) left right =
     sized-class (lookupAt (drop rows bytes) left) _
     (λ row. sized-class (lookupAt (drop columns bytes) right) _ (λ column. sized-at bytes (array + row + column)))
+
+pub sized-opened : (bytes rows : List ℕ) (leftRows : Tables′.Opened) (columns : List ℕ) (rightColumns : Tables′.Opened) (array left right : ℕ)
+    → Sized (openedNumber bytes rows leftRows columns rightColumns array left right)
+unfolding openedNumber
+sized-opened bytes rows leftRows columns rightColumns array left right = go (foundIn rows leftRows left) (foundIn columns rightColumns right)
+  where
+    go : (row column : Found) → Sized (onFound row (λ r. onFound column (λ c. numberAt bytes (array + r + c))))
+    go (Found′.At r) (Found′.At c) = sized-at bytes (array + r + c)
+    go (Found′.At r) (Found′.Nothing why) = tt
+    go (Found′.Nothing why) column = tt
+
+-- by classes whose tables are opened once: the same, but for why there is no number
+module _ (bytes : List ℕ) (rows columns array left right : ℕ) {lefts rights : List ℕ} {leftRows rightColumns : Tables′.Opened} {found : Number}
+    (a : lefts ≡ drop rows bytes) (b : rights ≡ drop columns bytes) (o : leftRows ≡ openedOf lefts) (p : rightColumns ≡ openedOf rights)
+    (e : found ≡ openedNumber bytes lefts leftRows rights rightColumns array left right) where
+  opened-is : found ≡ onFound (plain (lookupAt (drop rows bytes) left))
+      (λ row. onFound (plain (lookupAt (drop columns bytes) right)) (λ column. numberAt bytes (array + row + column)))
+  unfolding openedNumber
+  opened-is = e ∙ rw (o, p, opened-same lefts left, opened-same rights right, a, b)
+
+  pub opened-adds : (place : ℕ) → additionOf place found ≡ additionOf place (pairNumber bytes (Classes rows columns array) left right)
+  unfolding pairNumber classNumber numberInRow
+  opened-adds place = ap (additionOf place) opened-is ∙ go (lookupAt (drop rows bytes) left) (lookupAt (drop columns bytes) right)
+    where
+      go : (row column : Found)
+          → additionOf place (onFound (plain row) (λ r. onFound (plain column) (λ c. numberAt bytes (array + r + c))))
+          ≡ additionOf place (onClass row (λ r. onClass column (λ c. numberAt bytes (array + r + c))))
+      go (Found′.At r) (Found′.At c) = refl
+      go (Found′.At r) (Found′.Nothing why) = refl
+      go (Found′.Nothing why) column = refl
 
 -- what one pair adds is small, and one number at most
 small-addition : (place : ℕ) (number : Number) → Sized number → Small (additionOf place number)
@@ -77,14 +110,10 @@ few-addition place (By z) = omega arith
 few-addition place (Nothing why) = omega arith
 
 -- what the code adds
-pub added-by : (bytes : List ℕ) (pairs : PairTable) (left right place : ℕ) (along : List ℤ) {number : Number} {z : ℤ} {after : List ℤ}
-    → number ≡ pairNumber bytes pairs left right → number ≡ By z → after ≡ addAt place (toZ w16 (ofZ w16 z)) along
-    → after ≡ addAll (additionOf place (pairNumber bytes pairs left right)) along
+pub added-by : (place : ℕ) (along : List ℤ) {number : Number} {z : ℤ} {after : List ℤ} → Sized number → number ≡ By z
+    → after ≡ addAt place (toZ w16 (ofZ w16 z)) along → after ≡ addAll (additionOf place number) along
 unfolding addAll
-added-by bytes pairs left right place along {number} {z} {after} e f g =
-    let h : pairNumber bytes pairs left right ≡ By z = sym e ∙ f in
-    let fits : SFits w16 z = subst Sized h (sized bytes pairs left right) in
-    rw h (g ∙ ap (λ (x : ℤ). addAt place x along) (toZ-ofZ fits))
+added-by place along s f g = rw f (g ∙ ap (λ (x : ℤ). addAt place x along) (toZ-ofZ (subst Sized f s)))
 
 module _ (number : (left right : ℕ) → Number) (glyphs : List ℕ) (all : (left right : ℕ) → Sized (number left right)) where
   abbrev below : ℕ → List Addition
@@ -107,13 +136,14 @@ module _ (number : (left right : ℕ) → Number) (glyphs : List ℕ) (all : (le
   pairing-start used b along w =
       record { begun = omega arith; within = omega arith; same = refl; long = refl; small = within-more (omega arith) w }
 
-  pub pairing-next : {used b : ℕ} {along₀ along after : List ℤ} {i : ℕ} → Pairing used b along₀ along i → i < used
-      → after ≡ addAll (additionOf (i - 1) (number (getD glyphs (i - 1) 0) (getD glyphs i 0))) along → Pairing used b along₀ after (i + 1)
-  pairing-next {used} {b} {along₀} {along} {after} {i} p h e =
+  pub pairing-next : {used b : ℕ} {along₀ along after : List ℤ} {i : ℕ} (added : List Addition) → Pairing used b along₀ along i → i < used
+      → after ≡ addAll added along → added ≡ additionOf (i - 1) (number (getD glyphs (i - 1) 0) (getD glyphs i 0)) → Pairing used b along₀ after (i + 1)
+  pairing-next {used} {b} {along₀} {along} {after} {i} added p h f same =
       let j : ℕ = i - 1 in
       let s : i ≡ suc j = omega (arith, p .begun) in
       let n : Number = number (getD glyphs j 0) (getD glyphs i 0) in
       let z : Sized n = all (getD glyphs j 0) (getD glyphs i 0) in
+      let e : after ≡ addAll (additionOf j n) along = f ∙ ap (λ (a : List Addition). addAll a along) same in
       let r : below (i + 1) ≡ below i ++ additionOf j n =
       subst (λ (k : ℕ). below (k + 1) ≡ below k ++ additionOf j (number (getD glyphs j 0) (getD glyphs k 0))) (sym s)
       (ap below (add-one (suc j)) ∙ below-next j) in

@@ -2,4 +2,5 @@
 pub mod Pairs
 pub mod Reply
 pub mod Pass
+pub mod Work
 pub mod Manual

@@ -4,18 +4,23 @@ use answers::Refusal;
 use tables::lookup;
 use tables::lookup::Found;
 use tables::lookup::Why;
+use tables::opened;
 use tables::records;
 use tables::records::Keys;
 use tables::records::Spot;
 ghost use mathlib.Core.Path.{_≡_};
-ghost use Prim.Native.Nat.{_<_, _≤_, _^_};
+ghost use Prim.Native.Nat.{_-_, _<_, _≤_, _^_};
 ghost use lib.ListN.{length};
 ghost use Rattle.answers.specs.Limits.{roomLimit};
+ghost use Rattle.tables.specs.Records.{pairPlace};
+ghost use Rattle.tables.specs.Opened.{LiesIn};
 ghost use Rattle.kerning.specs.Additions.{addAll};
 ghost use Rattle.kerning.specs.Bounds.{Within};
 ghost use Rattle.pairs.specs.Reply.{replyOf};
 ghost use Rattle.pairs.specs.Pass.{additionOf, everyPlace, pairsBelow, workedBy};
 ghost use Rattle.pairs.specs.Pairs.{keyOf, orderedKern, orderedKerx, classesKerx, numberAt, orderedNumber, numberInRow, classNumber, pairNumber};
+ghost use Rattle.pairs.specs.declared.PairTable.the-variants.{Ordered, Classes};
+ghost use Rattle.pairs.specs.Work.{openedNumber, Sized};
 
 // Where a subtable's pairs lie, from its own start on: as many ordered pairs as counted, or the left glyphs' rows, the right
 // ones' columns, and the array.
@@ -166,15 +171,129 @@ pub fn reply(bytes: &[u8], opened: Opened, left: u16, right: u16) -> PairReply
     PairReply::Number(number)
 }
 
-// The number of a pair is added to the place of its left glyph.
-fn add_pair(bytes: &[u8], pairs: PairTable, left: u16, right: u16, place: usize, along: &mut [i64])
-    requires { ⌜ (place < length (now along)) × Within (2 ^ 62) (now along) ⌝ }
-    ensures { λ _. ⌜ now (along .exit) ≡ addAll (additionOf place (pairNumber (now (bytes .entry)) pairs left right)) (now (along .entry)) ⌝ }
+// What a pair gives is added to the place of its left glyph, the one before `place`.
+fn add_before(along: &mut [i64], place: usize, number: Number)
+    requires { ⌜ (1 ≤ place) × (place ≤ length (now along)) × Within (2 ^ 62) (now along) × Sized number ⌝ }
+    ensures { λ _. ⌜ now (along .exit) ≡ addAll (additionOf (place - 1) number) (now (along .entry)) ⌝ }
 {
-    let Number::By(number) = number_of(bytes, pairs, left, right) else {
+    let Number::By(amount) = number else {
         return;
     };
-    kerning::add(along, place, number);
+    kerning::add(along, place - 1, amount);
+}
+
+// Neighbours, from the first two on: by any pairs.
+fn add_each(bytes: &[u8], pairs: PairTable, glyphs: &[u16], used: usize, along: &mut [i64])
+    requires { ⌜ (used ≤ length (now glyphs)) × (used ≤ length (now along)) × (used ≤ roomLimit) × Within (2 ^ 60) (now along) ⌝ }
+    ensures { λ _. ⌜ now (along .exit) ≡ addAll (pairsBelow everyPlace (pairNumber (now (bytes .entry)) pairs) (now (glyphs .entry)) used) (now (along .entry)) ⌝ }
+{
+    let mut place = 1;
+    while place < used {
+        let number = number_of(bytes, pairs, glyphs[place - 1], glyphs[place]);
+        add_before(along, place, number);
+        place += 1;
+    }
+}
+
+// The number of a pair among ordered pairs that all lie in the table.
+fn inside_number(bytes: &[u8], first: u16, count: u32, left: u16, right: u16) -> Number
+    requires { ⌜ pairPlace first count ≤ length (now bytes) ⌝ }
+    ensures { λ r. ⌜ r ≡ orderedNumber (now (bytes .entry)) first count left right ⌝ }
+{
+    let spot = records::search_inside(bytes, first, count, key_of(left, right));
+    match spot {
+        Spot::At(index) => number_at(bytes, records::pair_place(first, index) + 4),
+        Spot::Absent => Number::Nothing(Why::NotCovered),
+        Spot::Cut => Number::Nothing(Why::CutShort),
+    }
+}
+
+// Neighbours by ordered pairs that all lie in the table.
+fn add_inside(bytes: &[u8], first: u16, count: u32, glyphs: &[u16], used: usize, along: &mut [i64])
+    requires { ⌜ (pairPlace first count ≤ length (now bytes)) × (used ≤ length (now glyphs)) × (used ≤ length (now along)) × (used ≤ roomLimit) × Within (2 ^ 60) (now along) ⌝ }
+    ensures { λ _. ⌜ now (along .exit) ≡ addAll (pairsBelow everyPlace (pairNumber (now (bytes .entry)) (Ordered first count)) (now (glyphs .entry)) used) (now (along .entry)) ⌝ }
+{
+    let mut place = 1;
+    while place < used {
+        let number = inside_number(bytes, first, count, glyphs[place - 1], glyphs[place]);
+        add_before(along, place, number);
+        place += 1;
+    }
+}
+
+// Neighbours by ordered pairs.
+fn add_ordered(bytes: &[u8], first: u16, count: u32, glyphs: &[u16], used: usize, along: &mut [i64])
+    requires { ⌜ (used ≤ length (now glyphs)) × (used ≤ length (now along)) × (used ≤ roomLimit) × Within (2 ^ 60) (now along) ⌝ }
+    ensures { λ _. ⌜ now (along .exit) ≡ addAll (pairsBelow everyPlace (pairNumber (now (bytes .entry)) (Ordered first count)) (now (glyphs .entry)) used) (now (along .entry)) ⌝ }
+{
+    if bytes.len() < records::pair_place(first, count) {
+        add_each(
+            bytes,
+            PairTable::Ordered { first, count },
+            glyphs,
+            used,
+            along,
+        );
+        return;
+    }
+    add_inside(bytes, first, count, glyphs, used, along);
+}
+
+// The number of a pair by its classes, whose tables are opened; why there is none is not told apart.
+fn opened_number(
+    bytes: &[u8],
+    rows: &[u8],
+    left_rows: opened::Opened,
+    columns: &[u8],
+    right_columns: opened::Opened,
+    array: u32,
+    left: u16,
+    right: u16,
+) -> Number
+    requires { ⌜ LiesIn (now rows) «left_rows» × LiesIn (now columns) «right_columns» ⌝ }
+    ensures { λ r. ⌜ r ≡ openedNumber (now (bytes .entry)) (now (rows .entry)) «left_rows» (now (columns .entry)) «right_columns» array left right ⌝ }
+{
+    let Found::At(row) = opened::found_in(rows, left_rows, left) else {
+        return Number::Nothing(Why::NotCovered);
+    };
+    let Found::At(column) = opened::found_in(columns, right_columns, right) else {
+        return Number::Nothing(Why::NotCovered);
+    };
+    number_at(bytes, array as usize + row as usize + column as usize)
+}
+
+// Neighbours by classes.
+fn add_classes(
+    bytes: &[u8],
+    rows: u32,
+    columns: u32,
+    array: u32,
+    glyphs: &[u16],
+    used: usize,
+    along: &mut [i64],
+)
+    requires { ⌜ (used ≤ length (now glyphs)) × (used ≤ length (now along)) × (used ≤ roomLimit) × Within (2 ^ 60) (now along) ⌝ }
+    ensures { λ _. ⌜ now (along .exit) ≡ addAll (pairsBelow everyPlace (pairNumber (now (bytes .entry)) (Classes rows columns array)) (now (glyphs .entry)) used) (now (along .entry)) ⌝ }
+{
+    let lefts = parse::from(bytes, rows as usize);
+    let rights = parse::from(bytes, columns as usize);
+    let left_rows = opened::open(lefts);
+    let right_columns = opened::open(rights);
+    let mut place = 1;
+    while place < used {
+        let number = opened_number(
+            bytes,
+            lefts,
+            left_rows,
+            rights,
+            right_columns,
+            array,
+            glyphs[place - 1],
+            glyphs[place],
+        );
+        add_before(along, place, number);
+        place += 1;
+    }
 }
 
 // Neighbours, from the first two on.
@@ -182,12 +301,17 @@ fn add_pairs(bytes: &[u8], pairs: PairTable, glyphs: &[u16], used: usize, along:
     requires { ⌜ (used ≤ length (now glyphs)) × (used ≤ length (now along)) × (used ≤ roomLimit) × Within (2 ^ 60) (now along) ⌝ }
     ensures { λ _. ⌜ now (along .exit) ≡ addAll (pairsBelow everyPlace (pairNumber (now (bytes .entry)) pairs) (now (glyphs .entry)) used) (now (along .entry)) ⌝ }
 {
-    let mut place = 1;
-    while place < used {
-        let left = glyphs[place - 1];
-        let right = glyphs[place];
-        add_pair(bytes, pairs, left, right, place - 1, along);
-        place += 1;
+    match pairs {
+        PairTable::Ordered { first, count } => {
+            add_ordered(bytes, first, count, glyphs, used, along);
+        }
+        PairTable::Classes {
+            rows,
+            columns,
+            array,
+        } => {
+            add_classes(bytes, rows, columns, array, glyphs, used, along);
+        }
     }
 }
 
