@@ -32,10 +32,11 @@ use Rattle.kerning_lists.specs.declared.Head.{Head}
 use Rattle.kerning_lists.specs.declared.Head.the-variants as Head′
 use Rattle.kerning_lists.specs.declared.Subtable.{Subtable}
 use Rattle.kern_machine.specs.Machine.{headSize}
-use Rattle.kern.specs.Heads as KernHeads
+use Rattle.kerning_lists.specs.Family.{Family, pairIn, pairCall}
 use Rattle.kern.specs.Kern as Kern
-use Rattle.kerx.specs.Heads as KerxHeads
+use Rattle.kern.specs.Kern.{kern}
 use Rattle.kerx.specs.Kerx as Kerx
+use Rattle.kerx.specs.Kerx.{kerx}
 use Rattle.firmware.specs.Small.{IsSmall}
 
 record Small (reply : PairReply) : Type 0 where
@@ -68,30 +69,28 @@ small-checked : (check : Check) {reply : PairReply} → Small reply → Small (c
 small-checked Check′.Passed s = s
 small-checked (Check′.Refused why) s = small-refused
 
-small-kern : (bytes : List ℕ) (version left right : ℕ) → Small (Kern.pairIn bytes version left right)
-unfolding Kern.pairIn
-small-kern bytes version left right =
-    small-head (KernHeads.headIn version 0 bytes)
-    (λ s. small-if (s .format) 0 (small-reply bytes (orderedKern bytes (headSize version)) left right) small-refused)
-    small-refused
+small-call : (family : Family) → ((bytes : List ℕ) (version format left right : ℕ) → Small (family .pairBy bytes version format left right))
+    → (table : List ℕ) (start version left right : ℕ) → IsSmall (pairCall family table start version left right)
+unfolding pairCall pairIn
+small-call family small table start version left right =
+    small-checked (refuse (tableTest (length table) ∷ []))
+    (small-head (family .headIn false version 0 (drop start table)) (λ s. small (drop start table) version (s .format) left right) small-refused) .small
 
-small-kerx : (bytes : List ℕ) (version left right : ℕ) → Small (Kerx.pairIn bytes version left right)
-unfolding Kerx.pairIn
-small-kerx bytes version left right =
-    small-head (KerxHeads.headIn false version 0 bytes)
-    (λ s. small-if (s .format) 0 (small-reply bytes (orderedKerx bytes) left right)
-    (small-if (s .format) 2 (small-reply bytes (classesKerx bytes) left right) small-refused))
-    small-refused
+small-kern : (bytes : List ℕ) (version format left right : ℕ) → Small (Kern.pairBy bytes version format left right)
+unfolding Kern.pairBy
+small-kern bytes version format left right = small-if format 0 (small-reply bytes (orderedKern bytes (headSize version)) left right) small-refused
 
-pub kern-small : (table : List ℕ) (start version left right : ℕ) → IsSmall (Kern.pairCall table start version left right)
-unfolding Kern.pairCall
-kern-small table start version left right =
-    small-checked (refuse (tableTest (length table) ∷ [])) (small-kern (drop start table) version left right) .small
+small-kerx : (bytes : List ℕ) (version format left right : ℕ) → Small (Kerx.pairBy bytes version format left right)
+unfolding Kerx.pairBy
+small-kerx bytes version format left right =
+    small-if format 0 (small-reply bytes (orderedKerx bytes) left right)
+    (small-if format 2 (small-reply bytes (classesKerx bytes) left right) small-refused)
 
-pub kerx-small : (table : List ℕ) (start version left right : ℕ) → IsSmall (Kerx.pairCall table start version left right)
-unfolding Kerx.pairCall
-kerx-small table start version left right =
-    small-checked (refuse (tableTest (length table) ∷ [])) (small-kerx (drop start table) version left right) .small
+pub kern-small : (table : List ℕ) (start version left right : ℕ) → IsSmall (pairCall kern table start version left right)
+kern-small = small-call kern small-kern
+
+pub kerx-small : (table : List ℕ) (start version left right : ℕ) → IsSmall (pairCall kerx table start version left right)
+kerx-small = small-call kerx small-kerx
 
 -- the number put where it was lent: widened from 16 bits to 32, it is the same
 module _ {reply : PairReply} {z : ℤ} (s : IsSmall reply) (e : reply ≡ Reply′.Number z) where

@@ -5,6 +5,7 @@ use mathlib.Core.List.{List, [], _∷_}
 use lib.ListN.{getD}
 use Rattle.laws.specs.Choose.{ifLt}
 use Rattle.kerning_lists.specs.Cursors.{cursor}
+use Rattle.kerning_lists.specs.Family.{Family, subtableCall}
 use Rattle.kerning_lists.specs.declared.Cursor.{Cursor}
 use Rattle.kerning_lists.specs.declared.ListStart.{ListStart}
 use Rattle.kerning_lists.specs.declared.ListStart.the-variants as Start′
@@ -12,8 +13,6 @@ use Rattle.kerning_lists.specs.declared.NextSubtable.{NextSubtable}
 use Rattle.kerning_lists.specs.declared.NextSubtable.the-variants as Next′
 use Rattle.kerning_lists.specs.declared.SubtableReply.{SubtableReply}
 use Rattle.kerning_lists.specs.declared.SubtableReply.the-variants as Reply′
-use Rattle.kern.specs.Cursors as Kern
-use Rattle.kerx.specs.Cursors as Kerx
 use Rattle.firmware.specs.Steps.{flagNumber}
 
 -- a number that is wider than a version counts as the last version
@@ -32,11 +31,8 @@ startCursor (Start′.From c) was = cursorSlots c
 startCursor (Start′.Refused why) was = was
 
 -- the next subtable from the cursor that the numbers say
-unfoldable pub kernAfter : List ℕ → (slots : List ℕ) → SubtableReply
-kernAfter table slots = Kern.subtableCall table (cursorFrom slots)
-
-unfoldable pub kerxAfter : List ℕ → (slots : List ℕ) → SubtableReply
-kerxAfter table slots = Kerx.subtableCall table (cursorFrom slots)
+unfoldable pub nextAfter : Family → List ℕ → (slots : List ℕ) → SubtableReply
+nextAfter family table slots = subtableCall family table (cursorFrom slots)
 
 -- the cursor goes behind a subtable, and stays at the end of its list
 abbrev pub cursorBehind : NextSubtable → (was : List ℕ) → List ℕ

@@ -6,10 +6,11 @@ use kerning_lists::SubtableReply;
 ghost use mathlib.Core.Path.{_≡_};
 ghost use Rattle.answers.specs.Numbers.{numberOf};
 ghost use Rattle.kerning_lists.specs.Cursors.{startAnswer, replyAnswer};
-ghost use Rattle.kern.specs.Cursors as Kern;
-ghost use Rattle.kerx.specs.Cursors as Kerx;
+ghost use Rattle.kerning_lists.specs.Family.{listCall};
+ghost use Rattle.kern.specs.Kern.{kern};
+ghost use Rattle.kerx.specs.Kerx.{kerx};
 ghost use Rattle.firmware.specs.Steps.{flagNumber};
-ghost use Rattle.firmware.specs.KernCursors.{versionFrom, cursorFrom, cursorSlots, startCursor, cursorBehind, fieldsOf, replyCursor, replyFields, kernAfter, kerxAfter};
+ghost use Rattle.firmware.specs.KernCursors.{versionFrom, cursorFrom, cursorSlots, startCursor, cursorBehind, fieldsOf, replyCursor, replyFields, nextAfter};
 
 // The numbers of a cursor: the place of its next subtable, how many are left, and the list's version.
 fn put_cursor(slots: &mut [u64; 3], cursor: Cursor)
@@ -109,8 +110,8 @@ fn put_next(cursor: &mut [u64; 3], fields: &mut [u64; 5], reply: SubtableReply) 
 // The cursor at the subtables of the kern table at `start`.
 #[no_mangle]
 pub extern "C" fn aat_kern_subtables(table: &[u8], start: usize, cursor: &mut [u64; 3]) -> u32
-    ensures answer { λ r. ⌜ r ≡ numberOf (startAnswer (Kern.listCall (now (table .entry)) start)) ⌝ }
-    ensures cursor { λ _. ⌜ now (cursor .exit) ≡ startCursor (Kern.listCall (now (table .entry)) start) (now (cursor .entry)) ⌝ }
+    ensures answer { λ r. ⌜ r ≡ numberOf (startAnswer (listCall kern (now (table .entry)) start)) ⌝ }
+    ensures cursor { λ _. ⌜ now (cursor .exit) ≡ startCursor (listCall kern (now (table .entry)) start) (now (cursor .entry)) ⌝ }
 {
     put_start(cursor, kern::subtables(table, start))
 }
@@ -118,8 +119,8 @@ pub extern "C" fn aat_kern_subtables(table: &[u8], start: usize, cursor: &mut [u
 // The cursor at the subtables of the kerx table at `start`.
 #[no_mangle]
 pub extern "C" fn aat_kerx_subtables(table: &[u8], start: usize, cursor: &mut [u64; 3]) -> u32
-    ensures answer { λ r. ⌜ r ≡ numberOf (startAnswer (Kerx.listCall (now (table .entry)) start)) ⌝ }
-    ensures cursor { λ _. ⌜ now (cursor .exit) ≡ startCursor (Kerx.listCall (now (table .entry)) start) (now (cursor .entry)) ⌝ }
+    ensures answer { λ r. ⌜ r ≡ numberOf (startAnswer (listCall kerx (now (table .entry)) start)) ⌝ }
+    ensures cursor { λ _. ⌜ now (cursor .exit) ≡ startCursor (listCall kerx (now (table .entry)) start) (now (cursor .entry)) ⌝ }
 {
     put_start(cursor, kerx::subtables(table, start))
 }
@@ -131,9 +132,9 @@ pub extern "C" fn aat_kern_next_subtable(
     cursor: &mut [u64; 3],
     fields: &mut [u64; 5],
 ) -> u32
-    ensures answer { λ r. ⌜ r ≡ numberOf (replyAnswer (kernAfter (now (table .entry)) (now (cursor .entry)))) ⌝ }
-    ensures cursor { λ _. ⌜ now (cursor .exit) ≡ replyCursor (kernAfter (now (table .entry)) (now (cursor .entry))) (now (cursor .entry)) ⌝ }
-    ensures fields { λ _. ⌜ now (fields .exit) ≡ replyFields (kernAfter (now (table .entry)) (now (cursor .entry))) (now (fields .entry)) ⌝ }
+    ensures answer { λ r. ⌜ r ≡ numberOf (replyAnswer (nextAfter kern (now (table .entry)) (now (cursor .entry)))) ⌝ }
+    ensures cursor { λ _. ⌜ now (cursor .exit) ≡ replyCursor (nextAfter kern (now (table .entry)) (now (cursor .entry))) (now (cursor .entry)) ⌝ }
+    ensures fields { λ _. ⌜ now (fields .exit) ≡ replyFields (nextAfter kern (now (table .entry)) (now (cursor .entry))) (now (fields .entry)) ⌝ }
 {
     let given = cursor_from(cursor);
     put_next(cursor, fields, kern::next_subtable(table, given))
@@ -146,9 +147,9 @@ pub extern "C" fn aat_kerx_next_subtable(
     cursor: &mut [u64; 3],
     fields: &mut [u64; 5],
 ) -> u32
-    ensures answer { λ r. ⌜ r ≡ numberOf (replyAnswer (kerxAfter (now (table .entry)) (now (cursor .entry)))) ⌝ }
-    ensures cursor { λ _. ⌜ now (cursor .exit) ≡ replyCursor (kerxAfter (now (table .entry)) (now (cursor .entry))) (now (cursor .entry)) ⌝ }
-    ensures fields { λ _. ⌜ now (fields .exit) ≡ replyFields (kerxAfter (now (table .entry)) (now (cursor .entry))) (now (fields .entry)) ⌝ }
+    ensures answer { λ r. ⌜ r ≡ numberOf (replyAnswer (nextAfter kerx (now (table .entry)) (now (cursor .entry)))) ⌝ }
+    ensures cursor { λ _. ⌜ now (cursor .exit) ≡ replyCursor (nextAfter kerx (now (table .entry)) (now (cursor .entry))) (now (cursor .entry)) ⌝ }
+    ensures fields { λ _. ⌜ now (fields .exit) ≡ replyFields (nextAfter kerx (now (table .entry)) (now (cursor .entry))) (now (fields .entry)) ⌝ }
 {
     let given = cursor_from(cursor);
     put_next(cursor, fields, kerx::next_subtable(table, given))

@@ -5,8 +5,9 @@ use pairs::PairReply;
 ghost use mathlib.Core.Path.{_≡_};
 ghost use Rattle.answers.specs.Numbers.{numberOf};
 ghost use Rattle.pairs.specs.Reply.{answerOf, valueOf};
-ghost use Rattle.kern.specs.Kern as Kern;
-ghost use Rattle.kerx.specs.Kerx as Kerx;
+ghost use Rattle.kerning_lists.specs.Family as List;
+ghost use Rattle.kern.specs.Kern.{kern};
+ghost use Rattle.kerx.specs.Kerx.{kerx};
 ghost use Rattle.kerning.specs.Additions.{addAll};
 ghost use Rattle.firmware.specs.KernSteps.{noKerning, kerningFrom, kerningSlots, stateAfter, advanceAfter, kernStepped, kerxStepped};
 ghost use Rattle.firmware.specs.Small.{IsSmall};
@@ -37,8 +38,8 @@ pub extern "C" fn aat_kern_pair(
     right: u16,
     value: &mut i32,
 ) -> u32
-    ensures answer { λ r. ⌜ r ≡ numberOf (answerOf (Kern.pairCall (now (table .entry)) start version left right)) ⌝ }
-    ensures value { λ _. ⌜ now (value .exit) ≡ valueOf (Kern.pairCall (now (table .entry)) start version left right) (now (value .entry)) ⌝ }
+    ensures answer { λ r. ⌜ r ≡ numberOf (answerOf (List.pairCall kern (now (table .entry)) start version left right)) ⌝ }
+    ensures value { λ _. ⌜ now (value .exit) ≡ valueOf (List.pairCall kern (now (table .entry)) start version left right) (now (value .entry)) ⌝ }
 {
     put_pair(kern::pair(table, start, version, left, right), value)
 }
@@ -53,8 +54,8 @@ pub extern "C" fn aat_kerx_pair(
     right: u16,
     value: &mut i32,
 ) -> u32
-    ensures answer { λ r. ⌜ r ≡ numberOf (answerOf (Kerx.pairCall (now (table .entry)) start version left right)) ⌝ }
-    ensures value { λ _. ⌜ now (value .exit) ≡ valueOf (Kerx.pairCall (now (table .entry)) start version left right) (now (value .entry)) ⌝ }
+    ensures answer { λ r. ⌜ r ≡ numberOf (answerOf (List.pairCall kerx (now (table .entry)) start version left right)) ⌝ }
+    ensures value { λ _. ⌜ now (value .exit) ≡ valueOf (List.pairCall kerx (now (table .entry)) start version left right) (now (value .entry)) ⌝ }
 {
     put_pair(kerx::pair(table, start, version, left, right), value)
 }

@@ -1,10 +1,12 @@
 // The exported passes and runs of kern and kerx.
 ghost use mathlib.Core.Path.{_≡_};
+ghost use mathlib.Core.Bool.{false};
 ghost use Rattle.answers.specs.Numbers.{numberOf};
 ghost use Rattle.line.specs.Line.{lineOf};
 ghost use Rattle.kerning.specs.Additions.{addAll};
-ghost use Rattle.kern.specs.Kern as Kern;
-ghost use Rattle.kerx.specs.Kerx as Kerx;
+ghost use Rattle.kerning_lists.specs.Family as List;
+ghost use Rattle.kern.specs.Kern.{kern};
+ghost use Rattle.kerx.specs.Kerx.{kerx};
 ghost use Rattle.firmware.specs.Steps.{isFlag, unlessRefused};
 
 // The pass over a line, by the kern subtable at `start`.
@@ -19,8 +21,8 @@ pub extern "C" fn aat_kern_pass(
     used: usize,
     along: &mut [i64],
 ) -> u32
-    ensures answer { λ r. ⌜ r ≡ numberOf (Kern.passCall (now (table .entry)) start version (lineOf (now (glyphs .entry)) (now (tags .entry)) (now (homes .entry)) used) (now (along .entry)) .answer) ⌝ }
-    ensures along { λ _. ⌜ now (along .exit) ≡ addAll (Kern.passCall (now (table .entry)) start version (lineOf (now (glyphs .entry)) (now (tags .entry)) (now (homes .entry)) used) (now (along .entry)) .additions) (now (along .entry)) ⌝ }
+    ensures answer { λ r. ⌜ r ≡ numberOf (List.passCall kern (now (table .entry)) start version (lineOf (now (glyphs .entry)) (now (tags .entry)) (now (homes .entry)) used) (now (along .entry)) .answer) ⌝ }
+    ensures along { λ _. ⌜ now (along .exit) ≡ addAll (List.passCall kern (now (table .entry)) start version (lineOf (now (glyphs .entry)) (now (tags .entry)) (now (homes .entry)) used) (now (along .entry)) .additions) (now (along .entry)) ⌝ }
 {
     answers::number(kern::pass(table, start, version, glyphs, tags, homes, used, along))
 }
@@ -37,8 +39,8 @@ pub extern "C" fn aat_kerx_pass(
     used: usize,
     along: &mut [i64],
 ) -> u32
-    ensures answer { λ r. ⌜ r ≡ numberOf (Kerx.passCall (now (table .entry)) start version (lineOf (now (glyphs .entry)) (now (tags .entry)) (now (homes .entry)) used) (now (along .entry)) .answer) ⌝ }
-    ensures along { λ _. ⌜ now (along .exit) ≡ addAll (Kerx.passCall (now (table .entry)) start version (lineOf (now (glyphs .entry)) (now (tags .entry)) (now (homes .entry)) used) (now (along .entry)) .additions) (now (along .entry)) ⌝ }
+    ensures answer { λ r. ⌜ r ≡ numberOf (List.passCall kerx (now (table .entry)) start version (lineOf (now (glyphs .entry)) (now (tags .entry)) (now (homes .entry)) used) (now (along .entry)) .answer) ⌝ }
+    ensures along { λ _. ⌜ now (along .exit) ≡ addAll (List.passCall kerx (now (table .entry)) start version (lineOf (now (glyphs .entry)) (now (tags .entry)) (now (homes .entry)) used) (now (along .entry)) .additions) (now (along .entry)) ⌝ }
 {
     answers::number(kerx::pass(table, start, version, glyphs, tags, homes, used, along))
 }
@@ -55,9 +57,9 @@ pub extern "C" fn aat_kern_run(
     along: &mut [i64],
     heads: &mut u32,
 ) -> u32
-    ensures answer { λ r. ⌜ r ≡ numberOf (Kern.runCall (now (table .entry)) start (lineOf (now (glyphs .entry)) (now (tags .entry)) (now (homes .entry)) used) (now (along .entry)) .answer) ⌝ }
-    ensures along { λ _. ⌜ now (along .exit) ≡ Kern.runCall (now (table .entry)) start (lineOf (now (glyphs .entry)) (now (tags .entry)) (now (homes .entry)) used) (now (along .entry)) .along ⌝ }
-    ensures heads { λ _. ⌜ now (heads .exit) ≡ unlessRefused (Kern.runCall (now (table .entry)) start (lineOf (now (glyphs .entry)) (now (tags .entry)) (now (homes .entry)) used) (now (along .entry)) .answer) (now (heads .entry)) (Kern.runCall (now (table .entry)) start (lineOf (now (glyphs .entry)) (now (tags .entry)) (now (homes .entry)) used) (now (along .entry)) .heads) ⌝ }
+    ensures answer { λ r. ⌜ r ≡ numberOf (List.runCall kern (now (table .entry)) start false (lineOf (now (glyphs .entry)) (now (tags .entry)) (now (homes .entry)) used) (now (along .entry)) .answer) ⌝ }
+    ensures along { λ _. ⌜ now (along .exit) ≡ List.runCall kern (now (table .entry)) start false (lineOf (now (glyphs .entry)) (now (tags .entry)) (now (homes .entry)) used) (now (along .entry)) .along ⌝ }
+    ensures heads { λ _. ⌜ now (heads .exit) ≡ unlessRefused (List.runCall kern (now (table .entry)) start false (lineOf (now (glyphs .entry)) (now (tags .entry)) (now (homes .entry)) used) (now (along .entry)) .answer) (now (heads .entry)) (List.runCall kern (now (table .entry)) start false (lineOf (now (glyphs .entry)) (now (tags .entry)) (now (homes .entry)) used) (now (along .entry)) .heads) ⌝ }
 {
     let run = kern::run(table, start, glyphs, tags, homes, used, along);
     let answer = run.answer;
@@ -81,11 +83,11 @@ pub extern "C" fn aat_kerx_run(
     along: &mut [i64],
     heads: &mut u32,
 ) -> u32
-    ensures answer { λ r. ⌜ r ≡ numberOf (Kerx.runCall (now (table .entry)) start (isFlag «right_to_left») (lineOf (now (glyphs .entry)) (now (tags .entry)) (now (homes .entry)) used) (now (along .entry)) .answer) ⌝ }
+    ensures answer { λ r. ⌜ r ≡ numberOf (List.runCall kerx (now (table .entry)) start (isFlag «right_to_left») (lineOf (now (glyphs .entry)) (now (tags .entry)) (now (homes .entry)) used) (now (along .entry)) .answer) ⌝ }
     ensures glyphs { λ _. ⌜ now (glyphs .exit) ≡ now (glyphs .entry) ⌝ }
     ensures tags { λ _. ⌜ now (tags .exit) ≡ now (tags .entry) ⌝ }
-    ensures along { λ _. ⌜ now (along .exit) ≡ Kerx.runCall (now (table .entry)) start (isFlag «right_to_left») (lineOf (now (glyphs .entry)) (now (tags .entry)) (now (homes .entry)) used) (now (along .entry)) .along ⌝ }
-    ensures heads { λ _. ⌜ now (heads .exit) ≡ unlessRefused (Kerx.runCall (now (table .entry)) start (isFlag «right_to_left») (lineOf (now (glyphs .entry)) (now (tags .entry)) (now (homes .entry)) used) (now (along .entry)) .answer) (now (heads .entry)) (Kerx.runCall (now (table .entry)) start (isFlag «right_to_left») (lineOf (now (glyphs .entry)) (now (tags .entry)) (now (homes .entry)) used) (now (along .entry)) .heads) ⌝ }
+    ensures along { λ _. ⌜ now (along .exit) ≡ List.runCall kerx (now (table .entry)) start (isFlag «right_to_left») (lineOf (now (glyphs .entry)) (now (tags .entry)) (now (homes .entry)) used) (now (along .entry)) .along ⌝ }
+    ensures heads { λ _. ⌜ now (heads .exit) ≡ unlessRefused (List.runCall kerx (now (table .entry)) start (isFlag «right_to_left») (lineOf (now (glyphs .entry)) (now (tags .entry)) (now (homes .entry)) used) (now (along .entry)) .answer) (now (heads .entry)) (List.runCall kerx (now (table .entry)) start (isFlag «right_to_left») (lineOf (now (glyphs .entry)) (now (tags .entry)) (now (homes .entry)) used) (now (along .entry)) .heads) ⌝ }
 {
     let run = kerx::run(
         table,

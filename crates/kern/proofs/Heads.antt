@@ -19,7 +19,9 @@ use Rattle.kerning_lists.specs.Walk.{u16OrZero, u32OrZero}
 use Rattle.kerning_lists.specs.declared.Subtable.{Subtable}
 use Rattle.kerning_lists.specs.declared.Head.{Head}
 use Rattle.kerning_lists.specs.declared.Head.the-variants.{At, Cut}
-use Rattle.kern.specs.Heads.{oldSubtable, newSubtable, headIn, headAt, listOf}
+use Rattle.kerning_lists.specs.Family.{headAt}
+use Rattle.kern.specs.Heads.{oldSubtable, newSubtable, headIn, listOf}
+use Rattle.kern.specs.Kern.{kern}
 
 -- the two editions' heads, from the bits that the code has tested
 module _ (at size coverage : ℕ) {over first second : Bool} where
@@ -38,7 +40,7 @@ module _ (at size coverage : ℕ) {over first second : Bool} where
       (e ∙ ap₂ either f s)
 
 -- there is none past the end
-pub head-none : (bytes : List ℕ) (version at : ℕ) → length bytes ≤ at → Cut ≡ headAt bytes version at
+pub head-none : (bytes : List ℕ) (version at : ℕ) → length bytes ≤ at → Cut ≡ headAt kern false bytes version at
 unfolding headIn
 head-none bytes version at h = rw (drop-of-length-le bytes {i = at} h, readU16-short [] 2 (omega arith), readU32-short [] 0 (omega arith)) (go (eqb version 0))
   where
@@ -47,7 +49,7 @@ head-none bytes version at h = rw (drop-of-length-le bytes {i = at} h, readU16-s
     go false = refl
 
 pub head-there : (bytes : List ℕ) (version at : ℕ) {part : List ℕ} {head : Head} → part ≡ drop at bytes → head ≡ headIn version at part
-    → head ≡ headAt bytes version at
+    → head ≡ headAt kern false bytes version at
 head-there bytes version at d e = e ∙ ap (headIn version at) d
 
 -- no head of kern's turns its subtable round

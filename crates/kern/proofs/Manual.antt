@@ -1,6 +1,7 @@
 -- kern's subtables begin where the manual says, and the answer for a pair is the manual's.
 use Prim.Native.Nat.{ℕ, _+_, _<_, _≤_, _/_, _%_}
 use mathlib.Core.Path.{_≡_, refl, sym, _∙_, ap, subst}
+use mathlib.Core.Bool.{false}
 use mathlib.Core.List.{List, []}
 use mathlib.Core.Logic.{⊎-elim}
 use native.Mathlib.Omega.{arith}
@@ -26,9 +27,10 @@ use Rattle.kerning_lists.specs.Walk.{headsFrom}
 use Rattle.kerning_lists.specs.Manual.{told, NoneInPart, AsManual}
 use Rattle.kerning_lists.specs.declared.Subtable.{Subtable}
 use Rattle.kerning_lists.specs.declared.Head.the-variants.{At, Cut}
-use Rattle.kerning_lists.proofs.Manual.{no-head, Walked, walk-read, walk-as-manual}
-use Rattle.kern.specs.Heads.{oldSubtable, newSubtable, headIn, headAt, listOf, walkOf}
-use Rattle.kern.specs.Kern.{pairIn}
+use Rattle.kerning_lists.proofs.Manual.{no-head, walk-read, walk-as-manual}
+use Rattle.kerning_lists.specs.Family.{headAt, walkOf, pairIn}
+use Rattle.kern.specs.Heads.{oldSubtable, newSubtable, headIn, listOf}
+use Rattle.kern.specs.Kern.{pairBy, kern}
 use Rattle.kern.specs.Manual.{Edition, old, new, versionNumber, HasVersion, countOf, firstOf, headBytes, lengthAt, subtableAt, HasPairs, pairCount, firstPair}
 
 -- a head's length and coverage, in each edition
@@ -45,12 +47,12 @@ module _ (bytes : List ℕ) (at : ℕ) where
   u32-there h =
       readU32-got (drop at bytes) 0 (omega (arith, h, length-drop at bytes)) ∙ ap U32.Got (u32-from bytes at 0 ∙ ap (u32At bytes) (add-zero at))
 
-  head-reads : (edition : Edition) → at + 6 ≤ length bytes → headAt bytes (versionNumber edition) at ≡ At (readAt edition bytes at)
+  head-reads : (edition : Edition) → at + 6 ≤ length bytes → headAt kern false bytes (versionNumber edition) at ≡ At (readAt edition bytes at)
   unfolding headIn readAt
   head-reads old h = rw (u16-there 2 (omega (arith, h)), u16-there 4 (omega (arith, h)))
   head-reads new h = rw (u32-there (omega (arith, h)), u16-there 4 (omega (arith, h)))
 
-  head-cut : (edition : Edition) → length bytes < at + 6 → headAt bytes (versionNumber edition) at ≡ Cut
+  head-cut : (edition : Edition) → length bytes < at + 6 → headAt kern false bytes (versionNumber edition) at ≡ Cut
   unfolding headIn
   head-cut edition h = go edition (readU16 (drop at bytes) 2) (readU32 (drop at bytes) 0) refl refl
     where
@@ -58,13 +60,13 @@ module _ (bytes : List ℕ) (at : ℕ) where
       short = readU16-short (drop at bytes) 4 (omega (arith, h, length-drop at bytes))
 
       go : (edition : Edition) (a : ReadU16) (b : ReadU32) → readU16 (drop at bytes) 2 ≡ a → readU32 (drop at bytes) 0 ≡ b
-          → headAt bytes (versionNumber edition) at ≡ Cut
+          → headAt kern false bytes (versionNumber edition) at ≡ Cut
       go old (U16.Got size) b e f = rw (headIn, e, short)
       go old U16.Short b e f = rw (headIn, e)
       go new a (U32.Got size) e f = rw (headIn, f, short)
       go new a U32.Short e f = rw (headIn, f)
 
-  head-only : (edition : Edition) (s : Subtable) → headAt bytes (versionNumber edition) at ≡ At s → at + 6 ≤ length bytes
+  head-only : (edition : Edition) (s : Subtable) → headAt kern false bytes (versionNumber edition) at ≡ At s → at + 6 ≤ length bytes
   head-only edition s e =
       ⊎-elim (λ (h : length bytes < at + 6). no-head e (head-cut edition h)) (λ (h : at + 6 ≤ length bytes). h) (lt-or-ge (length bytes) (at + 6))
 
@@ -88,13 +90,13 @@ module _ (bytes : List ℕ) where
 
 pub kern-as-manual : (edition : Edition) (bytes : List ℕ) → HasVersion edition bytes → firstOf edition ≤ length bytes
     → NoneInPart bytes 6 (headBytes edition) (lengthAt edition bytes) (firstOf edition) (countOf edition bytes)
-    → AsManual bytes (headBytes edition) (subtableAt edition bytes) (lengthAt edition bytes) (firstOf edition) (countOf edition bytes) (walkOf bytes)
+    → AsManual bytes (headBytes edition) (subtableAt edition bytes) (lengthAt edition bytes) (firstOf edition) (countOf edition bytes) (walkOf kern false bytes)
 unfolding walkOf
 kern-as-manual edition bytes v h whole =
     subst (AsManual bytes (headBytes edition) (subtableAt edition bytes) (lengthAt edition bytes) (firstOf edition) (countOf edition bytes))
-    (let e : headsFrom (headAt bytes (versionNumber edition)) (countOf edition bytes) (firstOf edition) ≡ walkOf bytes = rw (list-is bytes edition v h, walkOf) in e)
+    (let e : headsFrom (headAt kern false bytes (versionNumber edition)) (countOf edition bytes) (firstOf edition) ≡ walkOf kern false bytes = rw (list-is bytes edition v h, walkOf) in e)
     (walk-as-manual bytes 6 (headBytes edition) (subtableAt edition bytes) (six-or-more edition) (λ at. told-same bytes at edition) whole
-    (walk-read (headAt bytes (versionNumber edition)) (λ at. at + 6 ≤ length bytes) (readAt edition bytes) (lengthAt edition bytes)
+    (walk-read (headAt kern false bytes (versionNumber edition)) (λ at. at + 6 ≤ length bytes) (readAt edition bytes) (lengthAt edition bytes)
     (λ at. behind bytes at edition) (λ at. head-reads bytes at edition) (λ at. head-only bytes at edition) (firstOf edition) (countOf edition bytes)))
   where
     six-or-more : (edition : Edition) → 6 ≤ headBytes edition
@@ -109,15 +111,15 @@ nothing-counted old bytes v k h = rw (readU16-got bytes 0 (omega (arith, k)), v,
 nothing-counted new bytes v k h = rw (readU16-got bytes 0 (omega (arith, k)), v, readU32-short bytes 4 (omega (arith, h)))
 
 pub kern-without-list : (edition : Edition) (bytes : List ℕ) → HasVersion edition bytes → 2 ≤ length bytes → length bytes < firstOf edition
-    → walkOf bytes ≡ []
+    → walkOf kern false bytes ≡ []
 unfolding walkOf headsFrom
 kern-without-list edition bytes v k h = rw (nothing-counted edition bytes v k h, headsFrom)
 
 -- the answer for a pair
 module _ (bytes : List ℕ) (left right : ℕ) where
   pair-is : (edition : Edition) → HasPairs edition bytes
-      → pairIn bytes (versionNumber edition) left right ≡ replyOf bytes (Ready (Ordered (firstPair edition) (pairCount edition bytes))) left right
-  unfolding pairIn orderedKern readAt oldSubtable newSubtable
+      → pairIn kern bytes (versionNumber edition) left right ≡ replyOf bytes (Ready (Ordered (firstPair edition) (pairCount edition bytes))) left right
+  unfolding pairIn pairBy orderedKern readAt oldSubtable newSubtable
   pair-is old has =
       let h = has .head in
       rw (head-reads bytes 0 old (omega (arith, h)), eq-eqb (u16At bytes 4 / 256) 0 (has .format), readU16-got bytes 6 (omega (arith, h)))
@@ -127,7 +129,7 @@ module _ (bytes : List ℕ) (left right : ℕ) where
 
 pub kern-pair-as-manual : (edition : Edition) (bytes : List ℕ) (left right : ℕ) → HasPairs edition bytes
     → Rising bytes (firstPair edition) (pairCount edition bytes)
-    → Pairs′.AsManual (pairIn bytes (versionNumber edition) left right)
+    → Pairs′.AsManual (pairIn kern bytes (versionNumber edition) left right)
     (OrderedValue bytes 0 (firstPair edition) (pairCount edition bytes) left right)
 kern-pair-as-manual edition bytes left right has rising =
     subst (λ (r : PairReply). Pairs′.AsManual r (OrderedValue bytes 0 (firstPair edition) (pairCount edition bytes) left right))

@@ -6,13 +6,12 @@ use mathlib.Core.List.{List}
 use native.Mathlib.Omega.{arith}
 use lib.Dec.{eqb}
 use lib.IntN.{ℤ}
-use lib.ListN.{drop}
 use borrow.Author.Tests.{eq-eqb, ne-eqb}
 use Rattle.answers.specs.Limits.{roomLimit}
 use Rattle.answers.specs.declared.Answer.{Answer}
 use Rattle.answers.specs.declared.Answer.the-variants as Answer′
 use Rattle.answers.specs.declared.Refusal.the-variants as Refusal′
-use Rattle.kerning.specs.Additions.{Addition, addAll, nothingAdded}
+use Rattle.kerning.specs.Additions.{addAll, nothingAdded}
 use Rattle.kerning.specs.Bounds.{Within}
 use Rattle.kerning.proofs.Adding.{addAll-none, within-more}
 use Rattle.pairs.specs.Pairs.{orderedKern}
@@ -24,15 +23,10 @@ use Rattle.pairs.specs.declared.PairReply.the-variants as Reply′
 use Rattle.pairs.proofs.Passes as PairLaws
 use Rattle.kern_machine.specs.Machine as Machine′
 use Rattle.kern_machine.proofs.Bounds as Bounds′
-use Rattle.kerning_lists.specs.Run.{contribution}
-use Rattle.kerning_lists.specs.declared.Subtable.{Subtable}
 use Rattle.kerning_lists.specs.declared.Head.{Head}
-use Rattle.kerning_lists.specs.declared.Head.the-variants.{At, Cut}
-use Rattle.kerning_lists.proofs.Runs.{contributes-nothing, contributes-plain}
 use Rattle.kerning_lists.proofs.Calls.{Works, works-same, works-nothing}
 use Rattle.kern_machine.specs.Machine.{headSize}
-use Rattle.kern.specs.Heads.{headIn}
-use Rattle.kern.specs.Kern.{worked, passed, pairIn, adds}
+use Rattle.kern.specs.Kern.{worked, pairBy}
 
 module _ (bytes : List ℕ) (version format : ℕ) (glyphs : List ℕ) (used : ℕ) (before : List ℤ) where
   pub works-pairs : {size : ℕ} {opened : Opened} {answer : Answer} {after : List ℤ} → format ≡ 0 → size ≡ headSize version
@@ -54,17 +48,6 @@ module _ (bytes : List ℕ) (version format : ℕ) (glyphs : List ℕ) (used : �
   unfolding worked
   works-none n m = works-nothing before (rw (ne-eqb format 0 n, ne-eqb format 1 m))
 
--- the pass by the format that the head tells
-module _ (bytes : List ℕ) (version : ℕ) (glyphs : List ℕ) (used : ℕ) (before : List ℤ) {head : Head} (e : head ≡ headIn version 0 bytes) where
-  pub passes-cut : head ≡ Cut → Works (passed bytes version glyphs used) before (Answer′.Refused Refusal′.Head) before
-  unfolding passed
-  passes-cut f = works-nothing before (rw (sym e ∙ f))
-
-  pub passes-by : {s : Subtable} {answer : Answer} {after : List ℤ} → head ≡ At s
-      → Works (worked bytes version (s .format) glyphs used) before answer after → Works (passed bytes version glyphs used) before answer after
-  unfolding passed
-  passes-by f w = works-same (rw (sym e ∙ f)) w
-
 -- whatever the format, little is added
 pub worked-little : (bytes : List ℕ) (version format : ℕ) (glyphs : List ℕ) (used b : ℕ) (along : List ℤ) → used ≤ roomLimit → Within b along
     → Within (b + 2 ^ 39) (addAll (worked bytes version format glyphs used .additions) along)
@@ -80,31 +63,14 @@ worked-little bytes version format glyphs used b along h w = go (eqb format 0) (
     go false true = Bounds′.worked-within bytes version glyphs used along h w
     go false false = within-more (omega arith) (subst (Within b) (sym (addAll-none along)) w)
 
--- the visit of a subtable
-module _ (bytes : List ℕ) (version : ℕ) (glyphs : List ℕ) (used : ℕ) (s : Subtable) (along : List ℤ) where
-  pub visits-none : s .«passed_over» ≡ true → along ≡ addAll (contribution (adds bytes version used) glyphs used s) along
-  visits-none o =
-      sym (addAll-none along) ∙ ap (λ (x : List Addition). addAll x along) (sym (contributes-nothing (adds bytes version used) glyphs used s o))
-
-  pub visits : {part : List ℕ} {after : List ℤ} → s .«passed_over» ≡ false → s .turned ≡ false → part ≡ drop (s .body) bytes
-      → after ≡ addAll (worked part version (s .format) glyphs used .additions) along
-      → after ≡ addAll (contribution (adds bytes version used) glyphs used s) along
-  visits o t d e =
-      e ∙ ap (λ (x : List ℕ). addAll (worked x version (s .format) glyphs used .additions) along) d
-      ∙ ap (λ (x : List Addition). addAll x along) (sym (contributes-plain (adds bytes version used) glyphs used s o t))
-
 -- the answer for a pair
-module _ (bytes : List ℕ) (version left right : ℕ) {head : Head} (e : head ≡ headIn version 0 bytes) where
-  pub pair-cut : head ≡ Cut → Reply′.Refused Refusal′.Head ≡ pairIn bytes version left right
-  unfolding pairIn
-  pair-cut f = rw (sym e ∙ f)
+module _ (bytes : List ℕ) (version format left right : ℕ) where
+  pub pair-ordered : {size : ℕ} {opened : Opened} {reply : PairReply} → format ≡ 0 → size ≡ headSize version → opened ≡ orderedKern bytes size
+      → reply ≡ replyOf bytes opened left right → reply ≡ pairBy bytes version format left right
+  unfolding pairBy
+  pair-ordered z n o r =
+      r ∙ ap (λ (x : Opened). replyOf bytes x left right) (o ∙ ap (orderedKern bytes) n) ∙ rw (eq-eqb format 0 z)
 
-  pub pair-ordered : {s : Subtable} {size : ℕ} {opened : Opened} {reply : PairReply} → head ≡ At s → s .format ≡ 0 → size ≡ headSize version
-      → opened ≡ orderedKern bytes size → reply ≡ replyOf bytes opened left right → reply ≡ pairIn bytes version left right
-  unfolding pairIn
-  pair-ordered {s} {size} {opened} f z n o r =
-      r ∙ ap (λ (x : Opened). replyOf bytes x left right) (o ∙ ap (orderedKern bytes) n) ∙ rw (sym e ∙ f, eq-eqb (s .format) 0 z)
-
-  pub pair-other : {s : Subtable} → head ≡ At s → (s .format ≡ 0 → ⊥) → Reply′.Refused Refusal′.Head ≡ pairIn bytes version left right
-  unfolding pairIn
-  pair-other {s} f z = rw (sym e ∙ f, ne-eqb (s .format) 0 z)
+  pub pair-other : (format ≡ 0 → ⊥) → Reply′.Refused Refusal′.Head ≡ pairBy bytes version format left right
+  unfolding pairBy
+  pair-other z = rw (ne-eqb format 0 z)

@@ -2,17 +2,16 @@
 use Prim.Native.Nat.{ℕ, _+_, _/_, _%_}
 use mathlib.Core.Bool.{false, not}
 use mathlib.Core.List.{List}
-use lib.ListN.{drop}
 use Rattle.laws.specs.Lists.{either}
 use Rattle.laws.specs.Choose.{ifEq}
 use Rattle.parse.specs.Reads.{readU16, readU32}
 use Rattle.parse.specs.Use.{onU16, onU32}
 use Rattle.laws.specs.Bits.{isSet}
-use Rattle.kerning_lists.specs.Walk.{u16OrZero, u32OrZero, headsFrom}
+use Rattle.kerning_lists.specs.Walk.{u16OrZero, u32OrZero}
 use Rattle.kerning_lists.specs.declared.Subtable.{Subtable}
 use Rattle.kerning_lists.specs.declared.Head.{Head}
 use Rattle.kerning_lists.specs.declared.Head.the-variants.{At, Cut}
-use Rattle.kern.specs.declared.List.{List as KernList}
+use Rattle.kerning_lists.specs.declared.ListHead.{ListHead}
 
 -- old edition: a run passes over what is not horizontal (bit 0 clear) and what is cross-stream (bit 2); the high byte is the format
 unfoldable pub oldSubtable : (at size coverage : ℕ) → Subtable
@@ -43,16 +42,9 @@ headIn version at part =
     (onU16 (readU16 part 2) (λ size. onU16 (readU16 part 4) (λ coverage. At (oldSubtable at size coverage)) Cut) Cut)
     (onU32 (readU32 part 0) (λ size. onU16 (readU16 part 4) (λ coverage. At (newSubtable at size coverage)) Cut) Cut)
 
-abbrev pub headAt : List ℕ → (version at : ℕ) → Head
-headAt bytes version at = headIn version at (drop at bytes)
-
 -- the list: its version; in the old edition a 16-bit count at 2 and the first subtable at 4, in the new one a 32-bit count at 4 and the first at 8
-unfoldable pub listOf : List ℕ → KernList
+unfoldable pub listOf : List ℕ → ListHead
 listOf bytes =
     ifEq (u16OrZero bytes 0) 0
     (record { version = 0; count = u16OrZero bytes 2; first = 4 })
     (record { version = u16OrZero bytes 0; count = u32OrZero bytes 4; first = 8 })
-
--- the walk of the list
-unfoldable pub walkOf : List ℕ → List Subtable
-walkOf bytes = headsFrom (headAt bytes (listOf bytes .version)) (listOf bytes .count) (listOf bytes .first)

@@ -1,5 +1,4 @@
 -- The kern table.
 pub mod Heads
-pub mod Cursors
 pub mod Kern
 pub mod Manual

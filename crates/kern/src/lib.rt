@@ -4,6 +4,7 @@ use answers::Check;
 use answers::Refusal;
 use kerning_lists::Cursor;
 use kerning_lists::Head;
+use kerning_lists::ListHead;
 use kerning_lists::ListStart;
 use kerning_lists::Run;
 use kerning_lists::Subtable;
@@ -17,23 +18,16 @@ ghost use Rattle.answers.specs.Limits.{roomLimit};
 ghost use Rattle.line.specs.Line.{lineOf};
 ghost use Rattle.kerning.specs.Additions.{addAll};
 ghost use Rattle.kerning.specs.Bounds.{Within};
+ghost use Rattle.kerning_lists.specs.Family.{headAt, walkOf, passed, passCall, pairIn, pairCall, adds, runCall, listFrom, listCall, subtableCall};
 ghost use Rattle.kerning_lists.specs.Walk.{walkAnswer, visited, headsFrom};
 ghost use Rattle.kerning_lists.specs.Run.{contribution, contributions, usedPart};
-ghost use Rattle.kern.specs.Heads.{oldSubtable, newSubtable, headIn, headAt, listOf, walkOf};
-ghost use Rattle.kern.specs.Cursors.{listFrom, listCall, subtableCall};
-ghost use Rattle.kern.specs.Kern.{worked, passed, passCall, pairIn, pairCall, adds, runCall};
+ghost use Rattle.kern.specs.Heads.{oldSubtable, newSubtable, headIn, listOf};
+ghost use Rattle.kern.specs.Kern.{worked, pairBy, kern};
 
 // The old edition's bit for horizontal text, and the new one's for vertical text.
 const HORIZONTAL: u16 = 1;
 
 const VERTICAL: u16 = 0x8000;
-
-// The list of subtables: its version, how many it counts, and where the first begins.
-pub struct List {
-    pub version: u16,
-    pub count: u32,
-    pub first: usize,
-}
 
 fn old_subtable(at: usize, size: u16, coverage: u16) -> Subtable
     requires { ⌜ at < 2 ^ 63 ⌝ }
@@ -92,7 +86,7 @@ fn head_in(version: u16, at: usize, part: &[u8]) -> Head
 
 // The head at a place of the list; there is none at or past the table's end.
 fn head_at(bytes: &[u8], version: u16, at: usize) -> Head
-    ensures { λ r. ⌜ r ≡ headAt (now (bytes .entry)) version at ⌝ }
+    ensures { λ r. ⌜ r ≡ headAt kern false (now (bytes .entry)) version at ⌝ }
 {
     if bytes.len() <= at {
         return Head::Cut;
@@ -101,18 +95,18 @@ fn head_at(bytes: &[u8], version: u16, at: usize) -> Head
 }
 
 // The list at the start of a table's bytes.
-fn list_of(bytes: &[u8]) -> List
+fn list_of(bytes: &[u8]) -> ListHead
     ensures { λ r. ⌜ r ≡ listOf (now (bytes .entry)) ⌝ }
 {
     let version = kerning_lists::u16_or_zero(bytes, 0);
     if version == 0 {
-        return List {
+        return ListHead {
             version: 0,
             count: kerning_lists::u16_or_zero(bytes, 2) as u32,
             first: 4,
         };
     }
-    List {
+    ListHead {
         version,
         count: kerning_lists::u32_or_zero(bytes, 4),
         first: 8,
@@ -122,7 +116,7 @@ fn list_of(bytes: &[u8]) -> List
 // The list at `start`, from its first subtable on.
 fn list_from(table: &[u8], start: usize) -> Cursor
     requires { ⌜ start ≤ length (now table) ⌝ }
-    ensures { λ r. ⌜ r ≡ listFrom (now (table .entry)) start ⌝ }
+    ensures { λ r. ⌜ r ≡ listFrom kern (now (table .entry)) start ⌝ }
 {
     let list = list_of(kerning_lists::list_bytes(table, start));
     Cursor {
@@ -134,7 +128,7 @@ fn list_from(table: &[u8], start: usize) -> Cursor
 
 // The subtables of the list at `start`.
 pub fn subtables(table: &[u8], start: usize) -> ListStart
-    ensures { λ r. ⌜ r ≡ listCall (now (table .entry)) start ⌝ }
+    ensures { λ r. ⌜ r ≡ listCall kern (now (table .entry)) start ⌝ }
 {
     if let Check::Refused(why) = kerning_lists::refuse_list(table.len(), start) {
         return ListStart::Refused(why);
@@ -144,7 +138,7 @@ pub fn subtables(table: &[u8], start: usize) -> ListStart
 
 // The next subtable of a list, whatever the cursor's numbers are.
 pub fn next_subtable(table: &[u8], cursor: Cursor) -> SubtableReply
-    ensures { λ r. ⌜ r ≡ subtableCall (now (table .entry)) cursor ⌝ }
+    ensures { λ r. ⌜ r ≡ subtableCall kern (now (table .entry)) cursor ⌝ }
 {
     if let Check::Refused(why) = answers::refuse_table(table.len()) {
         return SubtableReply::Refused(why);
@@ -176,23 +170,30 @@ fn work(
     Answer::Refused(Refusal::Head)
 }
 
-// The answer for a pair by the subtable that begins with `bytes`.
-fn pair_in(bytes: &[u8], version: u16, left: u16, right: u16) -> PairReply
-    ensures { λ r. ⌜ r ≡ pairIn (now (bytes .entry)) version left right ⌝ }
+// The answer for a pair by the subtable that begins with `bytes`, of a format.
+fn pair_by(bytes: &[u8], version: u16, format: u32, left: u16, right: u16) -> PairReply
+    ensures { λ r. ⌜ r ≡ pairBy (now (bytes .entry)) version format left right ⌝ }
 {
-    let Head::At(subtable) = head_in(version, 0, bytes) else {
-        return PairReply::Refused(Refusal::Head);
-    };
-    if subtable.format == 0 {
+    if format == 0 {
         let opened = pairs::ordered_kern(bytes, kern_machine::head_size(version));
         return pairs::reply(bytes, opened, left, right);
     }
     PairReply::Refused(Refusal::Head)
 }
 
+// The answer for a pair by the subtable that begins with `bytes`, its head included.
+fn pair_in(bytes: &[u8], version: u16, left: u16, right: u16) -> PairReply
+    ensures { λ r. ⌜ r ≡ pairIn kern (now (bytes .entry)) version left right ⌝ }
+{
+    let Head::At(subtable) = head_in(version, 0, bytes) else {
+        return PairReply::Refused(Refusal::Head);
+    };
+    pair_by(bytes, version, subtable.format, left, right)
+}
+
 // What a pair of glyphs adds, by the subtable at `start` of a list of this version.
 pub fn pair(table: &[u8], start: usize, version: u16, left: u16, right: u16) -> PairReply
-    ensures { λ r. ⌜ r ≡ pairCall (now (table .entry)) start version left right ⌝ }
+    ensures { λ r. ⌜ r ≡ pairCall kern (now (table .entry)) start version left right ⌝ }
 {
     if let Check::Refused(why) = answers::refuse_table(table.len()) {
         return PairReply::Refused(why);
@@ -210,7 +211,7 @@ fn visit(
     along: &mut [i64],
 )
     requires { ⌜ (used ≤ length (now glyphs)) × (used ≤ length (now along)) × (used ≤ roomLimit) × Within (2 ^ 60) (now along) × (subtable .turned ≡ false) ⌝ }
-    ensures { λ _. ⌜ now (along .exit) ≡ addAll (contribution (adds (now (bytes .entry)) version used) (now (glyphs .entry)) used subtable) (now (along .entry)) ⌝ }
+    ensures { λ _. ⌜ now (along .exit) ≡ addAll (contribution (adds kern (now (bytes .entry)) version used) (now (glyphs .entry)) used subtable) (now (along .entry)) ⌝ }
 {
     if subtable.passed_over {
         return;
@@ -220,11 +221,11 @@ fn visit(
 }
 
 // The subtables one after the other, from the first on.
-fn run_list(bytes: &[u8], list: List, glyphs: &[u16], used: usize, along: &mut [i64]) -> Run
+fn run_list(bytes: &[u8], list: ListHead, glyphs: &[u16], used: usize, along: &mut [i64]) -> Run
     requires { ⌜ (used ≤ length (now glyphs)) × (used ≤ length (now along)) × (used ≤ roomLimit) × Within 0 (now along) ⌝ }
-    ensures answer { λ r. ⌜ r .answer ≡ walkAnswer (headsFrom (headAt (now (bytes .entry)) (list .version)) (list .count) (list .first)) ⌝ }
-    ensures heads { λ r. ⌜ r .heads ≡ length (visited (headsFrom (headAt (now (bytes .entry)) (list .version)) (list .count) (list .first))) ⌝ }
-    ensures along { λ _. ⌜ now (along .exit) ≡ addAll (contributions (adds (now (bytes .entry)) (list .version) used) (now (glyphs .entry)) used (visited (headsFrom (headAt (now (bytes .entry)) (list .version)) (list .count) (list .first)))) (now (along .entry)) ⌝ }
+    ensures answer { λ r. ⌜ r .answer ≡ walkAnswer (headsFrom (headAt kern false (now (bytes .entry)) (list .version)) (list .count) (list .first)) ⌝ }
+    ensures heads { λ r. ⌜ r .heads ≡ length (visited (headsFrom (headAt kern false (now (bytes .entry)) (list .version)) (list .count) (list .first))) ⌝ }
+    ensures along { λ _. ⌜ now (along .exit) ≡ addAll (contributions (adds kern (now (bytes .entry)) (list .version) used) (now (glyphs .entry)) used (visited (headsFrom (headAt kern false (now (bytes .entry)) (list .version)) (list .count) (list .first)))) (now (along .entry)) ⌝ }
 {
     let mut heads = 0;
     let mut left = list.count;
@@ -256,9 +257,9 @@ fn run_list(bytes: &[u8], list: List, glyphs: &[u16], used: usize, along: &mut [
 // The used adjustments, zeroed first, with what the list's subtables add.
 fn run_part(bytes: &[u8], glyphs: &[u16], along: &mut [i64]) -> Run
     requires { ⌜ (length (now along) ≤ length (now glyphs)) × (length (now along) ≤ roomLimit) ⌝ }
-    ensures answer { λ r. ⌜ r .answer ≡ walkAnswer (walkOf (now (bytes .entry))) ⌝ }
-    ensures heads { λ r. ⌜ r .heads ≡ length (visited (walkOf (now (bytes .entry)))) ⌝ }
-    ensures along { λ _. ⌜ now (along .exit) ≡ usedPart (walkOf (now (bytes .entry))) (adds (now (bytes .entry)) (listOf (now (bytes .entry)) .version) (length (now (along .entry)))) (now (glyphs .entry)) (length (now (along .entry))) ⌝ }
+    ensures answer { λ r. ⌜ r .answer ≡ walkAnswer (walkOf kern false (now (bytes .entry))) ⌝ }
+    ensures heads { λ r. ⌜ r .heads ≡ length (visited (walkOf kern false (now (bytes .entry)))) ⌝ }
+    ensures along { λ _. ⌜ now (along .exit) ≡ usedPart (walkOf kern false (now (bytes .entry))) (adds kern (now (bytes .entry)) (listOf (now (bytes .entry)) .version) (length (now (along .entry)))) (now (glyphs .entry)) (length (now (along .entry))) ⌝ }
 {
     kerning_lists::zero(along);
     let used = along.len();
@@ -275,9 +276,9 @@ pub fn run(
     used: usize,
     along: &mut [i64],
 ) -> Run
-    ensures answer { λ r. ⌜ r .answer ≡ runCall (now (table .entry)) start (lineOf (now (glyphs .entry)) (now (tags .entry)) (now (homes .entry)) used) (now (along .entry)) .answer ⌝ }
-    ensures heads { λ r. ⌜ r .heads ≡ runCall (now (table .entry)) start (lineOf (now (glyphs .entry)) (now (tags .entry)) (now (homes .entry)) used) (now (along .entry)) .heads ⌝ }
-    ensures along { λ _. ⌜ now (along .exit) ≡ runCall (now (table .entry)) start (lineOf (now (glyphs .entry)) (now (tags .entry)) (now (homes .entry)) used) (now (along .entry)) .along ⌝ }
+    ensures answer { λ r. ⌜ r .answer ≡ runCall kern (now (table .entry)) start false (lineOf (now (glyphs .entry)) (now (tags .entry)) (now (homes .entry)) used) (now (along .entry)) .answer ⌝ }
+    ensures heads { λ r. ⌜ r .heads ≡ runCall kern (now (table .entry)) start false (lineOf (now (glyphs .entry)) (now (tags .entry)) (now (homes .entry)) used) (now (along .entry)) .heads ⌝ }
+    ensures along { λ _. ⌜ now (along .exit) ≡ runCall kern (now (table .entry)) start false (lineOf (now (glyphs .entry)) (now (tags .entry)) (now (homes .entry)) used) (now (along .entry)) .along ⌝ }
 {
     if let Check::Refused(why) = kerning_lists::refuse_run(
         table.len(),
@@ -303,8 +304,8 @@ pub fn run(
 // The pass by the subtable that begins with `bytes`, its head included.
 fn pass_in(bytes: &[u8], version: u16, glyphs: &[u16], used: usize, along: &mut [i64]) -> Answer
     requires { ⌜ (used ≤ length (now glyphs)) × (used ≤ length (now along)) × (used ≤ roomLimit) × Within (2 ^ 60) (now along) ⌝ }
-    ensures answer { λ r. ⌜ r ≡ passed (now (bytes .entry)) version (now (glyphs .entry)) used .answer ⌝ }
-    ensures along { λ _. ⌜ now (along .exit) ≡ addAll (passed (now (bytes .entry)) version (now (glyphs .entry)) used .additions) (now (along .entry)) ⌝ }
+    ensures answer { λ r. ⌜ r ≡ passed kern (now (bytes .entry)) version (now (glyphs .entry)) used .answer ⌝ }
+    ensures along { λ _. ⌜ now (along .exit) ≡ addAll (passed kern (now (bytes .entry)) version (now (glyphs .entry)) used .additions) (now (along .entry)) ⌝ }
 {
     let Head::At(subtable) = head_in(version, 0, bytes) else {
         return Answer::Refused(Refusal::Head);
@@ -323,8 +324,8 @@ pub fn pass(
     used: usize,
     along: &mut [i64],
 ) -> Answer
-    ensures answer { λ r. ⌜ r ≡ passCall (now (table .entry)) start version (lineOf (now (glyphs .entry)) (now (tags .entry)) (now (homes .entry)) used) (now (along .entry)) .answer ⌝ }
-    ensures along { λ _. ⌜ now (along .exit) ≡ addAll (passCall (now (table .entry)) start version (lineOf (now (glyphs .entry)) (now (tags .entry)) (now (homes .entry)) used) (now (along .entry)) .additions) (now (along .entry)) ⌝ }
+    ensures answer { λ r. ⌜ r ≡ passCall kern (now (table .entry)) start version (lineOf (now (glyphs .entry)) (now (tags .entry)) (now (homes .entry)) used) (now (along .entry)) .answer ⌝ }
+    ensures along { λ _. ⌜ now (along .exit) ≡ addAll (passCall kern (now (table .entry)) start version (lineOf (now (glyphs .entry)) (now (tags .entry)) (now (homes .entry)) used) (now (along .entry)) .additions) (now (along .entry)) ⌝ }
 {
     if let Check::Refused(why) = kerning::refuse_pass(
         table.len(),

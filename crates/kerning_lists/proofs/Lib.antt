@@ -5,4 +5,5 @@ pub mod Runs
 pub mod Starts
 pub mod Cursors
 pub mod Calls
+pub mod Families
 pub mod Manual

@@ -2,4 +2,5 @@
 pub mod Walk
 pub mod Run
 pub mod Cursors
+pub mod Family
 pub mod Manual

@@ -22,6 +22,13 @@ pub struct Subtable {
     pub next: usize,
 }
 
+// The list's own head: its version, how many subtables it counts, and where the first begins.
+pub struct ListHead {
+    pub version: u16,
+    pub count: u32,
+    pub first: usize,
+}
+
 // What reading a head gives.
 pub enum Head {
     At(Subtable),

@@ -1,31 +1,27 @@
 -- The walk of a list as its cursor repeated, in the places of the whole table.
 use Prim.Native.Nat.{ℕ, _+_, _%_}
-use mathlib.Core.Path.{_≡_, refl, sym, _∙_, ap}
+use mathlib.Core.Path.{_≡_, refl, ap}
 use mathlib.Core.Bool.{Bool, true, false, not, cond}
 use mathlib.Core.List.{List, [], map}
 use native.Mathlib.Nat.{add-assoc}
 use native.Mathlib.Omega.{arith}
-use lib.Dec.{eqb, ltb}
+use lib.Dec.{ltb}
 use lib.ListN.{drop}
-use lib.Seq.{drop-drop}
 use Rattle.parse.specs.Reads.{readU32}
 use Rattle.parse.specs.declared.ReadU32.{ReadU32}
 use Rattle.parse.specs.declared.ReadU32.the-variants as U32
 use Rattle.parse.proofs.Laws.{readU32-short}
 use Rattle.laws.specs.Bits.{isSet}
-use Rattle.kerning_lists.specs.Walk.{headsFrom, listBytes}
-use Rattle.kerning_lists.specs.Cursors.{cursor, followed, moved}
+use Rattle.kerning_lists.specs.Walk.{listBytes}
+use Rattle.kerning_lists.specs.Cursors.{followed, moved}
 use Rattle.kerning_lists.specs.declared.Subtable.{Subtable}
 use Rattle.kerning_lists.specs.declared.Head.the-variants.{At}
-use Rattle.kerning_lists.proofs.Cursors.{followed-heads, mapHead, heads-mapped}
-use Rattle.kerx.specs.Heads.{shouldReverse, subtableOf, headIn, headAt, listOf, walkOf}
-use Rattle.kerx.specs.Cursors.{listFrom, nextSubtable, turnedRound}
-use Rattle.kerx.specs.declared.List.{List as KerxList}
-
-pub list-from : (table : List ℕ) (start : ℕ) {bytes : List ℕ} {list : KerxList} → bytes ≡ listBytes table start → list ≡ listOf bytes
-    → cursor (start + 8) (list .count) (list .version) ≡ listFrom table start
-unfolding listFrom
-list-from table start d e = ap (λ (l : KerxList). cursor (start + 8) (l .count) (l .version)) (e ∙ ap listOf d)
+use Rattle.kerning_lists.proofs.Cursors.{mapHead, heads-mapped}
+use Rattle.kerning_lists.specs.Family.{headAt, walkOf, listFrom, nextSubtable}
+use Rattle.kerning_lists.specs.declared.ListHead.{ListHead}
+use Rattle.kerning_lists.proofs.Families as Families
+use Rattle.kerx.specs.Heads.{shouldReverse, subtableOf, headIn, listOf, turnedRound}
+use Rattle.kerx.specs.Kerx.{kerx}
 
 -- a head as it is told behind more bytes
 head-moved : (version before at : ℕ) (part : List ℕ) → headIn false version (before + at) part ≡ mapHead (moved before) (headIn false version at part)
@@ -40,37 +36,13 @@ head-moved version before at part = go (ltb version 4) (readU32 part 0) (readU32
     go t (U32.Got size) U32.Short c p e f g = rw (e, f, headIn)
     go t U32.Short b c p e f g = rw (e, headIn)
 
--- the walk of the list at a start in a run from left to right, told in the places of the table
-module _ (table : List ℕ) (start : ℕ) where
-  abbrev bytes : List ℕ
-  bytes = listBytes table start
+none-counted : listOf [] .count ≡ 0
+unfolding listOf
+none-counted = rw (readU32-short [] 4 (omega arith))
 
-  abbrev list : KerxList
-  list = listOf bytes
-
-  head-there : bytes ≡ drop start table → (at : ℕ)
-      → headAt false table (list .version) (start + at) ≡ mapHead (moved start) (headAt false bytes (list .version) at)
-  head-there d at =
-      ap (headIn false (list .version) (start + at)) (sym (drop-drop at start table) ∙ ap (drop at) (sym d))
-      ∙ head-moved (list .version) start at (drop at bytes)
-
-  none-counted : bytes ≡ [] → list .count ≡ 0
-  unfolding listOf
-  none-counted d = rw (d, readU32-short [] 4 (omega arith))
-
-  walk-there : headsFrom (headAt false table (list .version)) (list .count) (start + 8) ≡ map (moved start) (walkOf false bytes)
-  unfolding listBytes walkOf headsFrom
-  walk-there = go (eqb start 0) refl
-    where
-      go : (t : Bool) → eqb start 0 ≡ t → headsFrom (headAt false table (list .version)) (list .count) (start + 8) ≡ map (moved start) (walkOf false bytes)
-      go true p = let d : bytes ≡ [] = rw p in rw (none-counted d, walkOf, headsFrom)
-      go false p =
-          let d : bytes ≡ drop start table = rw p in
-          heads-mapped (headAt false bytes (list .version)) (headAt false table (list .version)) (moved start) (λ at. start + at) (λ s. refl) (head-there d) (list .count) 8
-
-  pub cursor-walks : followed (nextSubtable table) (listFrom table start .left) (listFrom table start) ≡ map (moved start) (walkOf false bytes)
-  unfolding listFrom nextSubtable
-  cursor-walks = followed-heads (headAt false table) (list .version) (list .count) (start + 8) ∙ walk-there
+pub cursor-walks : (table : List ℕ) (start : ℕ)
+    → followed (nextSubtable kerx table) (listFrom kerx table start .left) (listFrom kerx table start) ≡ map (moved start) (walkOf kerx false (listBytes table start))
+cursor-walks = Families.cursor-walks kerx head-moved none-counted
 
 -- a run from right to left reads the same heads, each turned the other way round
 reverse-turned : (coverage : ℕ) → shouldReverse coverage true ≡ not (shouldReverse coverage false)
@@ -100,9 +72,9 @@ head-turned version at part = go (ltb version 4) (readU32 part 0) (readU32 part 
     go t (U32.Got size) U32.Short c p e f g = rw (e, f, headIn)
     go t U32.Short b c p e f g = rw (e, headIn)
 
-pub walk-turned : (bytes : List ℕ) → walkOf true bytes ≡ map turnedRound (walkOf false bytes)
-unfolding walkOf
+pub walk-turned : (bytes : List ℕ) → walkOf kerx true bytes ≡ map turnedRound (walkOf kerx false bytes)
+unfolding walkOf listOf
 walk-turned bytes =
-    let list : KerxList = listOf bytes in
-    heads-mapped (headAt false bytes (list .version)) (headAt true bytes (list .version)) turnedRound (λ at. at) (λ s. refl)
+    let list : ListHead = listOf bytes in
+    heads-mapped (headAt kerx false bytes (list .version)) (headAt kerx true bytes (list .version)) turnedRound (λ at. at) (λ s. refl)
     (λ at. head-turned (list .version) at (drop at bytes)) (list .count) 8

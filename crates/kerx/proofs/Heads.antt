@@ -9,9 +9,12 @@ use Rattle.parse.proofs.Laws.{readU32-short}
 use Rattle.laws.specs.Bits.{isSet}
 use Rattle.laws.specs.Lists.{either}
 use Rattle.kerning_lists.specs.Walk.{u16OrZero, u32OrZero}
+use Rattle.kerning_lists.specs.declared.ListHead.{ListHead}
 use Rattle.kerning_lists.specs.declared.Head.{Head}
 use Rattle.kerning_lists.specs.declared.Head.the-variants.{Cut}
-use Rattle.kerx.specs.Heads.{shouldReverse, subtableOf, headIn, headAt, listOf}
+use Rattle.kerning_lists.specs.Family.{headAt}
+use Rattle.kerx.specs.Heads.{shouldReverse, subtableOf, headIn, listOf}
+use Rattle.kerx.specs.Kerx.{kerx}
 
 -- the bits that the code has tested
 module _ (coverage : ℕ) where
@@ -32,15 +35,19 @@ module _ (coverage : ℕ) where
       ap₂ (λ (x y : Bool). record { «passed_over» = x; turned = y; format = coverage % 256; body = at; next = at + size }) o t
 
 -- there is none past the end
-pub head-none : (rtl : Bool) (bytes : List ℕ) (version at : ℕ) → length bytes ≤ at → Cut ≡ headAt rtl bytes version at
+pub head-none : (rtl : Bool) (bytes : List ℕ) (version at : ℕ) → length bytes ≤ at → Cut ≡ headAt kerx rtl bytes version at
 unfolding headIn
 head-none rtl bytes version at h = rw (drop-of-length-le bytes {i = at} h, readU32-short [] 0 (omega arith))
 
 pub head-there : (rtl : Bool) (bytes : List ℕ) (version at : ℕ) {part : List ℕ} {head : Head} → part ≡ drop at bytes → head ≡ headIn rtl version at part
-    → head ≡ headAt rtl bytes version at
+    → head ≡ headAt kerx rtl bytes version at
 head-there rtl bytes version at d e = e ∙ ap (headIn rtl version at) d
 
 pub list-is : (bytes : List ℕ) {version count : ℕ} → version ≡ u16OrZero bytes 0 → count ≡ u32OrZero bytes 4
-    → record { version = version; count = count } ≡ listOf bytes
+    → record { version = version; count = count; first = 8 } ≡ listOf bytes
 unfolding listOf
-list-is bytes v n = ap₂ (λ (x k : ℕ). record { version = x; count = k }) v n
+list-is bytes v n = ap₂ (λ (x k : ℕ). record { version = x; count = k; first = 8 }) v n
+
+pub first-is-near : (bytes : List ℕ) {list : ListHead} → list ≡ listOf bytes → list .first ≤ 8
+unfolding listOf
+first-is-near bytes e = omega (arith, ap (λ (l : ListHead). l .first) e)

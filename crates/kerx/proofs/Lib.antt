@@ -2,6 +2,5 @@
 mod Heads
 mod Works
 mod Goes
-mod Calls
 pub mod Cursors
 pub mod Manual

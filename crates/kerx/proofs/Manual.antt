@@ -29,8 +29,9 @@ use Rattle.kerning_lists.specs.Manual.{told, NoneInPart, AsManual}
 use Rattle.kerning_lists.specs.declared.Subtable.{Subtable}
 use Rattle.kerning_lists.specs.declared.Head.the-variants.{At, Cut}
 use Rattle.kerning_lists.proofs.Manual.{no-head, walk-read, walk-as-manual}
-use Rattle.kerx.specs.Heads.{subtableOf, headIn, headAt, listOf, walkOf}
-use Rattle.kerx.specs.Kerx.{pairIn}
+use Rattle.kerning_lists.specs.Family.{headAt, walkOf, pairIn}
+use Rattle.kerx.specs.Heads.{subtableOf, headIn, listOf}
+use Rattle.kerx.specs.Kerx.{pairBy, kerx}
 use Rattle.kerx.specs.Manual.{versionOf, countOf, lengthAt, headBytes, subtableAt, HasPairs, HasClasses, tupleCount, pairCount, rowsOf, columnsOf, arrayOf}
 
 -- how many bytes of a head are read
@@ -51,11 +52,11 @@ module _ (rtl : Bool) (bytes : List ℕ) (version at : ℕ) where
   u32-cut : (i : ℕ) → length bytes < at + i + 4 → readU32 (drop at bytes) i ≡ U32.Short
   u32-cut i h = readU32-short (drop at bytes) i (omega (arith, h, length-drop at bytes))
 
-  head-reads : at + fewOf version ≤ length bytes → headAt rtl bytes version at ≡ At (readAt rtl bytes at)
+  head-reads : at + fewOf version ≤ length bytes → headAt kerx rtl bytes version at ≡ At (readAt rtl bytes at)
   unfolding headIn
   head-reads h = go (ltb version 4) refl
     where
-      go : (t : Bool) → ltb version 4 ≡ t → headAt rtl bytes version at ≡ At (readAt rtl bytes at)
+      go : (t : Bool) → ltb version 4 ≡ t → headAt kerx rtl bytes version at ≡ At (readAt rtl bytes at)
       go true p =
           let k : at + 8 ≤ length bytes = rw p at h in
           rw (size-there (omega (arith, k)), u32-there 4 (omega (arith, k)), p, headIn)
@@ -63,12 +64,12 @@ module _ (rtl : Bool) (bytes : List ℕ) (version at : ℕ) where
           let k : at + 12 ≤ length bytes = rw p at h in
           rw (size-there (omega (arith, k)), u32-there 4 (omega (arith, k)), p, u32-there 8 (omega (arith, k)), headIn)
 
-  head-cut : length bytes < at + fewOf version → headAt rtl bytes version at ≡ Cut
+  head-cut : length bytes < at + fewOf version → headAt kerx rtl bytes version at ≡ Cut
   unfolding headIn
   head-cut h = go (ltb version 4) (readU32 (drop at bytes) 0) (readU32 (drop at bytes) 4) refl refl refl
     where
       go : (t : Bool) (a b : ReadU32) → ltb version 4 ≡ t → readU32 (drop at bytes) 0 ≡ a → readU32 (drop at bytes) 4 ≡ b
-          → headAt rtl bytes version at ≡ Cut
+          → headAt kerx rtl bytes version at ≡ Cut
       go t U32.Short b p e f = rw (e, headIn)
       go t (U32.Got size) U32.Short p e f = rw (e, f, headIn)
       go true (U32.Got size) (U32.Got coverage) p e f =
@@ -78,7 +79,7 @@ module _ (rtl : Bool) (bytes : List ℕ) (version at : ℕ) where
           let k : length bytes < at + 12 = rw p at h in
           rw (e, f, p, u32-cut 8 (omega (arith, k)), headIn)
 
-  head-only : (s : Subtable) → headAt rtl bytes version at ≡ At s → at + fewOf version ≤ length bytes
+  head-only : (s : Subtable) → headAt kerx rtl bytes version at ≡ At s → at + fewOf version ≤ length bytes
   head-only s e =
       ⊎-elim (λ (h : length bytes < at + fewOf version). no-head e (head-cut h)) (λ (h : at + fewOf version ≤ length bytes). h)
       (lt-or-ge (length bytes) (at + fewOf version))
@@ -101,18 +102,18 @@ module _ (rtl : Bool) (bytes : List ℕ) (version at : ℕ) where
 -- where the list's own head lies in the table; else there is no subtable
 pub kerx-as-manual : (rtl : Bool) (bytes : List ℕ) → 8 ≤ length bytes
     → NoneInPart bytes (ifLt (versionOf bytes) 4 8 12) headBytes (lengthAt bytes) 8 (countOf bytes)
-    → AsManual bytes headBytes (subtableAt bytes) (lengthAt bytes) 8 (countOf bytes) (walkOf rtl bytes)
+    → AsManual bytes headBytes (subtableAt bytes) (lengthAt bytes) 8 (countOf bytes) (walkOf kerx rtl bytes)
 unfolding walkOf listOf
 kerx-as-manual rtl bytes h whole =
     subst (AsManual bytes headBytes (subtableAt bytes) (lengthAt bytes) 8 (countOf bytes))
-    (let e : headsFrom (headAt rtl bytes (versionOf bytes)) (countOf bytes) 8 ≡ walkOf rtl bytes =
+    (let e : headsFrom (headAt kerx rtl bytes (versionOf bytes)) (countOf bytes) 8 ≡ walkOf kerx rtl bytes =
     rw (readU16-got bytes 0 (omega (arith, h)), readU32-got bytes 4 (omega (arith, h))) in e)
     (walk-as-manual bytes (fewOf (versionOf bytes)) headBytes (subtableAt bytes) (few-enough rtl bytes (versionOf bytes) 0)
     (λ at. told-same rtl bytes (versionOf bytes) at) whole
-    (walk-read (headAt rtl bytes (versionOf bytes)) (λ at. at + fewOf (versionOf bytes) ≤ length bytes) (readAt rtl bytes) (lengthAt bytes)
+    (walk-read (headAt kerx rtl bytes (versionOf bytes)) (λ at. at + fewOf (versionOf bytes) ≤ length bytes) (readAt rtl bytes) (lengthAt bytes)
     (behind rtl bytes (versionOf bytes)) (head-reads rtl bytes (versionOf bytes)) (head-only rtl bytes (versionOf bytes)) 8 (countOf bytes)))
 
-pub kerx-without-list : (rtl : Bool) (bytes : List ℕ) → length bytes < 8 → walkOf rtl bytes ≡ []
+pub kerx-without-list : (rtl : Bool) (bytes : List ℕ) → length bytes < 8 → walkOf kerx rtl bytes ≡ []
 unfolding walkOf listOf headsFrom
 kerx-without-list rtl bytes h = rw (readU32-short bytes 4 (omega (arith, h)), headsFrom)
 
@@ -125,21 +126,21 @@ module _ (bytes : List ℕ) (version left right : ℕ) where
       go true p = rw p (omega (arith, h))
       go false p = rw p (omega (arith, h))
 
-  pairs-are : HasPairs bytes → pairIn bytes version left right ≡ replyOf bytes (Ready (Ordered 28 (pairCount bytes))) left right
-  unfolding pairIn orderedKerx subtableOf
+  pairs-are : HasPairs bytes → pairIn kerx bytes version left right ≡ replyOf bytes (Ready (Ordered 28 (pairCount bytes))) left right
+  unfolding pairIn pairBy orderedKerx subtableOf
   pairs-are has =
       let h = has .head in
       rw (head-is (omega (arith, h)), eq-eqb (u32At bytes 4 % 256) 0 (has .told), readU32-got bytes 12 (omega (arith, h)))
 
   classes-are : HasClasses bytes
-      → pairIn bytes version left right ≡ replyOf bytes (Ready (Classes (rowsOf bytes) (columnsOf bytes) (arrayOf bytes))) left right
-  unfolding pairIn classesKerx subtableOf
+      → pairIn kerx bytes version left right ≡ replyOf bytes (Ready (Classes (rowsOf bytes) (columnsOf bytes) (arrayOf bytes))) left right
+  unfolding pairIn pairBy classesKerx subtableOf
   classes-are has =
       let h = has .head in
       rw (head-is (omega (arith, h)), has .told, readU32-got bytes 16 (omega (arith, h)), readU32-got bytes 20 (omega (arith, h)), readU32-got bytes 24 (omega (arith, h)))
 
   pub kerx-pair-as-manual : HasPairs bytes → tupleCount bytes version ≡ 0 → Rising bytes 28 (pairCount bytes)
-      → Pairs′.AsManual (pairIn bytes version left right) (OrderedValue bytes (tupleCount bytes version) 28 (pairCount bytes) left right)
+      → Pairs′.AsManual (pairIn kerx bytes version left right) (OrderedValue bytes (tupleCount bytes version) 28 (pairCount bytes) left right)
   kerx-pair-as-manual has none rising =
       subst (λ (r : PairReply). Pairs′.AsManual r (OrderedValue bytes (tupleCount bytes version) 28 (pairCount bytes) left right)) (sym (pairs-are has))
       (ordered-as-manual bytes (tupleCount bytes version) 28 (pairCount bytes) left right none rising)
@@ -148,7 +149,7 @@ module _ (bytes : List ℕ) (version left right : ℕ) where
   pub kerx-class-as-manual : HasClasses bytes → tupleCount bytes version ≡ 0 → (glyphs : ℕ) (leftLayout rightLayout : Layout)
       → Legible (drop (rowsOf bytes) bytes) glyphs left leftLayout → Legible (drop (columnsOf bytes) bytes) glyphs right rightLayout
       → Covered (drop (rowsOf bytes) bytes) glyphs left leftLayout → Covered (drop (columnsOf bytes) bytes) glyphs right rightLayout
-      → Pairs′.AsManual (pairIn bytes version left right)
+      → Pairs′.AsManual (pairIn kerx bytes version left right)
       (ClassValue bytes glyphs (rowsOf bytes) (columnsOf bytes) (arrayOf bytes) left right leftLayout rightLayout)
   kerx-class-as-manual has none glyphs leftLayout rightLayout l r left-there right-there =
       subst

@@ -6,13 +6,13 @@ use mathlib.Core.List.{List}
 use native.Mathlib.Omega.{arith}
 use lib.Dec.{eqb}
 use lib.IntN.{ℤ, pos}
-use lib.ListN.{length, drop}
+use lib.ListN.{length}
 use borrow.Author.Tests.{eq-eqb, ne-eqb}
 use Rattle.answers.specs.Limits.{roomLimit}
 use Rattle.answers.specs.declared.Answer.{Answer}
 use Rattle.answers.specs.declared.Answer.the-variants as Answer′
 use Rattle.answers.specs.declared.Refusal.the-variants as Refusal′
-use Rattle.kerning.specs.Additions.{Addition, addAll, nothingAdded}
+use Rattle.kerning.specs.Additions.{addAll, nothingAdded}
 use Rattle.kerning.specs.Bounds.{Within}
 use Rattle.kerning.proofs.Adding.{addAll-none, within-more}
 use Rattle.pairs.specs.Pairs.{orderedKerx, classesKerx}
@@ -24,17 +24,13 @@ use Rattle.pairs.specs.declared.PairReply.the-variants as Reply′
 use Rattle.pairs.proofs.Passes as PairLaws
 use Rattle.kerx_machine.specs.Machine as Machine′
 use Rattle.kerx_machine.proofs.Bounds as Bounds′
-use Rattle.kerning_lists.specs.Run.{turnedBack, contribution}
-use Rattle.kerning_lists.specs.declared.Subtable.{Subtable}
+use Rattle.kerning_lists.specs.Run.{turnedBack}
 use Rattle.kerning_lists.specs.declared.Head.{Head}
-use Rattle.kerning_lists.specs.declared.Head.the-variants.{At, Cut}
-use Rattle.kerning_lists.proofs.Runs.{contributes-nothing, contributes-plain, contributes-turned}
 use Rattle.kerning_lists.proofs.Turns.{backward-twice, within-backward, turned-and-back}
 use Rattle.laws.proofs.Backward.{length-backward}
 use Rattle.laws.specs.Backward.{backward}
 use Rattle.kerning_lists.proofs.Calls.{Works, works-same, works-nothing}
-use Rattle.kerx.specs.Heads.{headIn}
-use Rattle.kerx.specs.Kerx.{worked, passed, pairIn, adds}
+use Rattle.kerx.specs.Kerx.{worked, pairBy}
 
 module _ (bytes : List ℕ) (version format : ℕ) (glyphs : List ℕ) (used : ℕ) (before : List ℤ) where
   pub works-ordered : {opened : Opened} {answer : Answer} {after : List ℤ} → format ≡ 0 → opened ≡ orderedKerx bytes
@@ -62,17 +58,6 @@ module _ (bytes : List ℕ) (version format : ℕ) (glyphs : List ℕ) (used : �
   unfolding worked
   works-none n m k = works-nothing before (rw (ne-eqb format 0 n, ne-eqb format 1 m, ne-eqb format 2 k))
 
--- the pass by the format that the head tells
-module _ (bytes : List ℕ) (version : ℕ) (glyphs : List ℕ) (used : ℕ) (before : List ℤ) {head : Head} (e : head ≡ headIn false version 0 bytes) where
-  pub passes-cut : head ≡ Cut → Works (passed bytes version glyphs used) before (Answer′.Refused Refusal′.Head) before
-  unfolding passed
-  passes-cut f = works-nothing before (rw (sym e ∙ f))
-
-  pub passes-by : {s : Subtable} {answer : Answer} {after : List ℤ} → head ≡ At s
-      → Works (worked bytes version (s .format) glyphs used) before answer after → Works (passed bytes version glyphs used) before answer after
-  unfolding passed
-  passes-by f w = works-same (rw (sym e ∙ f)) w
-
 -- whatever the format, little is added
 pub worked-little : (bytes : List ℕ) (version format : ℕ) (glyphs : List ℕ) (used b : ℕ) (along : List ℤ) → used ≤ roomLimit → Within b along
     → Within (b + 2 ^ 39) (addAll (worked bytes version format glyphs used .additions) along)
@@ -90,26 +75,6 @@ worked-little bytes version format glyphs used b along h w = go (eqb format 0) (
     go false false true = PairLaws.worked-within bytes (classesKerx bytes) glyphs used along h w
     go false false false = within-more (omega arith) (subst (Within b) (sym (addAll-none along)) w)
 
--- the visit of a subtable
-module _ (bytes : List ℕ) (version : ℕ) (glyphs : List ℕ) (used : ℕ) (s : Subtable) (along : List ℤ) where
-  pub visits-none : s .«passed_over» ≡ true → along ≡ addAll (contribution (adds bytes version used) glyphs used s) along
-  visits-none o =
-      sym (addAll-none along) ∙ ap (λ (x : List Addition). addAll x along) (sym (contributes-nothing (adds bytes version used) glyphs used s o))
-
-  pub visits : {part : List ℕ} {after : List ℤ} → s .«passed_over» ≡ false → s .turned ≡ false → part ≡ drop (s .body) bytes
-      → after ≡ addAll (worked part version (s .format) glyphs used .additions) along
-      → after ≡ addAll (contribution (adds bytes version used) glyphs used s) along
-  visits o t d e =
-      e ∙ ap (λ (x : List ℕ). addAll (worked x version (s .format) glyphs used .additions) along) d
-      ∙ ap (λ (x : List Addition). addAll x along) (sym (contributes-plain (adds bytes version used) glyphs used s o t))
-
-  pub visits-turned : {part : List ℕ} {after : List ℤ} → s .«passed_over» ≡ false → s .turned ≡ true → part ≡ drop (s .body) bytes
-      → after ≡ addAll (turnedBack used (worked part version (s .format) (backward used glyphs) used .additions)) along
-      → after ≡ addAll (contribution (adds bytes version used) glyphs used s) along
-  visits-turned o t d e =
-      e ∙ ap (λ (x : List ℕ). addAll (turnedBack used (worked x version (s .format) (backward used glyphs) used .additions)) along) d
-      ∙ ap (λ (x : List Addition). addAll x along) (sym (contributes-turned (adds bytes version used) glyphs used s o t))
-
 -- a line turned round and back
 pub back-again : (used : ℕ) (xs : List ℕ) {once twice : List ℕ} → used ≤ length xs → once ≡ backward used xs → twice ≡ backward used once → twice ≡ xs
 back-again used xs h e f = f ∙ ap (backward used) e ∙ backward-twice 0 used xs h
@@ -124,25 +89,20 @@ added-back used version format part glyphs along h g e w f =
     ∙ turned-and-back (worked part version format (backward used glyphs) used .additions) used along h
 
 -- the answer for a pair
-module _ (bytes : List ℕ) (version left right : ℕ) {head : Head} (e : head ≡ headIn false version 0 bytes) where
-  pub pair-cut : head ≡ Cut → Reply′.Refused Refusal′.Head ≡ pairIn bytes version left right
-  unfolding pairIn
-  pair-cut f = rw (sym e ∙ f)
+module _ (bytes : List ℕ) (version format left right : ℕ) where
+  pub pair-ordered : {opened : Opened} {reply : PairReply} → format ≡ 0 → opened ≡ orderedKerx bytes → reply ≡ replyOf bytes opened left right
+      → reply ≡ pairBy bytes version format left right
+  unfolding pairBy
+  pair-ordered z o r = r ∙ ap (λ (x : Opened). replyOf bytes x left right) o ∙ rw (eq-eqb format 0 z)
 
-  module _ {s : Subtable} (f : head ≡ At s) where
-    pub pair-ordered : {opened : Opened} {reply : PairReply} → s .format ≡ 0 → opened ≡ orderedKerx bytes → reply ≡ replyOf bytes opened left right
-        → reply ≡ pairIn bytes version left right
-    unfolding pairIn
-    pair-ordered z o r = r ∙ ap (λ (x : Opened). replyOf bytes x left right) o ∙ rw (sym e ∙ f, eq-eqb (s .format) 0 z)
+  pub pair-classes : {opened : Opened} {reply : PairReply} → (format ≡ 0 → ⊥) → format ≡ 2 → opened ≡ classesKerx bytes
+      → reply ≡ replyOf bytes opened left right → reply ≡ pairBy bytes version format left right
+  unfolding pairBy
+  pair-classes n z o r = r ∙ ap (λ (x : Opened). replyOf bytes x left right) o ∙ rw (ne-eqb format 0 n, eq-eqb format 2 z)
 
-    pub pair-classes : {opened : Opened} {reply : PairReply} → (s .format ≡ 0 → ⊥) → s .format ≡ 2 → opened ≡ classesKerx bytes
-        → reply ≡ replyOf bytes opened left right → reply ≡ pairIn bytes version left right
-    unfolding pairIn
-    pair-classes n z o r = r ∙ ap (λ (x : Opened). replyOf bytes x left right) o ∙ rw (sym e ∙ f, ne-eqb (s .format) 0 n, eq-eqb (s .format) 2 z)
-
-    pub pair-other : (s .format ≡ 0 → ⊥) → (s .format ≡ 2 → ⊥) → Reply′.Refused Refusal′.Head ≡ pairIn bytes version left right
-    unfolding pairIn
-    pair-other n m = rw (sym e ∙ f, ne-eqb (s .format) 0 n, ne-eqb (s .format) 2 m)
+  pub pair-other : (format ≡ 0 → ⊥) → (format ≡ 2 → ⊥) → Reply′.Refused Refusal′.Head ≡ pairBy bytes version format left right
+  unfolding pairBy
+  pair-other n m = rw (ne-eqb format 0 n, ne-eqb format 2 m)
 
 -- the line and the adjustments turned round may be worked on
 pub turned-ready : (used : ℕ) (glyphs : List ℕ) (along : List ℤ) {turned : List ℕ} {once : List ℤ} → turned ≡ backward used glyphs → once ≡ backward used along

@@ -2,17 +2,16 @@
 use Prim.Native.Nat.{ℕ, _+_, _%_}
 use mathlib.Core.Bool.{Bool, not, cond}
 use mathlib.Core.List.{List}
-use lib.ListN.{drop}
 use Rattle.laws.specs.Lists.{either}
 use Rattle.laws.specs.Choose.{ifLt}
 use Rattle.parse.specs.Reads.{readU32}
 use Rattle.parse.specs.Use.{onU32}
 use Rattle.laws.specs.Bits.{isSet}
-use Rattle.kerning_lists.specs.Walk.{u16OrZero, u32OrZero, headsFrom}
+use Rattle.kerning_lists.specs.Walk.{u16OrZero, u32OrZero}
 use Rattle.kerning_lists.specs.declared.Subtable.{Subtable}
 use Rattle.kerning_lists.specs.declared.Head.{Head}
 use Rattle.kerning_lists.specs.declared.Head.the-variants.{At, Cut}
-use Rattle.kerx.specs.declared.List.{List as KerxList}
+use Rattle.kerning_lists.specs.declared.ListHead.{ListHead}
 
 -- the crate's `should_reverse`: a subtable with 0x10000000 goes against the line's direction
 abbrev pub shouldReverse : (coverage : ℕ) → (rtl : Bool) → Bool
@@ -39,13 +38,11 @@ headIn rtl version at part =
     Cut)
     Cut
 
-abbrev pub headAt : (rtl : Bool) → List ℕ → (version at : ℕ) → Head
-headAt rtl bytes version at = headIn rtl version at (drop at bytes)
-
 -- the list: version at 0, a 32-bit count at 4, the first subtable at 8
-unfoldable pub listOf : List ℕ → KerxList
-listOf bytes = record { version = u16OrZero bytes 0; count = u32OrZero bytes 4 }
+unfoldable pub listOf : List ℕ → ListHead
+listOf bytes = record { version = u16OrZero bytes 0; count = u32OrZero bytes 4; first = 8 }
 
--- the walk of the list
-unfoldable pub walkOf : (rtl : Bool) → List ℕ → List Subtable
-walkOf rtl bytes = headsFrom (headAt rtl bytes (listOf bytes .version)) (listOf bytes .count) 8
+-- the same subtable, as a run in the other direction reads its head
+abbrev pub turnedRound : Subtable → Subtable
+turnedRound s =
+    record { «passed_over» = s .«passed_over»; turned = not (s .turned); format = s .format; body = s .body; next = s .next }

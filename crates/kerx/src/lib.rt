@@ -4,6 +4,7 @@ use answers::Check;
 use answers::Refusal;
 use kerning_lists::Cursor;
 use kerning_lists::Head;
+use kerning_lists::ListHead;
 use kerning_lists::ListStart;
 use kerning_lists::Run;
 use kerning_lists::Subtable;
@@ -18,11 +19,11 @@ ghost use Rattle.laws.specs.Backward.{backward};
 ghost use Rattle.line.specs.Line.{lineOf};
 ghost use Rattle.kerning.specs.Additions.{addAll};
 ghost use Rattle.kerning.specs.Bounds.{Within};
+ghost use Rattle.kerning_lists.specs.Family.{headAt, walkOf, passed, passCall, pairIn, pairCall, adds, runCall, listFrom, listCall, subtableCall};
 ghost use Rattle.kerning_lists.specs.Walk.{walkAnswer, visited, headsFrom};
 ghost use Rattle.kerning_lists.specs.Run.{turnedBack, contribution, contributions, usedPart};
-ghost use Rattle.kerx.specs.Heads.{shouldReverse, subtableOf, headIn, headAt, listOf, walkOf};
-ghost use Rattle.kerx.specs.Cursors.{listFrom, listCall, subtableCall};
-ghost use Rattle.kerx.specs.Kerx.{worked, passed, passCall, pairIn, pairCall, adds, runCall};
+ghost use Rattle.kerx.specs.Heads.{shouldReverse, subtableOf, headIn, listOf};
+ghost use Rattle.kerx.specs.Kerx.{worked, pairBy, kerx};
 
 // The bits of a subtable's coverage.
 const VERTICAL: u32 = 0x8000_0000;
@@ -32,12 +33,6 @@ const CROSS_STREAM: u32 = 0x4000_0000;
 const VARIATIONS: u32 = 0x2000_0000;
 
 const BACKWARD: u32 = 0x1000_0000;
-
-// The list of subtables: its version, and how many it counts; the first begins at 8.
-pub struct List {
-    pub version: u16,
-    pub count: u32,
-}
 
 // Whether a run passes over a subtable: a vertical one, a cross-stream one, or one with variations.
 fn passed_over(coverage: u32) -> bool
@@ -97,7 +92,7 @@ fn head_in(rtl: bool, version: u16, at: usize, part: &[u8]) -> Head
 
 // The head at a place of the list; there is none at or past the table's end.
 fn head_at(rtl: bool, bytes: &[u8], version: u16, at: usize) -> Head
-    ensures { λ r. ⌜ r ≡ headAt rtl (now (bytes .entry)) version at ⌝ }
+    ensures { λ r. ⌜ r ≡ headAt kerx rtl (now (bytes .entry)) version at ⌝ }
 {
     if bytes.len() <= at {
         return Head::Cut;
@@ -106,23 +101,24 @@ fn head_at(rtl: bool, bytes: &[u8], version: u16, at: usize) -> Head
 }
 
 // The list at the start of a table's bytes.
-fn list_of(bytes: &[u8]) -> List
+fn list_of(bytes: &[u8]) -> ListHead
     ensures { λ r. ⌜ r ≡ listOf (now (bytes .entry)) ⌝ }
 {
-    List {
+    ListHead {
         version: kerning_lists::u16_or_zero(bytes, 0),
         count: kerning_lists::u32_or_zero(bytes, 4),
+        first: 8,
     }
 }
 
 // The list at `start`, from its first subtable on.
 fn list_from(table: &[u8], start: usize) -> Cursor
     requires { ⌜ start ≤ length (now table) ⌝ }
-    ensures { λ r. ⌜ r ≡ listFrom (now (table .entry)) start ⌝ }
+    ensures { λ r. ⌜ r ≡ listFrom kerx (now (table .entry)) start ⌝ }
 {
     let list = list_of(kerning_lists::list_bytes(table, start));
     Cursor {
-        place: start + 8,
+        place: start + list.first,
         left: list.count as usize,
         version: list.version,
     }
@@ -130,7 +126,7 @@ fn list_from(table: &[u8], start: usize) -> Cursor
 
 // The subtables of the list at `start`.
 pub fn subtables(table: &[u8], start: usize) -> ListStart
-    ensures { λ r. ⌜ r ≡ listCall (now (table .entry)) start ⌝ }
+    ensures { λ r. ⌜ r ≡ listCall kerx (now (table .entry)) start ⌝ }
 {
     if let Check::Refused(why) = kerning_lists::refuse_list(table.len(), start) {
         return ListStart::Refused(why);
@@ -140,7 +136,7 @@ pub fn subtables(table: &[u8], start: usize) -> ListStart
 
 // The next subtable of a list, whatever the cursor's numbers are; it is turned as in a line from left to right.
 pub fn next_subtable(table: &[u8], cursor: Cursor) -> SubtableReply
-    ensures { λ r. ⌜ r ≡ subtableCall (now (table .entry)) cursor ⌝ }
+    ensures { λ r. ⌜ r ≡ subtableCall kerx (now (table .entry)) cursor ⌝ }
 {
     if let Check::Refused(why) = answers::refuse_table(table.len()) {
         return SubtableReply::Refused(why);
@@ -174,25 +170,32 @@ fn work(
     Answer::Refused(Refusal::Head)
 }
 
-// The answer for a pair by the subtable that begins with `bytes`.
-fn pair_in(bytes: &[u8], version: u16, left: u16, right: u16) -> PairReply
-    ensures { λ r. ⌜ r ≡ pairIn (now (bytes .entry)) version left right ⌝ }
+// The answer for a pair by the subtable that begins with `bytes`, of a format.
+fn pair_by(bytes: &[u8], version: u16, format: u32, left: u16, right: u16) -> PairReply
+    ensures { λ r. ⌜ r ≡ pairBy (now (bytes .entry)) version format left right ⌝ }
 {
-    let Head::At(subtable) = head_in(false, version, 0, bytes) else {
-        return PairReply::Refused(Refusal::Head);
-    };
-    if subtable.format == 0 {
+    if format == 0 {
         return pairs::reply(bytes, pairs::ordered_kerx(bytes), left, right);
     }
-    if subtable.format == 2 {
+    if format == 2 {
         return pairs::reply(bytes, pairs::classes_kerx(bytes), left, right);
     }
     PairReply::Refused(Refusal::Head)
 }
 
+// The answer for a pair by the subtable that begins with `bytes`, its head included.
+fn pair_in(bytes: &[u8], version: u16, left: u16, right: u16) -> PairReply
+    ensures { λ r. ⌜ r ≡ pairIn kerx (now (bytes .entry)) version left right ⌝ }
+{
+    let Head::At(subtable) = head_in(false, version, 0, bytes) else {
+        return PairReply::Refused(Refusal::Head);
+    };
+    pair_by(bytes, version, subtable.format, left, right)
+}
+
 // What a pair of glyphs adds, by the subtable at `start` of a list of this version.
 pub fn pair(table: &[u8], start: usize, version: u16, left: u16, right: u16) -> PairReply
-    ensures { λ r. ⌜ r ≡ pairCall (now (table .entry)) start version left right ⌝ }
+    ensures { λ r. ⌜ r ≡ pairCall kerx (now (table .entry)) start version left right ⌝ }
 {
     if let Check::Refused(why) = answers::refuse_table(table.len()) {
         return PairReply::Refused(why);
@@ -235,7 +238,7 @@ fn visit(
     requires { ⌜ (used ≤ length (now glyphs)) × (used ≤ length (now tags)) × (used ≤ length (now along)) × (used ≤ roomLimit) × Within (2 ^ 60) (now along) ⌝ }
     ensures glyphs { λ _. ⌜ now (glyphs .exit) ≡ now (glyphs .entry) ⌝ }
     ensures tags { λ _. ⌜ now (tags .exit) ≡ now (tags .entry) ⌝ }
-    ensures along { λ _. ⌜ now (along .exit) ≡ addAll (contribution (adds (now (bytes .entry)) version used) (now (glyphs .entry)) used subtable) (now (along .entry)) ⌝ }
+    ensures along { λ _. ⌜ now (along .exit) ≡ addAll (contribution (adds kerx (now (bytes .entry)) version used) (now (glyphs .entry)) used subtable) (now (along .entry)) ⌝ }
 {
     if subtable.passed_over {
         return;
@@ -251,7 +254,7 @@ fn visit(
 // The subtables one after the other, from the first on.
 fn run_list(
     bytes: &[u8],
-    list: List,
+    list: ListHead,
     rtl: bool,
     glyphs: &mut [u16],
     tags: &mut [u16],
@@ -259,15 +262,15 @@ fn run_list(
     along: &mut [i64],
 ) -> Run
     requires { ⌜ (used ≤ length (now glyphs)) × (used ≤ length (now tags)) × (used ≤ length (now along)) × (used ≤ roomLimit) × Within 0 (now along) ⌝ }
-    ensures answer { λ r. ⌜ r .answer ≡ walkAnswer (headsFrom (headAt rtl (now (bytes .entry)) (list .version)) (list .count) 8) ⌝ }
-    ensures heads { λ r. ⌜ r .heads ≡ length (visited (headsFrom (headAt rtl (now (bytes .entry)) (list .version)) (list .count) 8)) ⌝ }
+    ensures answer { λ r. ⌜ r .answer ≡ walkAnswer (headsFrom (headAt kerx rtl (now (bytes .entry)) (list .version)) (list .count) (list .first)) ⌝ }
+    ensures heads { λ r. ⌜ r .heads ≡ length (visited (headsFrom (headAt kerx rtl (now (bytes .entry)) (list .version)) (list .count) (list .first))) ⌝ }
     ensures glyphs { λ _. ⌜ now (glyphs .exit) ≡ now (glyphs .entry) ⌝ }
     ensures tags { λ _. ⌜ now (tags .exit) ≡ now (tags .entry) ⌝ }
-    ensures along { λ _. ⌜ now (along .exit) ≡ addAll (contributions (adds (now (bytes .entry)) (list .version) used) (now (glyphs .entry)) used (visited (headsFrom (headAt rtl (now (bytes .entry)) (list .version)) (list .count) 8))) (now (along .entry)) ⌝ }
+    ensures along { λ _. ⌜ now (along .exit) ≡ addAll (contributions (adds kerx (now (bytes .entry)) (list .version) used) (now (glyphs .entry)) used (visited (headsFrom (headAt kerx rtl (now (bytes .entry)) (list .version)) (list .count) (list .first)))) (now (along .entry)) ⌝ }
 {
     let mut heads = 0;
     let mut left = list.count;
-    let mut at = 8;
+    let mut at = list.first;
     while 0 < left {
         let Head::At(subtable) = head_at(rtl, bytes, list.version, at) else {
             return Run {
@@ -295,11 +298,11 @@ fn run_list(
 // The used adjustments, zeroed first, with what the list's subtables add.
 fn run_part(bytes: &[u8], rtl: bool, glyphs: &mut [u16], tags: &mut [u16], along: &mut [i64]) -> Run
     requires { ⌜ (length (now along) ≤ length (now glyphs)) × (length (now along) ≤ length (now tags)) × (length (now along) ≤ roomLimit) ⌝ }
-    ensures answer { λ r. ⌜ r .answer ≡ walkAnswer (walkOf rtl (now (bytes .entry))) ⌝ }
-    ensures heads { λ r. ⌜ r .heads ≡ length (visited (walkOf rtl (now (bytes .entry)))) ⌝ }
+    ensures answer { λ r. ⌜ r .answer ≡ walkAnswer (walkOf kerx rtl (now (bytes .entry))) ⌝ }
+    ensures heads { λ r. ⌜ r .heads ≡ length (visited (walkOf kerx rtl (now (bytes .entry)))) ⌝ }
     ensures glyphs { λ _. ⌜ now (glyphs .exit) ≡ now (glyphs .entry) ⌝ }
     ensures tags { λ _. ⌜ now (tags .exit) ≡ now (tags .entry) ⌝ }
-    ensures along { λ _. ⌜ now (along .exit) ≡ usedPart (walkOf rtl (now (bytes .entry))) (adds (now (bytes .entry)) (listOf (now (bytes .entry)) .version) (length (now (along .entry)))) (now (glyphs .entry)) (length (now (along .entry))) ⌝ }
+    ensures along { λ _. ⌜ now (along .exit) ≡ usedPart (walkOf kerx rtl (now (bytes .entry))) (adds kerx (now (bytes .entry)) (listOf (now (bytes .entry)) .version) (length (now (along .entry)))) (now (glyphs .entry)) (length (now (along .entry))) ⌝ }
 {
     kerning_lists::zero(along);
     let used = along.len();
@@ -317,11 +320,11 @@ pub fn run(
     used: usize,
     along: &mut [i64],
 ) -> Run
-    ensures answer { λ r. ⌜ r .answer ≡ runCall (now (table .entry)) start rtl (lineOf (now (glyphs .entry)) (now (tags .entry)) (now (homes .entry)) used) (now (along .entry)) .answer ⌝ }
-    ensures heads { λ r. ⌜ r .heads ≡ runCall (now (table .entry)) start rtl (lineOf (now (glyphs .entry)) (now (tags .entry)) (now (homes .entry)) used) (now (along .entry)) .heads ⌝ }
+    ensures answer { λ r. ⌜ r .answer ≡ runCall kerx (now (table .entry)) start rtl (lineOf (now (glyphs .entry)) (now (tags .entry)) (now (homes .entry)) used) (now (along .entry)) .answer ⌝ }
+    ensures heads { λ r. ⌜ r .heads ≡ runCall kerx (now (table .entry)) start rtl (lineOf (now (glyphs .entry)) (now (tags .entry)) (now (homes .entry)) used) (now (along .entry)) .heads ⌝ }
     ensures glyphs { λ _. ⌜ now (glyphs .exit) ≡ now (glyphs .entry) ⌝ }
     ensures tags { λ _. ⌜ now (tags .exit) ≡ now (tags .entry) ⌝ }
-    ensures along { λ _. ⌜ now (along .exit) ≡ runCall (now (table .entry)) start rtl (lineOf (now (glyphs .entry)) (now (tags .entry)) (now (homes .entry)) used) (now (along .entry)) .along ⌝ }
+    ensures along { λ _. ⌜ now (along .exit) ≡ runCall kerx (now (table .entry)) start rtl (lineOf (now (glyphs .entry)) (now (tags .entry)) (now (homes .entry)) used) (now (along .entry)) .along ⌝ }
 {
     if let Check::Refused(why) = kerning_lists::refuse_run(
         table.len(),
@@ -349,8 +352,8 @@ pub fn run(
 // The pass by the subtable that begins with `bytes`, its head included.
 fn pass_in(bytes: &[u8], version: u16, glyphs: &[u16], used: usize, along: &mut [i64]) -> Answer
     requires { ⌜ (used ≤ length (now glyphs)) × (used ≤ length (now along)) × (used ≤ roomLimit) × Within (2 ^ 60) (now along) ⌝ }
-    ensures answer { λ r. ⌜ r ≡ passed (now (bytes .entry)) version (now (glyphs .entry)) used .answer ⌝ }
-    ensures along { λ _. ⌜ now (along .exit) ≡ addAll (passed (now (bytes .entry)) version (now (glyphs .entry)) used .additions) (now (along .entry)) ⌝ }
+    ensures answer { λ r. ⌜ r ≡ passed kerx (now (bytes .entry)) version (now (glyphs .entry)) used .answer ⌝ }
+    ensures along { λ _. ⌜ now (along .exit) ≡ addAll (passed kerx (now (bytes .entry)) version (now (glyphs .entry)) used .additions) (now (along .entry)) ⌝ }
 {
     let Head::At(subtable) = head_in(false, version, 0, bytes) else {
         return Answer::Refused(Refusal::Head);
@@ -369,8 +372,8 @@ pub fn pass(
     used: usize,
     along: &mut [i64],
 ) -> Answer
-    ensures answer { λ r. ⌜ r ≡ passCall (now (table .entry)) start version (lineOf (now (glyphs .entry)) (now (tags .entry)) (now (homes .entry)) used) (now (along .entry)) .answer ⌝ }
-    ensures along { λ _. ⌜ now (along .exit) ≡ addAll (passCall (now (table .entry)) start version (lineOf (now (glyphs .entry)) (now (tags .entry)) (now (homes .entry)) used) (now (along .entry)) .additions) (now (along .entry)) ⌝ }
+    ensures answer { λ r. ⌜ r ≡ passCall kerx (now (table .entry)) start version (lineOf (now (glyphs .entry)) (now (tags .entry)) (now (homes .entry)) used) (now (along .entry)) .answer ⌝ }
+    ensures along { λ _. ⌜ now (along .exit) ≡ addAll (passCall kerx (now (table .entry)) start version (lineOf (now (glyphs .entry)) (now (tags .entry)) (now (homes .entry)) used) (now (along .entry)) .additions) (now (along .entry)) ⌝ }
 {
     if let Check::Refused(why) = kerning::refuse_pass(
         table.len(),

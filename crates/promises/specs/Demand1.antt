@@ -26,10 +26,10 @@ use Rattle.morx.specs.Run.{ran}
 use Rattle.morx.specs.declared.Choices.{Choices}
 use Rattle.kerning_lists.specs.Walk.{listBytes}
 use Rattle.kerning_lists.specs.Cursors.{followed, moved}
-use Rattle.kern.specs.Heads as Kern
-use Rattle.kern.specs.Cursors as KernCursor
-use Rattle.kerx.specs.Heads as Kerx
-use Rattle.kerx.specs.Cursors as KerxCursor
+use Rattle.kerning_lists.specs.Family as Family′
+use Rattle.kern.specs.Kern.{kern}
+use Rattle.kerx.specs.Kerx.{kerx}
+use Rattle.kerx.specs.Heads.{turnedRound}
 use Rattle.shaper.specs.Shaper.{inputOf, shaperRoom, shaped}
 use Rattle.shaper.specs.declared.Input.the-variants.{TableUntil}
 
@@ -70,13 +70,13 @@ pub record Demand1 : Type 0 where
   pub heads-counted : (table : List ℕ) (start : ℕ) (choices : Choices) (l : Line) → Counted table start choices l (ran table start choices l)
   -- followed from a list's start, kern's cursor gives exactly the subtables of the run's walk, in the places of the whole table; so does kerx's
   pub kern-cursor-walks : (table : List ℕ) (start : ℕ)
-      → followed (KernCursor.nextSubtable table) (KernCursor.listFrom table start .left) (KernCursor.listFrom table start)
-      ≡ map (moved start) (Kern.walkOf (listBytes table start))
+      → followed (Family′.nextSubtable kern table) (Family′.listFrom kern table start .left) (Family′.listFrom kern table start)
+      ≡ map (moved start) (Family′.walkOf kern false (listBytes table start))
   pub kerx-cursor-walks : (table : List ℕ) (start : ℕ)
-      → followed (KerxCursor.nextSubtable table) (KerxCursor.listFrom table start .left) (KerxCursor.listFrom table start)
-      ≡ map (moved start) (Kerx.walkOf false (listBytes table start))
+      → followed (Family′.nextSubtable kerx table) (Family′.listFrom kerx table start .left) (Family′.listFrom kerx table start)
+      ≡ map (moved start) (Family′.walkOf kerx false (listBytes table start))
   -- a run of kerx from right to left reads the same subtables, each turned the other way round
-  pub walk-turned : (bytes : List ℕ) → Kerx.walkOf true bytes ≡ map KerxCursor.turnedRound (Kerx.walkOf false bytes)
+  pub walk-turned : (bytes : List ℕ) → Family′.walkOf kerx true bytes ≡ map turnedRound (Family′.walkOf kerx false bytes)
   -- an input that the shaper takes is answered DONE, FULL or LIMIT
   pub shaped-runs : (input glyphs tags homes : List ℕ) (end : ℕ) → inputOf input ≡ TableUntil end → length glyphs ≡ shaperRoom
       → length tags ≡ shaperRoom → length homes ≡ shaperRoom

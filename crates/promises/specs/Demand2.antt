@@ -3,7 +3,7 @@
 -- not at hand: docs/DIFFERENCES.md says what stands in for it, and lists where the crate does otherwise, which the hypotheses here leave out.
 use Prim.Native.Nat.{ℕ, suc, _+_, _*_, _-_, _<_, _≤_}
 use mathlib.Core.Path.{_≡_}
-use mathlib.Core.Bool.{Bool}
+use mathlib.Core.Bool.{Bool, false}
 use mathlib.Core.List.{List, []}
 use lib.ListN.{length, getD, take, drop}
 use Rattle.laws.specs.Choose.{ifLt}
@@ -50,12 +50,11 @@ use Rattle.pairs.specs.Manual.{Rising, OrderedValue, ClassValue, Legible, Cover
 use Rattle.pairs.specs.Manual as Pair
 use Rattle.kerning_lists.specs.Manual as List′
 use Rattle.kerning_lists.specs.Manual.{NoneInPart}
-use Rattle.kern.specs.Heads as KernWalk
-use Rattle.kern.specs.Kern as KernPair
+use Rattle.kerning_lists.specs.Family as Family′
+use Rattle.kern.specs.Kern.{kern}
 use Rattle.kern.specs.Manual as Kern
 use Rattle.kern_machine.specs.Manual.{WholeList}
-use Rattle.kerx.specs.Heads as KerxWalk
-use Rattle.kerx.specs.Kerx as KerxPair
+use Rattle.kerx.specs.Kerx.{kerx}
 use Rattle.kerx.specs.Manual as Kerx
 use Rattle.promises.specs.Known.{AllKnown}
 
@@ -174,23 +173,23 @@ pub record Kerning : Type 0 where
   pub kern-as-manual : (edition : Kern.Edition) (bytes : List ℕ) → Kern.HasVersion edition bytes → Kern.firstOf edition ≤ length bytes
       → NoneInPart bytes 6 (Kern.headBytes edition) (Kern.lengthAt edition bytes) (Kern.firstOf edition) (Kern.countOf edition bytes)
       → List′.AsManual bytes (Kern.headBytes edition) (Kern.subtableAt edition bytes) (Kern.lengthAt edition bytes)
-      (Kern.firstOf edition) (Kern.countOf edition bytes) (KernWalk.walkOf bytes)
+      (Kern.firstOf edition) (Kern.countOf edition bytes) (Family′.walkOf kern false bytes)
   pub kerx-as-manual : (rtl : Bool) (bytes : List ℕ) → 8 ≤ length bytes
       → NoneInPart bytes (ifLt (Kerx.versionOf bytes) 4 8 12) Kerx.headBytes (Kerx.lengthAt bytes) 8 (Kerx.countOf bytes)
-      → List′.AsManual bytes Kerx.headBytes (Kerx.subtableAt bytes) (Kerx.lengthAt bytes) 8 (Kerx.countOf bytes) (KerxWalk.walkOf rtl bytes)
+      → List′.AsManual bytes Kerx.headBytes (Kerx.subtableAt bytes) (Kerx.lengthAt bytes) 8 (Kerx.countOf bytes) (Family′.walkOf kerx rtl bytes)
   -- where the list's own head does not lie in the table there is no subtable; of kern's head the version does
   pub kern-without-list : (edition : Kern.Edition) (bytes : List ℕ) → Kern.HasVersion edition bytes → 2 ≤ length bytes
-      → length bytes < Kern.firstOf edition → KernWalk.walkOf bytes ≡ []
-  pub kerx-without-list : (rtl : Bool) (bytes : List ℕ) → length bytes < 8 → KerxWalk.walkOf rtl bytes ≡ []
+      → length bytes < Kern.firstOf edition → Family′.walkOf kern false bytes ≡ []
+  pub kerx-without-list : (rtl : Bool) (bytes : List ℕ) → length bytes < 8 → Family′.walkOf kerx rtl bytes ≡ []
   -- a pair's answer is DONE with just the value that the manual has for it, and NOTHING exactly when it has none: on ordered pairs in rising order
   -- (in kerx without tuples)
   pub kern-pair-as-manual : (edition : Kern.Edition) (bytes : List ℕ) (left right : ℕ) → Kern.HasPairs edition bytes
       → Rising bytes (Kern.firstPair edition) (Kern.pairCount edition bytes)
-      → Pair.AsManual (KernPair.pairIn bytes (Kern.versionNumber edition) left right)
+      → Pair.AsManual (Family′.pairIn kern bytes (Kern.versionNumber edition) left right)
       (OrderedValue bytes 0 (Kern.firstPair edition) (Kern.pairCount edition bytes) left right)
   pub kerx-pair-as-manual : (bytes : List ℕ) (version left right : ℕ) → Kerx.HasPairs bytes → Kerx.tupleCount bytes version ≡ 0
       → Rising bytes 28 (Kerx.pairCount bytes)
-      → Pair.AsManual (KerxPair.pairIn bytes version left right)
+      → Pair.AsManual (Family′.pairIn kerx bytes version left right)
       (OrderedValue bytes (Kerx.tupleCount bytes version) 28 (Kerx.pairCount bytes) left right)
   -- and on class pairs without tuples, of glyphs that both lookups cover, in the reading of them that is taken for the manual's
   pub kerx-class-as-manual : (bytes : List ℕ) (version left right : ℕ) → Kerx.HasClasses bytes → Kerx.tupleCount bytes version ≡ 0
@@ -199,7 +198,7 @@ pub record Kerning : Type 0 where
       → Legible (drop (Kerx.columnsOf bytes) bytes) glyphs right rightLayout
       → Covered (drop (Kerx.rowsOf bytes) bytes) glyphs left leftLayout
       → Covered (drop (Kerx.columnsOf bytes) bytes) glyphs right rightLayout
-      → Pair.AsManual (KerxPair.pairIn bytes version left right)
+      → Pair.AsManual (Family′.pairIn kerx bytes version left right)
       (ClassValue bytes glyphs (Kerx.rowsOf bytes) (Kerx.columnsOf bytes) (Kerx.arrayOf bytes) left right leftLayout rightLayout)
   -- what kern's machine adds for an entry, along the stream or across it, is the manual's whole list: a number for each place popped, up to an odd one or
   -- the empty stack; the step ends exactly when such a number does not lie in the table

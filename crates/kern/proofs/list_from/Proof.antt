@@ -1,5 +1,7 @@
 use native.Mathlib.Omega.{arith}
-use Rattle.kern.proofs.Cursors.{list-from, first-is-near}
+use Rattle.kern.specs.Kern.{kern}
+use Rattle.kerning_lists.proofs.Families.{list-from}
+use Rattle.kern.proofs.Cursors.{first-is-near}
 use borrow.Author.Needs.{needs}
 use Rattle.kern.proofs.list_from.Statement.{statement}
 use Rattle.kern.proofs.list_from.Tie as tie
@@ -17,7 +19,7 @@ cast-t6 : tie.Need-cast-t6
 cast-t6 c = search needs
 
 returns : tie.Need-returns
-returns c = list-from _ _ (c .before .before .before .list-bytes .ensures) (c .before .before .list-of .ensures)
+returns c = list-from kern _ _ (c .before .before .before .list-bytes .ensures) (c .before .before .list-of .ensures)
 
 pub list-from-spec : {M : Type 1} → statement M
 list-from-spec = tie.close (tie.spec list-bytes-requires list-of-requires add-t5 cast-t6 returns)

@@ -1,5 +1,5 @@
 use mathlib.Core.Path.{sym, _∙_}
-use Rattle.kern.specs.Cursors.{nextSubtable, subtableCall}
+use Rattle.kerning_lists.specs.Family.{nextSubtable, subtableCall}
 use borrow.Author.Needs.{needs}
 use Rattle.kern.proofs.next_subtable.Statement.{statement}
 use Rattle.kern.proofs.next_subtable.Tie as tie

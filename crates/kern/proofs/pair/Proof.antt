@@ -1,5 +1,5 @@
 use mathlib.Core.Path.{sym, _∙_}
-use Rattle.kern.specs.Kern.{pairCall}
+use Rattle.kerning_lists.specs.Family.{pairCall}
 use borrow.Author.Needs.{needs}
 use Rattle.kern.proofs.pair.Statement.{statement}
 use Rattle.kern.proofs.pair.Tie as tie

@@ -1,6 +1,7 @@
 use Rattle.line.specs.Line.{lineOf}
 use Rattle.kerning_lists.proofs.Calls.{pass-ready, pass-modest}
-use Rattle.kern.proofs.Calls.{pass-refused, pass-passed}
+use Rattle.kern.specs.Kern.{kern}
+use Rattle.kerning_lists.proofs.Families.{pass-refused, pass-passed}
 use borrow.Author.Needs.{needs}
 use Rattle.kern.proofs.pass.Statement.{statement}
 use Rattle.kern.proofs.pass.Tie as tie
@@ -15,7 +16,7 @@ same-length : tie.Need-same-length
 same-length c = search needs
 
 returns : tie.Need-returns
-returns c = let w = pass-refused _ _ _ (lineOf _ _ _ _) _ (c .before .before .before .refuse-pass .ensures) (c .before .why .given .1) in (w .answers, w .leaves)
+returns c = let w = pass-refused kern _ _ _ (lineOf _ _ _ _) _ (c .before .before .before .refuse-pass .ensures) (c .before .why .given .1) in (w .answers, w .leaves)
 
 enum-told : tie.Need-enum-told
 enum-told c = search needs
@@ -35,7 +36,7 @@ returns-2 c =
     let at-from = at-pass-in .before .before in
     let at-enum-told = at-from .before in
     let at-refuse-pass = at-enum-told .before .before in
-    let w = pass-passed _ _ _ (lineOf _ _ _ _) _ (at-refuse-pass .refuse-pass .ensures) (at-enum-told .enum-told .given .1) (at-from .from .ensures) (at-pass-in .pass-in .ensures .0) (at-pass-in .pass-in .ensures .1) in
+    let w = pass-passed kern _ _ _ (lineOf _ _ _ _) _ (at-refuse-pass .refuse-pass .ensures) (at-enum-told .enum-told .given .1) (at-from .from .ensures) (at-pass-in .pass-in .ensures .0) (at-pass-in .pass-in .ensures .1) in
     (w .answers, w .leaves)
 
 pub pass-spec : {M : Type 1} → statement M

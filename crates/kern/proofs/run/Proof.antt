@@ -1,7 +1,9 @@
+use mathlib.Core.Bool.{false}
 use mathlib.Core.Path.{sym}
 use Rattle.line.specs.Line.{lineOf}
 use Rattle.kerning_lists.proofs.Calls.{run-ready, lent-length, lent-ready}
-use Rattle.kern.proofs.Calls.{runs-refused, runs-passed}
+use Rattle.kern.specs.Kern.{kern}
+use Rattle.kerning_lists.proofs.Families.{runs-refused, runs-passed}
 use borrow.Author.Needs.{needs}
 use Rattle.kern.proofs.run.Statement.{statement}
 use Rattle.kern.proofs.run.Tie as tie
@@ -16,7 +18,7 @@ same-length : tie.Need-same-length
 same-length c = search needs
 
 returns : tie.Need-returns
-returns c = let r = runs-refused _ _ (lineOf _ _ _ _) _ (c .before .before .before .refuse-run .ensures) (c .before .why .given .1) in (r .answers, (r .counts, r .leaves))
+returns c = let r = runs-refused kern _ _ false (lineOf _ _ _ _) _ (c .before .before .before .refuse-run .ensures) (c .before .why .given .1) in (r .answers, (r .counts, r .leaves))
 
 enum-told : tie.Need-enum-told
 enum-told c = search needs
@@ -42,7 +44,7 @@ returns-2 c =
     let at-list-bytes = at-run-part .before .before in
     let at-enum-told = at-list-bytes .before in
     let at-refuse-run = at-enum-told .before .before in
-    let r = runs-passed _ _ (lineOf _ _ _ _) _ (at-refuse-run .refuse-run .ensures) (at-enum-told .enum-told .given .1) (at-list-bytes .list-bytes .ensures) (lent-length _ _ (run-ready _ _ _ _ _ _ _ (at-refuse-run .refuse-run .ensures) (at-enum-told .enum-told .given .1) .long)) (at-run-part .run-part .ensures .0) (at-run-part .run-part .ensures .1 .0) (at-run-part .run-part .ensures .1 .1) in
+    let r = runs-passed kern _ _ false (lineOf _ _ _ _) _ (at-refuse-run .refuse-run .ensures) (at-enum-told .enum-told .given .1) (at-list-bytes .list-bytes .ensures) (lent-length _ _ (run-ready _ _ _ _ _ _ _ (at-refuse-run .refuse-run .ensures) (at-enum-told .enum-told .given .1) .long)) (at-run-part .run-part .ensures .0) (at-run-part .run-part .ensures .1 .0) (at-run-part .run-part .ensures .1 .1) in
     (r .answers, (r .counts, r .leaves))
 
 pub run-spec : {M : Type 1} → statement M

@@ -1,17 +1,18 @@
+use mathlib.Core.Bool.{false}
 use mathlib.Core.Path.{sym, _∙_}
 use native.Mathlib.Omega.{arith}
 use borrow.Author.Needs.{needs}
 use Rattle.kerning_lists.specs.Walk.{headsFrom as headsOf}
 use Rattle.kerning_lists.proofs.Runs.{Running, running-start, running-next, running-limit, running-cut, running-done, contribution-little, limit-small, limit-reached, limit-ahead, run-small}
-use Rattle.kern.specs.Heads.{headAt}
-use Rattle.kern.specs.Kern.{adds}
+use Rattle.kerning_lists.specs.Family.{headAt, adds}
+use Rattle.kern.specs.Kern.{kern}
 use Rattle.kern.proofs.Heads.{head-plain}
 use Rattle.kern.proofs.Works.{worked-little}
 use Rattle.kern.proofs.run_list.Statement.{statement}
 use Rattle.kern.proofs.run_list.Tie as tie
 
 abbrev Inv-loop : tie.InvT-loop
-Inv-loop bytes list glyphs used along₀ heads₀ left₀ at₀ along heads left at = Running (adds bytes (list .version) used) glyphs used (headAt bytes (list .version)) (headsOf (headAt bytes (list .version)) (list .count) (list .first)) along₀ along heads left at
+Inv-loop bytes list glyphs used along₀ heads₀ left₀ at₀ along heads left at = Running (adds kern bytes (list .version) used) glyphs used (headAt kern false bytes (list .version)) (headsOf (headAt kern false bytes (list .version)) (list .count) (list .first)) along₀ along heads left at
 
 abbrev μ-loop : tie.MeasureT-loop
 μ-loop bytes list glyphs used along₀ heads₀ left₀ at₀ along heads left at = left

@@ -1,8 +1,10 @@
+use mathlib.Core.Bool.{false}
 use mathlib.Core.Path.{_∙_, ap}
 use lib.ListN.{length}
 use Rattle.kerning_lists.proofs.Turns.{length-zeros}
 use Rattle.kerning_lists.proofs.Calls.{zeroed-ready}
-use Rattle.kern.proofs.Calls.{part-is}
+use Rattle.kern.specs.Kern.{kern}
+use Rattle.kerning_lists.proofs.Families.{part-is}
 use borrow.Author.Needs.{needs}
 use Rattle.kern.proofs.run_part.Statement.{statement}
 use Rattle.kern.proofs.run_part.Tie as tie
@@ -27,7 +29,7 @@ returns c =
     let at-run-list = c .before in
     let at-list-of = at-run-list .before .before in
     let at-zero = at-list-of .before .before in
-    let p = part-is _ _ _ (at-zero .zero .ensures) (ap length (at-zero .zero .ensures) ∙ length-zeros _) (at-list-of .list-of .ensures) (at-run-list .run-list .ensures .0) (at-run-list .run-list .ensures .1 .0) (at-run-list .run-list .ensures .1 .1) in
+    let p = part-is kern _ false _ _ (at-zero .zero .ensures) (ap length (at-zero .zero .ensures) ∙ length-zeros _) (at-list-of .list-of .ensures) (at-run-list .run-list .ensures .0) (at-run-list .run-list .ensures .1 .0) (at-run-list .run-list .ensures .1 .1) in
     (p .answers, (p .counts, p .leaves))
 
 pub run-part-spec : {M : Type 1} → statement M

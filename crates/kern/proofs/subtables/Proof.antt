@@ -1,6 +1,6 @@
 use mathlib.Core.Path.{sym, _∙_}
 use Rattle.kerning_lists.proofs.Cursors.{list-start}
-use Rattle.kern.specs.Cursors.{listCall}
+use Rattle.kerning_lists.specs.Family.{listCall}
 use borrow.Author.Needs.{needs}
 use Rattle.kern.proofs.subtables.Statement.{statement}
 use Rattle.kern.proofs.subtables.Tie as tie

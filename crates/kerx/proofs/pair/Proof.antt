@@ -1,5 +1,5 @@
 use mathlib.Core.Path.{sym, _∙_}
-use Rattle.kerx.specs.Kerx.{pairCall}
+use Rattle.kerning_lists.specs.Family.{pairCall}
 use borrow.Author.Needs.{needs}
 use Rattle.kerx.proofs.pair.Statement.{statement}
 use Rattle.kerx.proofs.pair.Tie as tie

@@ -1,4 +1,5 @@
-use Rattle.kerx.proofs.Works.{pair-cut, pair-ordered, pair-classes, pair-other}
+use Rattle.kerning_lists.proofs.Families.{pair-cut, pair-by}
+use Rattle.kerx.specs.Kerx.{kerx}
 use borrow.Author.Needs.{needs}
 use Rattle.kerx.proofs.pair_in.Statement.{statement}
 use Rattle.kerx.proofs.pair_in.Tie as tie
@@ -13,41 +14,16 @@ enum-told : tie.Need-enum-told
 enum-told c = search needs
 
 returns : tie.Need-returns
-returns c = pair-cut _ _ _ _ (c .before .before .head-in .ensures) (c .enum-told .given .1)
+returns c = pair-cut kerx _ _ _ _ (c .before .before .head-in .ensures) (c .enum-told .given .1)
 
-ordered-kerx-requires : tie.Need-ordered-kerx-requires
-ordered-kerx-requires c κs = search needs
-
-reply-requires : tie.Need-reply-requires
-reply-requires c κs = search needs
+pair-by-requires : tie.Need-pair-by-requires
+pair-by-requires c κs = search needs
 
 returns-2 : tie.Need-returns-2
-returns-2 c = search pair-ordered
-
-classes-kerx-requires : tie.Need-classes-kerx-requires
-classes-kerx-requires c κs = search needs
-
-reply-requires-2 : tie.Need-reply-requires-2
-reply-requires-2 c κs = search needs
-
-returns-3 : tie.Need-returns-3
-returns-3 c = search pair-classes
-
-returns-4 : tie.Need-returns-4
-returns-4 c = search pair-other
+returns-2 c =
+    let at-subtable = c .before .before in
+    let at-head-in = at-subtable .before .before in
+    pair-by kerx _ _ _ _ (at-head-in .head-in .ensures) (at-subtable .subtable .given .1) (c .pair-by .ensures)
 
 pub pair-in-spec : {M : Type 1} → statement M
-pair-in-spec =
-    tie.close
-    (tie.spec
-    head-in-requires
-    enum-known-subtable
-    enum-told
-    returns
-    ordered-kerx-requires
-    reply-requires
-    returns-2
-    classes-kerx-requires
-    reply-requires-2
-    returns-3
-    returns-4)
+pair-in-spec = tie.close (tie.spec head-in-requires enum-known-subtable enum-told returns pair-by-requires returns-2)

@@ -1,7 +1,8 @@
 use mathlib.Core.Path.{sym, refl}
 use Rattle.line.specs.Line.{lineOf}
 use Rattle.kerning_lists.proofs.Calls.{run-ready, lent-length, lent-ready-line}
-use Rattle.kerx.proofs.Calls.{runs-refused, runs-passed}
+use Rattle.kerx.specs.Kerx.{kerx}
+use Rattle.kerning_lists.proofs.Families.{runs-refused, runs-passed}
 use borrow.Author.Needs.{needs}
 use Rattle.kerx.proofs.run.Statement.{statement}
 use Rattle.kerx.proofs.run.Tie as tie
@@ -22,7 +23,7 @@ same-length-3 : tie.Need-same-length-3
 same-length-3 c = search needs
 
 returns : tie.Need-returns
-returns c = let r = runs-refused _ _ _ (lineOf _ _ _ _) _ (c .before .before .before .refuse-run .ensures) (c .before .why .given .1) in (r .answers, (r .counts, (refl, (refl, r .leaves))))
+returns c = let r = runs-refused kerx _ _ _ (lineOf _ _ _ _) _ (c .before .before .before .refuse-run .ensures) (c .before .why .given .1) in (r .answers, (r .counts, (refl, (refl, r .leaves))))
 
 enum-told : tie.Need-enum-told
 enum-told c = search needs
@@ -63,7 +64,7 @@ returns-2 c =
     let at-list-bytes = at-run-part .before .before .before .before in
     let at-enum-told = at-list-bytes .before in
     let at-refuse-run = at-enum-told .before .before in
-    let r = runs-passed _ _ _ (lineOf _ _ _ _) _ (at-refuse-run .refuse-run .ensures) (at-enum-told .enum-told .given .1) (at-list-bytes .list-bytes .ensures) (lent-length _ _ (run-ready _ _ _ _ _ _ _ (at-refuse-run .refuse-run .ensures) (at-enum-told .enum-told .given .1) .long)) (at-run-part .run-part .ensures .0) (at-run-part .run-part .ensures .1 .0) (at-run-part .run-part .ensures .1 .1 .1 .1) in
+    let r = runs-passed kerx _ _ _ (lineOf _ _ _ _) _ (at-refuse-run .refuse-run .ensures) (at-enum-told .enum-told .given .1) (at-list-bytes .list-bytes .ensures) (lent-length _ _ (run-ready _ _ _ _ _ _ _ (at-refuse-run .refuse-run .ensures) (at-enum-told .enum-told .given .1) .long)) (at-run-part .run-part .ensures .0) (at-run-part .run-part .ensures .1 .0) (at-run-part .run-part .ensures .1 .1 .1 .1) in
     (r .answers, (r .counts, (at-run-part .run-part .ensures .1 .1 .0, (at-run-part .run-part .ensures .1 .1 .1 .0, r .leaves))))
 
 pub run-spec : {M : Type 1} → statement M

@@ -1,6 +1,6 @@
 use mathlib.Core.Path.{sym, _∙_}
 use Rattle.kerning_lists.proofs.Cursors.{list-start}
-use Rattle.kerx.specs.Cursors.{listCall}
+use Rattle.kerning_lists.specs.Family.{listCall}
 use borrow.Author.Needs.{needs}
 use Rattle.kerx.proofs.subtables.Statement.{statement}
 use Rattle.kerx.proofs.subtables.Tie as tie

@@ -2,7 +2,8 @@ use Rattle.firmware.proofs.Stepping.{numbered}
 use Rattle.firmware.proofs.Lists.{leaves}
 use Rattle.firmware.specs.KernCursors.{replyCursor, replyFields}
 use Rattle.kerning_lists.specs.Cursors.{replyAnswer}
-use Rattle.firmware.proofs.KernLists.{kerx-after}
+use Rattle.firmware.proofs.KernLists.{next-after}
+use Rattle.kerx.specs.Kerx.{kerx}
 use borrow.Author.Needs.{needs}
 use Rattle.firmware.proofs.kern_cursors.aat_kerx_next_subtable.Statement.{statement}
 use Rattle.firmware.proofs.kern_cursors.aat_kerx_next_subtable.Tie as tie
@@ -17,7 +18,7 @@ put-next-requires : tie.Need-put-next-requires
 put-next-requires c κs = search needs
 
 returns : tie.Need-returns
-returns c = let e = kerx-after _ _ (c .before .before .before .before .cursor-from .ensures) (c .before .next-subtable .ensures) in
+returns c = let e = next-after kerx _ _ (c .before .before .before .before .cursor-from .ensures) (c .before .next-subtable .ensures) in
     (numbered replyAnswer e (c .put-next .ensures .0), (leaves replyCursor _ e (c .put-next .ensures .1 .0), leaves replyFields _ e (c .put-next .ensures .1 .1)))
 
 pub aat-kerx-next-subtable-spec : {M : Type 1} → statement M
