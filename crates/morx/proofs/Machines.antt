@@ -78,14 +78,15 @@ module _ {X : Type 0} (part : Line → X) (kept : (first last verb : ℕ) (l : L
   kept-window Window′.None = kept-none part
   kept-window (Window′.At first last verb) = kept-one part (Change.window first last verb) (kept first last verb)
 
-  rearrangement-step : (bytes : List ℕ) (states : States) (s : RearrangementState) (k : Line) (i g : ℕ) (e : Bool) → Kept part (R.machine bytes states s k i g e .changes)
+  rearrangement-step : (classes : ℕ → ℕ) (bytes : List ℕ) (states : States) (s : RearrangementState) (k : Line) (i g : ℕ) (e : Bool) → Kept part (R.machine classes bytes states s k i g e .changes)
   unfolding R.machine
-  rearrangement-step bytes states s k i g e = kept-window (R.next bytes states s i g e .edit)
+  rearrangement-step classes bytes states s k i g e = kept-window (R.next classes bytes states s i g e .edit)
 
   pub kept-rearrangement : (bytes : List ℕ) (l : Line) → Kept part (R.worked bytes l .changes)
-  unfolding R.worked R.passed
+  unfolding R.worked R.passed R.passedBy
   kept-rearrangement bytes l =
-      kept-machine part (Call′.opened bytes 0) (R.machine (bodyOf bytes)) (R.rest R.fresh l 0) R.fresh l (rearrangement-step (bodyOf bytes))
+      kept-machine part (Call′.opened bytes 0) (λ states. R.machine (classOf (bodyOf bytes) states) (bodyOf bytes) states) (R.rest R.fresh l 0) R.fresh l
+      (λ states. rearrangement-step (classOf (bodyOf bytes) states) (bodyOf bytes) states)
 
 pub window-homes : (first last verb : ℕ) (l : Line) → apply (Change.window first last verb) l .homes ≡ l .homes
 unfolding apply

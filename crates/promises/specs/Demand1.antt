@@ -45,9 +45,9 @@ pub record Demand1 : Type 0 where
   -- the stall rule ends: a step advances within the line, or comes one nearer to the one that must
   pub stall-falls : (cycles used i : ℕ) (stays : Bool) → cycles ≤ 17 → i < used → Falls cycles used i (stalled cycles stays)
   -- a pass is defined with a bound on its steps, which is never reached: more of them change nothing
-  pub rearrangement-turns : (bytes : List ℕ) (states : States) (l : Line) (more : ℕ)
-      → passFrom (Rearrangement.machine bytes states) (more + Rearrangement.rest Rearrangement.fresh l 0) Rearrangement.fresh l 0
-      ≡ Rearrangement.passed bytes states l
+  pub rearrangement-turns : (classes : ℕ → ℕ) (bytes : List ℕ) (states : States) (l : Line) (more : ℕ)
+      → passFrom (Rearrangement.machine classes bytes states) (more + Rearrangement.rest Rearrangement.fresh l 0) Rearrangement.fresh l 0
+      ≡ Rearrangement.passedBy classes bytes states l
   pub contextual-turns : (classes : ℕ → ℕ) (bytes : List ℕ) (states : States) (l : Line) (more : ℕ)
       → passFrom (Contextual.machine classes bytes states) (more + Contextual.rest Contextual.fresh l 0) Contextual.fresh l 0
       ≡ Contextual.passedBy classes bytes states l

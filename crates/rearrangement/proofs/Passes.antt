@@ -1,27 +1,32 @@
--- The pass's loop: the shared laws of passes at this machine.
+-- The pass's loops: the shared laws of passes at this machine.
 use Prim.Native.Nat.{ℕ, _+_, _*_, _-_, _<_, _≤_}
 use mathlib.Core.Path.{_≡_, refl, sym, _∙_, ap, subst, subst⁻¹}
 use mathlib.Core.Bool.{Bool, true, false}
-use mathlib.Core.List.{List, [], _∷_}
+use mathlib.Core.List.{List}
 use native.Mathlib.Omega.{arith}
+use lib.Dec.{eqb}
 use lib.ListN.{length, getD}
+use borrow.Author.Tests.{eqb-true, eqb-false}
 use Rattle.answers.specs.declared.Answer.{Answer}
 use Rattle.answers.specs.declared.Answer.the-variants as Answer′
 use Rattle.state_tables.specs.declared.States.{States}
 use Rattle.state_tables.specs.declared.entries.Entry.{Entry}
 use Rattle.state_tables.specs.declared.entries.Entered.{Entered}
 use Rattle.state_tables.specs.declared.entries.Entered.the-variants as Entered′
+use Rattle.state_tables.specs.declared.opened.Classes.{Classes}
 use Rattle.state_tables.specs.Classes.{classOf}
-use Rattle.state_tables.specs.Entries.{entryOf, onEntry}
+use Rattle.state_tables.specs.Entries.{entryOf}
+use Rattle.state_tables.specs.Opened.{openedClasses, classBy, LiesIn, Remembers, nothingFound}
+use Rattle.state_tables.proofs.Openings.{classes-same, classes-lie, deleted-class, nothing-remembered}
 use Rattle.line.specs.Line.{Line, lineOf}
-use Rattle.line.specs.Changes.{Change, apply, applyAll}
+use Rattle.line.specs.Changes.{apply, applyAll}
 use Rattle.laws.specs.Bits.{isSet}
 use Rattle.machine.specs.Entry.{classHere}
 use Rattle.machine.specs.Stall.{stalled}
-use Rattle.machine.specs.Pass.{Stepped, Passed, deleted, isDone, stepAt, endCall, passFrom}
+use Rattle.machine.specs.Pass.{deleted, isDone}
 use Rattle.machine.proofs.Stalls.{stall-falls}
 use Rattle.machine.proofs.Passing.{Passing, Over, passing-start, passing-step, passing-stop, passing-end}
-use Rattle.rearrangement.specs.Rearrangement.{fresh, acted, unmoved, next, changesOf, machine, rest, passed}
+use Rattle.rearrangement.specs.Rearrangement.{fresh, acted, unmoved, next, changesOf, machine, rest, passedBy, passed}
 use Rattle.rearrangement.specs.Work.{passedLeaves}
 use Rattle.rearrangement.specs.declared.RearrangementState.{RearrangementState}
 use Rattle.rearrangement.specs.declared.RearrangementStep.{RearrangementStep}
@@ -38,43 +43,49 @@ edited Window′.None glyphs tags homes used g t = rw (g, t)
 edited (Window′.At first last verb) glyphs tags homes used g t = rw (g, t)
 
 -- a step that is DONE has gone by the stall rule
-pub stalls : (bytes : List ℕ) (states : States) (s : RearrangementState) (index glyph : ℕ) (ends : Bool)
-    → isDone (next bytes states s index glyph ends .answer) ≡ true
+pub stalls : (classes : ℕ → ℕ) (bytes : List ℕ) (states : States) (s : RearrangementState) (index glyph : ℕ) (ends : Bool)
+    → isDone (next classes bytes states s index glyph ends .answer) ≡ true
     → (stays : Bool)
-    × (next bytes states s index glyph ends .state .cycles ≡ stalled (s .cycles) stays .cycles)
-    × (next bytes states s index glyph ends .advance ≡ stalled (s .cycles) stays .advance)
+    × (next classes bytes states s index glyph ends .state .cycles ≡ stalled (s .cycles) stays .cycles)
+    × (next classes bytes states s index glyph ends .advance ≡ stalled (s .cycles) stays .advance)
 unfolding next acted
-stalls bytes states s index glyph ends done = go (entryOf bytes states (s .state) (classHere (classOf bytes states) glyph ends) 0) refl
+stalls classes bytes states s index glyph ends done = go (entryOf bytes states (s .state) (classHere classes glyph ends) 0) refl
   where
-    go : (e : Entered) → entryOf bytes states (s .state) (classHere (classOf bytes states) glyph ends) 0 ≡ e
+    go : (e : Entered) → entryOf bytes states (s .state) (classHere classes glyph ends) 0 ≡ e
         → (stays : Bool)
-        × (next bytes states s index glyph ends .state .cycles ≡ stalled (s .cycles) stays .cycles)
-        × (next bytes states s index glyph ends .advance ≡ stalled (s .cycles) stays .advance)
+        × (next classes bytes states s index glyph ends .state .cycles ≡ stalled (s .cycles) stays .cycles)
+        × (next classes bytes states s index glyph ends .advance ≡ stalled (s .cycles) stays .advance)
     go (Entered′.At entry) f = (isSet (entry .flags) 0x4000, rw (f, next), rw (f, next))
     go Entered′.Ended f =
-        let n : isDone (next bytes states s index glyph ends .answer) ≡ false = rw (f, next) in
+        let n : isDone (next classes bytes states s index glyph ends .answer) ≡ false = rw (f, next) in
         let z : _≡_ {A = ℕ} 0 1 = cc in absurd (omega arith)
 
--- the parts of a step, at a place of the line: an entry acts, and where there is none the pass ends
-module _ (bytes : List ℕ) (states : States) (s : RearrangementState) (index glyph : ℕ) {class : ℕ} (k : class ≡ classOf bytes states glyph) where
-  pub acts : {entry : Entry} {step : RearrangementStep} → entryOf bytes states (s .state) class 0 ≡ Entered′.At entry → step ≡ acted s entry index
-      → step ≡ next bytes states s index glyph false
-  unfolding next classHere
-  acts e a = rw (← k, e, a, next)
-
-  pub ends-here : entryOf bytes states (s .state) class 0 ≡ Entered′.Ended → unmoved s Answer′.Ended ≡ next bytes states s index glyph false
-  unfolding next classHere
-  ends-here e = rw (← k, e, next)
-
 -- an entry's answer is DONE
-pub acted-done : (s : RearrangementState) (entry : Entry) (index : ℕ) {step : RearrangementStep} → step ≡ acted s entry index → isDone (step .answer) ≡ true
+acted-done : (s : RearrangementState) (entry : Entry) (index : ℕ) {step : RearrangementStep} → step ≡ acted s entry index → isDone (step .answer) ≡ true
 unfolding acted
 acted-done s entry index a = rw (a, acted)
 
+-- the place of the next step: the same, or the next one
+abbrev pub placeAfter : (stays : Bool) → (place : ℕ) → ℕ
+placeAfter true place = place
+placeAfter false place = place + 1
+
+after-one : (advance place : ℕ) → advance ≤ 1 → place + advance ≡ placeAfter (eqb advance 0) place
+after-one advance place h = go (eqb advance 0) refl
+  where
+    go : (b : Bool) → eqb advance 0 ≡ b → place + advance ≡ placeAfter b place
+    go true e = omega (arith, eqb-true advance 0 e)
+    go false e = omega (arith, eqb-false advance 0 e)
+
 module _ (bytes : List ℕ) (states : States) (l₀ : Line) where
-  -- what the loop knows at place i
-  pub record Going (glyphs tags homes : List ℕ) (used : ℕ) (s : RearrangementState) (i : ℕ) : Type 0 where
-    pub passing : Passing (machine bytes states) rest l₀ (passed bytes states l₀) s (lineOf glyphs tags homes used) i
+  abbrev classes : ℕ → ℕ
+  classes = classOf bytes states
+
+  -- what the loops know at place i
+  pub record Going (opened : Classes) (memo glyphs tags homes : List ℕ) (used : ℕ) (s : RearrangementState) (i : ℕ) : Type 0 where
+    pub table : opened ≡ openedClasses bytes (states .edition)
+    pub remembers : Remembers (classBy bytes opened) memo
+    pub passing : Passing (machine classes bytes states) rest l₀ (passed bytes states l₀) s (lineOf glyphs tags homes used) i
     pub cycles : s .cycles ≤ 17
     pub within : i ≤ used
     pub long-glyphs : length glyphs ≡ length (l₀ .glyphs)
@@ -86,85 +97,152 @@ module _ (bytes : List ℕ) (states : States) (l₀ : Line) where
     pub glyphs-left : glyphs ≡ passedLeaves bytes states l₀ .glyphs
     pub tags-left : tags ≡ passedLeaves bytes states l₀ .tags
 
-  module _ {glyphs tags homes : List ℕ} {used : ℕ} {s : RearrangementState} {i : ℕ} (g : Going glyphs tags homes used s i) where
-    some : 0 < rest s (lineOf glyphs tags homes used) i
+  module _ {opened : Classes} {memo glyphs tags homes : List ℕ} {used : ℕ} {s : RearrangementState} {i : ℕ} (g : Going opened memo glyphs tags homes used s i) where
+    abbrev here : Line
+    here = lineOf glyphs tags homes used
+
+    some : 0 < rest s here i
     some = omega (arith, g .cycles)
 
-    ends : {answer : Answer} {glyphs′ tags′ : List ℕ} (w : Window)
-        → Over (machine bytes states) rest l₀ (passed bytes states l₀) answer (applyAll (changesOf w) (lineOf glyphs tags homes used))
-        → glyphs′ ≡ applyAll (changesOf w) (lineOf glyphs tags homes used) .glyphs
-        → tags′ ≡ applyAll (changesOf w) (lineOf glyphs tags homes used) .tags → Ends answer glyphs′ tags′
+    pub going-lies : LiesIn bytes opened
+    going-lies = subst⁻¹ (LiesIn bytes) (g .table) (classes-lie bytes (states .edition))
+
+    abbrev OverBy : RearrangementStep → Type 0
+    OverBy step = Over (machine classes bytes states) rest l₀ (passed bytes states l₀) (step .answer) (applyAll (changesOf (step .edit)) here)
+
+    ends : {glyphs′ tags′ : List ℕ} (step : RearrangementStep) → OverBy step → glyphs′ ≡ applyAll (changesOf (step .edit)) here .glyphs
+        → tags′ ≡ applyAll (changesOf (step .edit)) here .tags → Ends (step .answer) glyphs′ tags′
     unfolding passedLeaves
-    ends w o p q =
+    ends step o p q =
         record {
           answers = o .answers;
           glyphs-left = p ∙ ap (λ (l : Line). l .glyphs) (o .leaves);
           tags-left = q ∙ ap (λ (l : Line). l .tags) (o .leaves);
         }
 
-    module _ {step : RearrangementStep} where
-      pub going-step : {glyphs′ tags′ : List ℕ} → i < used → step ≡ next bytes states s i (getD glyphs i 0) false → isDone (step .answer) ≡ true
-          → glyphs′ ≡ applyAll (changesOf (step .edit)) (lineOf glyphs tags homes used) .glyphs
-          → tags′ ≡ applyAll (changesOf (step .edit)) (lineOf glyphs tags homes used) .tags
+    -- the end call
+    pub going-end : {step : RearrangementStep} {glyphs′ tags′ : List ℕ} → used ≤ i → step ≡ next classes bytes states s used deleted true
+        → glyphs′ ≡ applyAll (changesOf (step .edit)) here .glyphs → tags′ ≡ applyAll (changesOf (step .edit)) here .tags → Ends (step .answer) glyphs′ tags′
+    unfolding machine
+    going-end {step} h e = ends step (subst⁻¹ OverBy e (passing-end (machine classes bytes states) rest l₀ (passed bytes states l₀) (g .passing) some h))
+
+    -- the step at place i
+    abbrev at : RearrangementStep
+    at = next classes bytes states s i (getD glyphs i 0) false
+
+    -- one that is DONE advances by one place or by none
+    at-advances : isDone (at .answer) ≡ true → at .advance ≤ 1
+    at-advances done =
+        let (stays, c, a) = stalls classes bytes states s i (getD glyphs i 0) false done in
+        omega (arith, stall-falls (s .cycles) (i + 1) i stays (g .cycles) (omega arith) .within, a)
+
+    module _ (h : i < used) where
+      at-less : isDone (at .answer) ≡ true → (used - (i + at .advance)) * 18 + (18 - at .state .cycles) < (used - i) * 18 + (18 - s .cycles)
+      at-less done =
+          let (stays, c, a) = stalls classes bytes states s i (getD glyphs i 0) false done in
+          omega (arith, stall-falls (s .cycles) used i stays (g .cycles) h .less, c, a)
+
+      at-goes : {memo′ glyphs′ tags′ : List ℕ} → isDone (at .answer) ≡ true → Remembers (classBy bytes opened) memo′
+          → glyphs′ ≡ applyAll (changesOf (at .edit)) here .glyphs → tags′ ≡ applyAll (changesOf (at .edit)) here .tags
           → length glyphs′ ≡ length glyphs → length tags′ ≡ length tags
-          → Going glyphs′ tags′ homes used (step .state) (i + step .advance)
+          → Going opened memo′ glyphs′ tags′ homes used (at .state) (i + at .advance)
       unfolding machine
-      going-step {glyphs′} {tags′} h e done p q lg lt =
-          let n = next bytes states s i (getD glyphs i 0) false in
-          let done′ : isDone (n .answer) ≡ true = subst (λ (r : RearrangementStep). isDone (r .answer) ≡ true) e done in
-          let (stays, c, a) = stalls bytes states s i (getD glyphs i 0) false done′ in
+      at-goes done m p q lg lt =
+          let (stays, c, a) = stalls classes bytes states s i (getD glyphs i 0) false done in
           let falls = stall-falls (s .cycles) used i stays (g .cycles) h in
-          let line = edited (step .edit) glyphs tags homes used p q in
-          let used-same : applyAll (changesOf (n .edit)) (lineOf glyphs tags homes used) .used ≡ used =
-          ap (λ (l : Line). l .used) (sym (subst (λ (r : RearrangementStep). lineOf glyphs′ tags′ homes used ≡ applyAll (changesOf (r .edit)) (lineOf glyphs tags homes used)) e line)) in
+          let line = edited (at .edit) glyphs tags homes used p q in
+          let used-same : applyAll (changesOf (at .edit)) here .used ≡ used = ap (λ (l : Line). l .used) (sym line) in
           record {
+            table = g .table;
+            remembers = m;
             passing =
-                subst⁻¹ (λ (r : RearrangementStep). Passing (machine bytes states) rest l₀ (passed bytes states l₀) (r .state) (lineOf glyphs′ tags′ homes used) (i + r .advance)) e
-                (subst⁻¹ (λ (l : Line). Passing (machine bytes states) rest l₀ (passed bytes states l₀) (n .state) l (i + n .advance))
-                (subst (λ (r : RearrangementStep). lineOf glyphs′ tags′ homes used ≡ applyAll (changesOf (r .edit)) (lineOf glyphs tags homes used)) e line)
-                (passing-step (machine bytes states) rest l₀ (passed bytes states l₀) (g .passing) some h done′
-                (omega (arith, falls .less, used-same, c, a))));
-            cycles = subst⁻¹ (λ (r : RearrangementStep). r .state .cycles ≤ 17) e (omega (arith, falls .sound, c));
-            within = subst⁻¹ (λ (r : RearrangementStep). i + r .advance ≤ used) e (omega (arith, falls .within, a));
+                subst⁻¹ (λ (l : Line). Passing (machine classes bytes states) rest l₀ (passed bytes states l₀) (at .state) l (i + at .advance)) line
+                (passing-step (machine classes bytes states) rest l₀ (passed bytes states l₀) (g .passing) some h done
+                (omega (arith, falls .less, used-same, c, a)));
+            cycles = omega (arith, falls .sound, c);
+            within = omega (arith, falls .within, a);
             long-glyphs = lg ∙ g .long-glyphs;
             long-tags = lt ∙ g .long-tags;
           }
 
-      pub going-less : i < used → step ≡ next bytes states s i (getD glyphs i 0) false → isDone (step .answer) ≡ true
-          → (used - (i + step .advance)) * 18 + (18 - step .state .cycles) < (used - i) * 18 + (18 - s .cycles)
-      going-less h e done =
-          let (stays, c, a) = stalls bytes states s i (getD glyphs i 0) false (subst (λ (r : RearrangementStep). isDone (r .answer) ≡ true) e done) in
-          subst⁻¹ (λ (r : RearrangementStep). (used - (i + r .advance)) * 18 + (18 - r .state .cycles) < (used - i) * 18 + (18 - s .cycles)) e
-          (omega (arith, stall-falls (s .cycles) used i stays (g .cycles) h .less, c, a))
+      -- by what the code reads there
+      module _ {class : ℕ} {entered : Entered} (k : class ≡ classBy bytes opened (getD glyphs i 0)) (r : entered ≡ entryOf bytes states (s .state) class 0) where
+        class-here : class ≡ classes (getD glyphs i 0)
+        class-here = k ∙ ap (λ (t : Classes). classBy bytes t (getD glyphs i 0)) (g .table) ∙ classes-same bytes states (getD glyphs i 0)
 
-      pub going-stop : {glyphs′ tags′ : List ℕ} → i < used → step ≡ next bytes states s i (getD glyphs i 0) false → isDone (step .answer) ≡ false
-          → glyphs′ ≡ applyAll (changesOf (step .edit)) (lineOf glyphs tags homes used) .glyphs
-          → tags′ ≡ applyAll (changesOf (step .edit)) (lineOf glyphs tags homes used) .tags → Ends (step .answer) glyphs′ tags′
-      unfolding machine
-      going-stop h e done p q =
-          ends (step .edit)
-          (subst⁻¹ (λ (r : RearrangementStep). Over (machine bytes states) rest l₀ (passed bytes states l₀) (r .answer) (applyAll (changesOf (r .edit)) (lineOf glyphs tags homes used))) e
-          (passing-stop (machine bytes states) rest l₀ (passed bytes states l₀) (g .passing) some h
-          (subst (λ (r : RearrangementStep). isDone (r .answer) ≡ false) e done)))
-          p q
+        -- no entry
+        ended-at : entered ≡ Entered′.Ended → unmoved s Answer′.Ended ≡ at
+        unfolding next classHere
+        ended-at f = rw (← class-here, sym r ∙ f, next)
 
-      pub going-end : {glyphs′ tags′ : List ℕ} → used ≤ i → step ≡ next bytes states s used deleted true
-          → glyphs′ ≡ applyAll (changesOf (step .edit)) (lineOf glyphs tags homes used) .glyphs
-          → tags′ ≡ applyAll (changesOf (step .edit)) (lineOf glyphs tags homes used) .tags → Ends (step .answer) glyphs′ tags′
-      unfolding machine
-      going-end h e p q =
-          ends (step .edit)
-          (subst⁻¹ (λ (r : RearrangementStep). Over (machine bytes states) rest l₀ (passed bytes states l₀) (r .answer) (applyAll (changesOf (r .edit)) (lineOf glyphs tags homes used))) e
-          (passing-end (machine bytes states) rest l₀ (passed bytes states l₀) (g .passing) some h))
-          p q
+        pub going-ended : entered ≡ Entered′.Ended → Ends Answer′.Ended glyphs tags
+        unfolding machine applyAll
+        going-ended f =
+            ends (unmoved s Answer′.Ended)
+            (subst⁻¹ OverBy (ended-at f)
+            (passing-stop (machine classes bytes states) rest l₀ (passed bytes states l₀) (g .passing) some h
+            (subst (λ (t : RearrangementStep). isDone (t .answer) ≡ false) (ended-at f) refl)))
+            refl refl
 
-pub going-start : (bytes : List ℕ) (states : States) (glyphs tags homes : List ℕ) (used : ℕ) (s : RearrangementState) → s ≡ fresh
-    → Going bytes states (lineOf glyphs tags homes used) glyphs tags homes used s 0
-unfolding passed
-going-start bytes states glyphs tags homes used s e =
-    subst⁻¹ (λ (r : RearrangementState). Going bytes states (lineOf glyphs tags homes used) glyphs tags homes used r 0) e
+        -- an entry
+        module _ {entry : Entry} {step : RearrangementStep} (f : entered ≡ Entered′.At entry) (a : step ≡ acted s entry i) where
+          acted-at : step ≡ at
+          unfolding next classHere
+          acted-at = rw (← class-here, sym r ∙ f, a, next)
+
+          done : isDone (at .answer) ≡ true
+          done = subst (λ (t : RearrangementStep). isDone (t .answer) ≡ true) acted-at (acted-done s entry i a)
+
+          advances : i + step .advance ≡ placeAfter (eqb (step .advance) 0) i
+          advances = after-one (step .advance) i (subst⁻¹ (λ (t : RearrangementStep). t .advance ≤ 1) acted-at (at-advances done))
+
+          pub going-less : (used - placeAfter (eqb (step .advance) 0) i) * 18 + (18 - step .state .cycles) < (used - i) * 18 + (18 - s .cycles)
+          going-less =
+              subst (λ (n : ℕ). (used - n) * 18 + (18 - step .state .cycles) < (used - i) * 18 + (18 - s .cycles)) advances
+              (subst⁻¹ (λ (t : RearrangementStep). (used - (i + t .advance)) * 18 + (18 - t .state .cycles) < (used - i) * 18 + (18 - s .cycles)) acted-at
+              (at-less done))
+
+          pub going-goes : {memo′ glyphs′ tags′ : List ℕ} → Remembers (classBy bytes opened) memo′
+              → glyphs′ ≡ applyAll (changesOf (step .edit)) here .glyphs → tags′ ≡ applyAll (changesOf (step .edit)) here .tags
+              → length glyphs′ ≡ length glyphs → length tags′ ≡ length tags
+              → Going opened memo′ glyphs′ tags′ homes used (step .state) (placeAfter (eqb (step .advance) 0) i)
+          going-goes {memo′} {glyphs′} {tags′} m p q lg lt =
+              subst (λ (n : ℕ). Going opened memo′ glyphs′ tags′ homes used (step .state) n) advances
+              (subst⁻¹ (λ (t : RearrangementStep). Going opened memo′ glyphs′ tags′ homes used (t .state) (i + t .advance)) acted-at
+              (at-goes done m
+              (subst (λ (t : RearrangementStep). glyphs′ ≡ applyAll (changesOf (t .edit)) here .glyphs) acted-at p)
+              (subst (λ (t : RearrangementStep). tags′ ≡ applyAll (changesOf (t .edit)) here .tags) acted-at q)
+              lg lt))
+
+-- the steps at one place lead on, whatever line the pass began with
+pub record Staying (bytes : List ℕ) (states : States) (opened : Classes) (homes : List ℕ) (used place : ℕ) (memo₀ glyphs₀ tags₀ : List ℕ) (s₀ : RearrangementState)
+    (memo glyphs tags : List ℕ) (s : RearrangementState) (stays : Bool) : Type 0 where
+  pub leads : (l₀ : Line) → Going bytes states l₀ opened memo₀ glyphs₀ tags₀ homes used s₀ place
+      → Going bytes states l₀ opened memo glyphs tags homes used s (placeAfter stays place)
+
+module _ {bytes : List ℕ} {states : States} {opened : Classes} {homes : List ℕ} {used place : ℕ} {memo₀ glyphs₀ tags₀ : List ℕ} {s₀ : RearrangementState}
+    {memo glyphs tags : List ℕ} {s : RearrangementState} {stays : Bool}
+    (t : Staying bytes states opened homes used place memo₀ glyphs₀ tags₀ s₀ memo glyphs tags s stays) {l₀ : Line}
+    (g : Going bytes states l₀ opened memo₀ glyphs₀ tags₀ homes used s₀ place) where
+  led : (b : Bool) → stays ≡ b → Going bytes states l₀ opened memo glyphs tags homes used s (placeAfter b place)
+  led b e = subst (λ (x : Bool). Going bytes states l₀ opened memo glyphs tags homes used s (placeAfter x place)) e (t .leads l₀ g)
+
+  pub still-here : stays ≡ true → Going bytes states l₀ opened memo glyphs tags homes used s place
+  still-here = led true
+
+  pub moved-on : stays ≡ false → Going bytes states l₀ opened memo glyphs tags homes used s (place + 1)
+  moved-on = led false
+
+pub going-start : (bytes : List ℕ) (states : States) (glyphs tags homes : List ℕ) (used : ℕ) {opened : Classes} {memo : List ℕ} {s : RearrangementState}
+    → opened ≡ openedClasses bytes (states .edition) → memo ≡ nothingFound → s ≡ fresh
+    → Going bytes states (lineOf glyphs tags homes used) opened memo glyphs tags homes used s 0
+unfolding passed passedBy
+going-start bytes states glyphs tags homes used {opened} {memo} o m e =
+    subst⁻¹ (λ (r : RearrangementState). Going bytes states (lineOf glyphs tags homes used) opened memo glyphs tags homes used r 0) e
     (record {
-      passing = passing-start (machine bytes states) rest _ fresh (lineOf glyphs tags homes used) (omega arith);
+      table = o;
+      remembers = subst⁻¹ (Remembers (classBy bytes opened)) m (nothing-remembered (deleted-class bytes opened));
+      passing = passing-start (machine (classOf bytes states) bytes states) rest _ fresh (lineOf glyphs tags homes used) (omega arith);
       cycles = omega arith;
       within = omega arith;
       long-glyphs = refl;

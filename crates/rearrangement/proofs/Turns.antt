@@ -11,7 +11,7 @@ use Rattle.line.specs.Changes.{apply, applyAll}
 use Rattle.machine.specs.Pass.{passFrom}
 use Rattle.machine.proofs.Stalls.{stall-falls}
 use Rattle.machine.proofs.Turns.{Counts, enough-turns}
-use Rattle.rearrangement.specs.Rearrangement.{fresh, changesOf, next, machine, rest, passed}
+use Rattle.rearrangement.specs.Rearrangement.{fresh, changesOf, next, machine, rest, passedBy}
 use Rattle.rearrangement.specs.declared.RearrangementState.{RearrangementState}
 use Rattle.rearrangement.specs.declared.Window.{Window}
 use Rattle.rearrangement.specs.declared.Window.the-variants as Window′
@@ -25,27 +25,27 @@ unfolding applyAll apply
 used-kept Window′.None l = refl
 used-kept (Window′.At first last verb) l = refl
 
-counts : (bytes : List ℕ) (states : States) → Counts (machine bytes states) Sound rest
+counts : (classes : ℕ → ℕ) (bytes : List ℕ) (states : States) → Counts (machine classes bytes states) Sound rest
 unfolding machine
-counts bytes states =
+counts classes bytes states =
     record {
       some = λ s l i ok. omega (arith, ok);
       sound = λ s l i ok h done.
-          let (stays, c, a) = stalls bytes states s i (getD (l .glyphs) i 0) false done in
+          let (stays, c, a) = stalls classes bytes states s i (getD (l .glyphs) i 0) false done in
           omega (arith, stall-falls (s .cycles) (l .used) i stays ok h .sound, c);
       fewer = λ s l i ok h done.
-          let (stays, c, a) = stalls bytes states s i (getD (l .glyphs) i 0) false done in
+          let (stays, c, a) = stalls classes bytes states s i (getD (l .glyphs) i 0) false done in
           omega (
             arith,
             stall-falls (s .cycles) (l .used) i stays ok h .less,
             c,
             a,
-            used-kept (next bytes states s i (getD (l .glyphs) i 0) false .edit) l,
+            used-kept (next classes bytes states s i (getD (l .glyphs) i 0) false .edit) l,
           );
     }
 
-pub rearrangement-turns : (bytes : List ℕ) (states : States) (l : Line) (more : ℕ)
-    → passFrom (machine bytes states) (more + rest fresh l 0) fresh l 0 ≡ passed bytes states l
-unfolding passed
-rearrangement-turns bytes states l more =
-    enough-turns (machine bytes states) Sound rest (counts bytes states) more (rest fresh l 0) fresh l 0 (omega arith) (omega arith)
+pub rearrangement-turns : (classes : ℕ → ℕ) (bytes : List ℕ) (states : States) (l : Line) (more : ℕ)
+    → passFrom (machine classes bytes states) (more + rest fresh l 0) fresh l 0 ≡ passedBy classes bytes states l
+unfolding passedBy
+rearrangement-turns classes bytes states l more =
+    enough-turns (machine classes bytes states) Sound rest (counts classes bytes states) more (rest fresh l 0) fresh l 0 (omega arith) (omega arith)

@@ -67,10 +67,10 @@ acted s entry index =
 abbrev pub unmoved : RearrangementState → Answer → RearrangementStep
 unmoved s answer = record { answer = answer; state = s; advance = 0; edit = Window′.None }
 
--- a step: class, then entry, then what the entry does
-unfoldable pub next : List ℕ → States → RearrangementState → (index glyph : ℕ) → (ends : Bool) → RearrangementStep
-next bytes states s index glyph ends =
-    onEntry (entryOf bytes states (s .state) (classHere (classOf bytes states) glyph ends) 0) (λ entry. acted s entry index) (unmoved s Answer′.Ended)
+-- a step, with any classes: class, then entry, then what the entry does
+unfoldable pub next : (classes : ℕ → ℕ) → List ℕ → States → RearrangementState → (index glyph : ℕ) → (ends : Bool) → RearrangementStep
+next classes bytes states s index glyph ends =
+    onEntry (entryOf bytes states (s .state) (classHere classes glyph ends) 0) (λ entry. acted s entry index) (unmoved s Answer′.Ended)
 
 -- what a step does to the line
 abbrev pub changesOf : Window → List Change
@@ -78,18 +78,22 @@ changesOf Window′.None = []
 changesOf (Window′.At first last verb) = Change.window first last verb ∷ []
 
 -- the machine that passes are made of
-unfoldable pub machine : List ℕ → States → Machine RearrangementState
-machine bytes states s l index glyph ends =
-    let step : RearrangementStep = next bytes states s index glyph ends in
+unfoldable pub machine : (classes : ℕ → ℕ) → List ℕ → States → Machine RearrangementState
+machine classes bytes states s l index glyph ends =
+    let step : RearrangementStep = next classes bytes states s index glyph ends in
     record { answer = step .answer; state = step .state; advance = step .advance; changes = changesOf (step .edit) }
 
 -- as many steps as a pass may have left: 18 for each place, less those that did not advance, and the end call
 abbrev pub rest : RearrangementState → Line → ℕ → ℕ
 rest s l i = (l .used - i) * 18 + (18 - s .cycles)
 
+-- the pass over a line, with any classes
+unfoldable pub passedBy : (classes : ℕ → ℕ) → List ℕ → States → Line → Passed
+passedBy classes bytes states l = passOf (machine classes bytes states) (rest fresh l 0) fresh l
+
 -- the pass over a line
 unfoldable pub passed : List ℕ → States → Line → Passed
-passed bytes states l = passOf (machine bytes states) (rest fresh l 0) fresh l
+passed bytes states l = passedBy (classOf bytes states) bytes states l
 
 -- the pass by the subtable that the bytes begin with; HEAD where it can't be opened
 unfoldable pub worked : List ℕ → Line → Passed
@@ -132,4 +136,4 @@ unfoldable pub stepCall : List ℕ → (start : ℕ) → RearrangementState → 
 stepCall table start s used index glyph ends =
     let made : Made = opened (drop start table) 0 in
     refusedStep (refuse (stepTests (length table) used index s made)) s
-    (onMade made s (λ states. next (bodyOf (drop start table)) states s index glyph ends))
+    (onMade made s (λ states. next (classOf (bodyOf (drop start table)) states) (bodyOf (drop start table)) states s index glyph ends))

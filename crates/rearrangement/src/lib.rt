@@ -5,10 +5,11 @@ use answers::ROOM;
 use answers::Refusal;
 use state_tables::Made;
 use state_tables::States;
-use state_tables::classes;
 use state_tables::entries;
 use state_tables::entries::Entered;
 use state_tables::entries::Entry;
+use state_tables::opened;
+use state_tables::opened::Classes;
 ghost use mathlib.Core.Path.{_≡_};
 ghost use Prim.Native.Nat.{ℕ, _%_, _≤_};
 ghost use lib.ListN.{length};
@@ -16,6 +17,8 @@ ghost use Rattle.answers.specs.Refuse.{refuse};
 ghost use Rattle.answers.specs.Limits.{roomLimit};
 ghost use Rattle.line.specs.Line.{lineOf};
 ghost use Rattle.line.specs.Changes.{applyAll};
+ghost use Rattle.state_tables.specs.Classes.{classOf};
+ghost use Rattle.state_tables.specs.Opened.{classBy, LiesIn, Remembers};
 ghost use Rattle.machine.specs.Pass.{Passed};
 ghost use Rattle.rearrangement.specs.Rearrangement.{fresh, markAfter, windowOf, acted, next, changesOf, passed, worked, passCall, callLeaves, unmoved, stepTests, stepCall};
 ghost use Rattle.rearrangement.specs.Work.{passedLeaves, workLeaves};
@@ -199,7 +202,7 @@ impl RearrangementState {
         glyph: u16,
         ends: bool,
     ) -> RearrangementStep
-        ensures { λ r. ⌜ r ≡ next (now (bytes .entry)) states self index glyph ends ⌝ }
+        ensures { λ r. ⌜ r ≡ next (classOf (now (bytes .entry)) states) (now (bytes .entry)) states self index glyph ends ⌝ }
     {
         let class = machine::class_at(bytes, states, glyph, ends);
         let Entered::At(entry) = entries::entry_of(bytes, states, self.state, class, 0) else {
@@ -221,6 +224,18 @@ fn edit(glyphs: &mut [u16], tags: &mut [u16], homes: &[u16], used: usize, window
     line::edits::rearrange(glyphs, tags, used, first, last, verb);
 }
 
+// The class of a glyph: an array's element, or what is remembered of any other class table.
+fn class_now(bytes: &[u8], opened: Classes, memo: &mut [u32; 64], glyph: u16) -> u16
+    requires { ⌜ LiesIn (now bytes) opened × Remembers (classBy (now bytes) opened) (now memo) ⌝ }
+    ensures class { λ r. ⌜ r ≡ classBy (now (bytes .entry)) opened glyph ⌝ }
+    ensures memo { λ _. ⌜ Remembers (classBy (now (bytes .entry)) opened) (now (memo .exit)) ⌝ }
+{
+    let Classes::Words { base, first, count } = opened else {
+        return opened::remembered(bytes, opened, memo, glyph);
+    };
+    opened::class_in_words(bytes, base, first, count, glyph)
+}
+
 // The pass over a line that LINE has taken, with the bytes from the state table on.
 fn pass_line(
     bytes: &[u8],
@@ -235,19 +250,26 @@ fn pass_line(
     ensures glyphs { λ _. ⌜ now (glyphs .exit) ≡ passedLeaves (now (bytes .entry)) states (lineOf (now (glyphs .entry)) (now (tags .entry)) (now (homes .entry)) used) .glyphs ⌝ }
     ensures tags { λ _. ⌜ now (tags .exit) ≡ passedLeaves (now (bytes .entry)) states (lineOf (now (glyphs .entry)) (now (tags .entry)) (now (homes .entry)) used) .tags ⌝ }
 {
+    let opened = opened::open(bytes, states);
+    let mut memo = opened::nothing_found();
     let mut state = RearrangementState::new();
     let mut place = 0;
     while place < used {
-        // What `next` does, written out: as a call of its own its answer would go through memory.
-        let class = classes::class_of(bytes, states, glyphs[place]);
-        let Entered::At(entry) = entries::entry_of(bytes, states, state.state, class, 0) else {
-            return Answer::Ended;
-        };
-        let step = state.act(entry, place);
-        let window = step.edit;
-        edit(glyphs, tags, homes, used, window);
-        state = step.state;
-        place += step.advance;
+        // A place has a loop of its own, so that the next glyph's read does not wait for this entry's flags.
+        let mut stays = true;
+        while stays {
+            // What `next` does, written out: as a call of its own its answer would go through memory.
+            let class = class_now(bytes, opened, &mut memo, glyphs[place]);
+            let Entered::At(entry) = entries::entry_of(bytes, states, state.state, class, 0) else {
+                return Answer::Ended;
+            };
+            let step = state.act(entry, place);
+            let window = step.edit;
+            edit(glyphs, tags, homes, used, window);
+            state = step.state;
+            stays = step.advance == 0;
+        }
+        place += 1;
     }
     let step = state.next(bytes, states, used, RearrangementState::END, true);
     let window = step.edit;

@@ -1,113 +1,163 @@
 use Prim.Native.Nat.{_+_, _*_, _-_}
-use mathlib.Core.Path.{refl, sym, _∙_}
 use native.Mathlib.Omega.{arith}
 use borrow.Author.Needs.{needs}
 use Rattle.line.specs.Line.{lineOf}
-use Rattle.line.specs.Changes.{applyAll}
-use Rattle.rearrangement.proofs.Passes.{Going, acts, ends-here, acted-done, going-start, going-step, going-less, going-stop, going-end}
+use Rattle.rearrangement.proofs.Passes.{placeAfter, Going, Staying, still-here, moved-on, going-start, going-lies, going-ended, going-less, going-goes, going-end}
 use Rattle.rearrangement.proofs.pass_line.Statement.{statement}
 use Rattle.rearrangement.proofs.pass_line.Tie as tie
 
+abbrev Inv-loop2 : tie.InvT-loop2
+Inv-loop2 bytes states glyphs₀ tags₀ homes used opened memo₀ state₀ place stays₀ glyphs tags memo state stays =
+    Staying bytes states opened homes used place memo₀ glyphs₀ tags₀ state₀ memo glyphs tags state stays
+
+abbrev μ-loop2 : tie.MeasureT-loop2
+μ-loop2 bytes states glyphs₀ tags₀ homes used opened memo₀ state₀ place stays₀ glyphs tags memo state stays =
+    (used - placeAfter stays place) * 18 + (18 - state .cycles)
+
 abbrev Inv-loop : tie.InvT-loop
-Inv-loop bytes states glyphs₀ tags₀ homes used state₀ place₀ glyphs tags state place =
-    Going bytes states (lineOf glyphs₀ tags₀ homes used) glyphs tags homes used state place
+Inv-loop bytes states glyphs₀ tags₀ homes used opened memo₀ state₀ place₀ glyphs tags memo state place =
+    Going bytes states (lineOf glyphs₀ tags₀ homes used) opened memo glyphs tags homes used state place
 
 abbrev μ-loop : tie.MeasureT-loop
-μ-loop bytes states glyphs₀ tags₀ homes used state₀ place₀ glyphs tags state place =
-    (used - place) * 18 + (18 - state .cycles)
+μ-loop bytes states glyphs₀ tags₀ homes used opened memo₀ state₀ place₀ glyphs tags memo state place = used - place
 
-new-requires : tie.Need-new-requires Inv-loop μ-loop
+open-requires : tie.Need-open-requires Inv-loop2 μ-loop2 Inv-loop μ-loop
+open-requires c κs = search needs
+
+nothing-found-requires : tie.Need-nothing-found-requires Inv-loop2 μ-loop2 Inv-loop μ-loop
+nothing-found-requires c κs = search needs
+
+new-requires : tie.Need-new-requires Inv-loop2 μ-loop2 Inv-loop μ-loop
 new-requires c κs = search needs
 
-loop-holds : tie.Need-loop-holds Inv-loop μ-loop
-loop-holds c = going-start _ _ _ _ _ _ _ (c .new .ensures)
+loop-holds : tie.Need-loop-holds Inv-loop2 μ-loop2 Inv-loop μ-loop
+loop-holds c = going-start _ _ _ _ _ _ (c .before .before .«open» .ensures) (c .before .nothing-found .ensures) (c .new .ensures)
 
-mul-class-of : tie.Need-mul-class-of Inv-loop μ-loop
-mul-class-of c = search needs
+loop2-holds : tie.Need-loop2-holds Inv-loop2 μ-loop2 Inv-loop μ-loop
+loop2-holds c = record { leads = λ l₀ g. g }
 
-slice-read-class-of : tie.Need-slice-read-class-of Inv-loop μ-loop
-slice-read-class-of c = omega arith
+mul-class-now : tie.Need-mul-class-now Inv-loop2 μ-loop2 Inv-loop μ-loop
+mul-class-now c = search needs
 
-class-of-requires : tie.Need-class-of-requires Inv-loop μ-loop
-class-of-requires c κs = search needs
+slice-read-class-now : tie.Need-slice-read-class-now Inv-loop2 μ-loop2 Inv-loop μ-loop
+slice-read-class-now c =
+    let at-loop2-test = c .before .before in
+    let at-loop2 = at-loop2-test .before in
+    let at-loop-test = at-loop2 .before in
+    let at-loop = at-loop-test .before in
+    let g = still-here (at-loop2 .loop2 .inv) (at-loop .loop .inv) (at-loop2-test .loop2-test .taken) in
+    let start = at-loop .before .before .before .before .before .before .before .before in
+    omega (arith, at-loop-test .loop-test .taken, g .long-glyphs, start .pre)
 
-entry-of-requires : tie.Need-entry-of-requires Inv-loop μ-loop
+class-now-requires : tie.Need-class-now-requires Inv-loop2 μ-loop2 Inv-loop μ-loop
+class-now-requires c κs =
+    let at-loop2-test = c .before .before in
+    let at-loop2 = at-loop2-test .before in
+    let at-loop = at-loop2 .before .before in
+    let g = still-here (at-loop2 .loop2 .inv) (at-loop .loop .inv) (at-loop2-test .loop2-test .taken) in
+    (going-lies _ _ _ g, g .remembers)
+
+entry-of-requires : tie.Need-entry-of-requires Inv-loop2 μ-loop2 Inv-loop μ-loop
 entry-of-requires c κs = search needs
 
-enum-known-entry : tie.Need-enum-known-entry Inv-loop μ-loop
+enum-known-entry : tie.Need-enum-known-entry Inv-loop2 μ-loop2 Inv-loop μ-loop
 enum-known-entry c = search needs
 
-enum-told : tie.Need-enum-told Inv-loop μ-loop
+enum-told : tie.Need-enum-told Inv-loop2 μ-loop2 Inv-loop μ-loop
 enum-told c = search needs
 
-same-length : tie.Need-same-length Inv-loop μ-loop
-same-length c = omega arith
+same-length : tie.Need-same-length Inv-loop2 μ-loop2 Inv-loop μ-loop
+same-length c =
+    let at-loop2-test = c .before .before .before .before .before .before in
+    let at-loop2 = at-loop2-test .before in
+    let at-loop = at-loop2 .before .before in
+    still-here (at-loop2 .loop2 .inv) (at-loop .loop .inv) (at-loop2-test .loop2-test .taken) .long-glyphs
 
-same-length-2 : tie.Need-same-length-2 Inv-loop μ-loop
-same-length-2 c = omega arith
+same-length-2 : tie.Need-same-length-2 Inv-loop2 μ-loop2 Inv-loop μ-loop
+same-length-2 c =
+    let at-loop2-test = c .before .before .before .before .before .before in
+    let at-loop2 = at-loop2-test .before in
+    let at-loop = at-loop2 .before .before in
+    still-here (at-loop2 .loop2 .inv) (at-loop .loop .inv) (at-loop2-test .loop2-test .taken) .long-tags
 
-returns : tie.Need-returns Inv-loop μ-loop
-unfolding applyAll
+returns : tie.Need-returns Inv-loop2 μ-loop2 Inv-loop μ-loop
 returns c =
     let at-entry-of = c .before .before in
-    let at-class-of = at-entry-of .before in
-    let at-loop-test = at-class-of .before .before in
+    let at-class-now = at-entry-of .before in
+    let at-loop2-test = at-class-now .before .before .before in
+    let at-loop2 = at-loop2-test .before in
+    let at-loop-test = at-loop2 .before in
     let at-loop = at-loop-test .before in
-    let e = going-stop _ _ _ (at-loop .loop .inv) (at-loop-test .loop-test .taken) (ends-here _ _ _ _ _ (at-class-of .class-of .ensures) (sym (at-entry-of .entry-of .ensures) ∙ c .enum-told .given .1)) refl refl refl in
+    let g = still-here (at-loop2 .loop2 .inv) (at-loop .loop .inv) (at-loop2-test .loop2-test .taken) in
+    let e = going-ended _ _ _ g (at-loop-test .loop-test .taken) (at-class-now .class-now .ensures .0) (at-entry-of .entry-of .ensures) (c .enum-told .given .1) in
     (e .answers, (e .glyphs-left, e .tags-left))
 
-act-requires : tie.Need-act-requires Inv-loop μ-loop
+act-requires : tie.Need-act-requires Inv-loop2 μ-loop2 Inv-loop μ-loop
 act-requires c κs = search needs
 
-edit-requires : tie.Need-edit-requires Inv-loop μ-loop
-edit-requires c κs = omega arith
+edit-requires : tie.Need-edit-requires Inv-loop2 μ-loop2 Inv-loop μ-loop
+edit-requires c κs =
+    let at-loop2-test = c .before .before .before .before .before .before .before .before .before .before in
+    let at-loop2 = at-loop2-test .before in
+    let at-loop = at-loop2 .before .before in
+    let g = still-here (at-loop2 .loop2 .inv) (at-loop .loop .inv) (at-loop2-test .loop2-test .taken) in
+    let start = at-loop .before .before .before .before .before .before .before .before in
+    omega (arith, g .long-glyphs, g .long-tags, start .pre)
 
-add-place : tie.Need-add-place Inv-loop μ-loop
-add-place c =
+loop2-less : tie.Need-loop2-less Inv-loop2 μ-loop2 Inv-loop μ-loop
+loop2-less c =
     let at-edit = c .before .before .before .before .before .before in
     let at-act = at-edit .before .before .before in
     let at-entry = at-act .before .before in
     let at-entry-of = at-entry .before .before in
-    let at-class-of = at-entry-of .before in
-    let at-loop-test = at-class-of .before .before in
+    let at-class-now = at-entry-of .before in
+    let at-loop2-test = at-class-now .before .before .before in
+    let at-loop2 = at-loop2-test .before in
+    let at-loop-test = at-loop2 .before in
     let at-loop = at-loop-test .before in
-    let start = at-loop .before .before .before .before .before .before in
-    omega (arith, start .fits .used, going-step _ _ _ (at-loop .loop .inv) (at-loop-test .loop-test .taken) (acts _ _ _ _ _ (at-class-of .class-of .ensures) (sym (at-entry-of .entry-of .ensures) ∙ at-entry .entry .given .1) (at-act .act .ensures)) (acted-done _ _ _ (at-act .act .ensures)) (at-edit .edit .ensures .0) (at-edit .edit .ensures .1) (at-edit .edit .kept .0) (at-edit .edit .kept .1 .0) .within)
+    let g = still-here (at-loop2 .loop2 .inv) (at-loop .loop .inv) (at-loop2-test .loop2-test .taken) in
+    rw (at-loop2-test .loop2-test .taken) (going-less _ _ _ g (at-loop-test .loop-test .taken) (at-class-now .class-now .ensures .0) (at-entry-of .entry-of .ensures) (at-entry .entry .given .1) (at-act .act .ensures))
 
-loop-less : tie.Need-loop-less Inv-loop μ-loop
-loop-less c =
-    let at-act = c .before .before .before .before .before .before .before .before .before in
+loop2-again : tie.Need-loop2-again Inv-loop2 μ-loop2 Inv-loop μ-loop
+loop2-again c =
+    let at-edit = c .before .before .before .before .before .before in
+    let at-act = at-edit .before .before .before in
     let at-entry = at-act .before .before in
     let at-entry-of = at-entry .before .before in
-    let at-class-of = at-entry-of .before in
-    let at-loop-test = at-class-of .before .before in
-    let at-loop = at-loop-test .before in
-    going-less _ _ _ (at-loop .loop .inv) (at-loop-test .loop-test .taken) (acts _ _ _ _ _ (at-class-of .class-of .ensures) (sym (at-entry-of .entry-of .ensures) ∙ at-entry .entry .given .1) (at-act .act .ensures)) (acted-done _ _ _ (at-act .act .ensures))
+    let at-class-now = at-entry-of .before in
+    let at-loop2-test = at-class-now .before .before .before in
+    let at-loop2 = at-loop2-test .before in
+    let at-loop-test = at-loop2 .before in
+    record {
+      leads = λ l₀ g₀.
+          let g = still-here (at-loop2 .loop2 .inv) g₀ (at-loop2-test .loop2-test .taken) in
+          going-goes _ _ _ g (at-loop-test .loop-test .taken) (at-class-now .class-now .ensures .0) (at-entry-of .entry-of .ensures) (at-entry .entry .given .1) (at-act .act .ensures) (at-class-now .class-now .ensures .1) (at-edit .edit .ensures .0) (at-edit .edit .ensures .1) (at-edit .edit .kept .0) (at-edit .edit .kept .1 .0);
+    }
 
-loop-again : tie.Need-loop-again Inv-loop μ-loop
+add-place : tie.Need-add-place Inv-loop2 μ-loop2 Inv-loop μ-loop
+add-place c = omega (arith, c .before .before .loop-test .taken)
+
+loop-less : tie.Need-loop-less Inv-loop2 μ-loop2 Inv-loop μ-loop
+loop-less c = omega (arith, c .before .before .loop-test .taken)
+
+loop-again : tie.Need-loop-again Inv-loop2 μ-loop2 Inv-loop μ-loop
 loop-again c =
-    let at-edit = c .before .before .before .before .before .before in
-    let at-act = at-edit .before .before .before in
-    let at-entry = at-act .before .before in
-    let at-entry-of = at-entry .before .before in
-    let at-class-of = at-entry-of .before in
-    let at-loop-test = at-class-of .before .before in
-    let at-loop = at-loop-test .before in
-    going-step _ _ _ (at-loop .loop .inv) (at-loop-test .loop-test .taken) (acts _ _ _ _ _ (at-class-of .class-of .ensures) (sym (at-entry-of .entry-of .ensures) ∙ at-entry .entry .given .1) (at-act .act .ensures)) (acted-done _ _ _ (at-act .act .ensures)) (at-edit .edit .ensures .0) (at-edit .edit .ensures .1) (at-edit .edit .kept .0) (at-edit .edit .kept .1 .0)
+    let at-loop2 = c .before in
+    moved-on (at-loop2 .loop2 .inv) (at-loop2 .before .before .loop .inv) (c .loop2-test .left)
 
-next-requires : tie.Need-next-requires Inv-loop μ-loop
+next-requires : tie.Need-next-requires Inv-loop2 μ-loop2 Inv-loop μ-loop
 next-requires c κs = search needs
 
-edit-requires-2 : tie.Need-edit-requires-2 Inv-loop μ-loop
+edit-requires-2 : tie.Need-edit-requires-2 Inv-loop2 μ-loop2 Inv-loop μ-loop
 edit-requires-2 c κs = omega arith
 
-same-length-3 : tie.Need-same-length-3 Inv-loop μ-loop
+same-length-3 : tie.Need-same-length-3 Inv-loop2 μ-loop2 Inv-loop μ-loop
 same-length-3 c = omega (arith, c .before .before .before .before .edit2 .kept .0)
 
-same-length-4 : tie.Need-same-length-4 Inv-loop μ-loop
+same-length-4 : tie.Need-same-length-4 Inv-loop2 μ-loop2 Inv-loop μ-loop
 same-length-4 c = omega (arith, c .before .before .before .before .edit2 .kept .1 .0)
 
-returns-2 : tie.Need-returns-2 Inv-loop μ-loop
+returns-2 : tie.Need-returns-2 Inv-loop2 μ-loop2 Inv-loop μ-loop
 returns-2 c =
     let at-edit2 = c .before .before .before .before in
     let at-next = at-edit2 .before .before .before in
@@ -120,13 +170,18 @@ pub pass-line-spec : {M : Type 1} → statement M
 pass-line-spec =
     tie.close
     (tie.spec
+    Inv-loop2
+    μ-loop2
     Inv-loop
     μ-loop
+    open-requires
+    nothing-found-requires
     new-requires
     loop-holds
-    mul-class-of
-    slice-read-class-of
-    class-of-requires
+    loop2-holds
+    mul-class-now
+    slice-read-class-now
+    class-now-requires
     entry-of-requires
     enum-known-entry
     enum-told
@@ -135,6 +190,8 @@ pass-line-spec =
     returns
     act-requires
     edit-requires
+    loop2-less
+    loop2-again
     add-place
     loop-less
     loop-again
