@@ -83,6 +83,29 @@ open_crate() {
     done
 }
 
+# What a program is linked with besides the library; its age tells nothing.
+linked=()
+
+# Builds a program of beside/src/programs on the library of beside/src, both in a folder and with the same words to the compiler, where
+# something that they are made of is newer. Code that no program comes to is a fault.
+build_program() { # FOLDER PROGRAM WORDS..
+    local library=$1/libbeside.rlib name=$1/$2 words=(--edition 2021 -D dead_code "${@:3}")
+    mkdir -p "$1"
+    if is_stale "$library" "$top/beside" "$top/docs" "$firmware/aat.h"; then
+        open_crate
+        quietly "$rustc" "${words[@]}" --crate-type rlib --crate-name beside "$top/beside/src/lib.rs" -o "$library"
+    fi
+    if [ ${#linked[@]} -gt 0 ] || is_stale "$name" "$library"; then
+        quietly "$rustc" "${words[@]}" --extern beside="$library" "$top/beside/src/programs/$2.rs" -o "$name" "${linked[@]}"
+    fi
+}
+
+# The programs that compare: the crate's panics are part of its answers.
+build_comparing() { # PROGRAM
+    find_rustc
+    build_program "$built" "$1" -O -C overflow-checks=on
+}
+
 compile() { # FILE OBJECT WORDS..
     quietly "$tools/toolchain/bin/clang" --target=$target --no-default-config -O2 -Wall -Wextra -Werror "${@:3}" -c "$1" -o "$2"
 }

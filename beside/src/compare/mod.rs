@@ -1,0 +1,151 @@
+//! Runs the port beside the crate that it ports: the same questions to both, and every answer compared.
+
+pub mod changed;
+mod comparison;
+mod entries_sample;
+mod limit;
+mod progress;
+mod sample;
+mod shaper_program;
+mod shaper_sample;
+
+use crate::compare::comparison::{Comparison, Count};
+use crate::compare::entries_sample::EntriesSample;
+use crate::compare::limit::Limited;
+use crate::compare::progress::Progress;
+use crate::compare::sample::Sample;
+use crate::questions::{
+    classes, kerning_lists, kerning_pairs, kerning_passes, kerning_runs, kerning_steps, language, lists, lookup,
+    passes, runs, steps, verbs, Ask,
+};
+use crate::reference::kerning::Kerning;
+use crate::reference::{oracle, step};
+use crate::tables::random::Random;
+use crate::wire::entries;
+use crate::wire::pipe::TheBox;
+use std::process::ExitCode;
+
+const USAGE: &str = "usage: beside compare|trace CASES SEED SECONDS BOX-COMMAND.. | beside shape CASES SEED SECONDS \
+                     PROGRAM-COMMAND.. | beside sample FILE | beside entries FILE";
+
+/// The program of `beside/run`.
+pub fn main() -> ExitCode {
+    oracle::quiet_crate();
+    let words: Vec<String> = std::env::args().skip(1).collect();
+    match words.iter().map(String::as_str).collect::<Vec<_>>()[..] {
+        [mode @ ("compare" | "trace" | "shape"), cases, seed, seconds, _, ..] => {
+            match (cases.parse(), seed.parse(), seconds.parse()) {
+                (Ok(cases), Ok(seed), Ok(seconds)) if mode == "shape" => shape(cases, seed, seconds, &words[4..]),
+                (Ok(cases), Ok(seed), Ok(seconds)) => compare(mode == "trace", cases, seed, seconds, &words[4..]),
+                _ => failed(USAGE),
+            }
+        }
+        ["sample", file] => sample(file),
+        ["entries", file] => sample_entries(file),
+        _ => failed(USAGE),
+    }
+}
+
+/// Every question of every part, with so many random cases, and fewer where they take longer; how many were left out when a
+/// part's seconds were over.
+fn ask_all(asked: &mut dyn Ask, cases: u64, seed: u64, seconds: u64) -> u64 {
+    let random = &mut Random::new(seed);
+    let asked = &mut Limited::new(asked, seconds);
+    lookup::ask_all(asked.part(), random, cases);
+    classes::ask_all(asked.part(), random, cases);
+    language::ask_all(asked.part(), random, cases / 2);
+    verbs::ask_all(asked.part(), random, cases / 5);
+    for kind in &passes::KINDS {
+        passes::ask_own(asked.part(), kind, random, cases / 5);
+    }
+    passes::ask_general(asked.part(), random, cases / 25);
+    for machine in &step::MACHINES {
+        steps::ask_all(asked.part(), machine, random, cases / 5);
+    }
+    lists::ask_all(asked.part(), random, cases / 5);
+    runs::ask_all(asked.part(), random, cases / 5);
+    for kerning in [Kerning::Kern, Kerning::Kerx] {
+        kerning_pairs::ask_all(asked.part(), kerning, random, cases / 5);
+        kerning_passes::ask_all(asked.part(), kerning, random, cases / 5);
+        kerning_steps::ask_all(asked.part(), kerning, random, cases / 5);
+        kerning_lists::ask_all(asked.part(), kerning, random, cases / 5);
+        kerning_runs::ask_all(asked.part(), kerning, random, cases / 5);
+    }
+    asked.left_out
+}
+
+/// Compares the box with the crate; where it `traces`, shows the steps of cases that differ.
+fn compare(traces: bool, cases: u64, seed: u64, seconds: u64, command: &[String]) -> ExitCode {
+    let unknown = entries::not_asked_for();
+    if !unknown.is_empty() {
+        return failed(format!("aat.h declares what nobody asks for: {}", unknown.join(", ")));
+    }
+    let mut count = Count::default();
+    ask_all(&mut count, cases, seed, 0);
+    let the_box = match TheBox::start(command) {
+        Ok(the_box) => the_box,
+        Err(error) => return failed(error),
+    };
+    let mut comparison = Comparison::new(the_box, Progress::new(count.0), traces);
+    let left_out = ask_all(&mut comparison, cases, seed, seconds);
+    let totals = comparison.finish();
+    if left_out > 0 {
+        println!("{} cases were left out when their part's {} seconds were over", left_out, seconds);
+    }
+    if totals.panics > 0 {
+        println!("the crate panicked in {} cases", totals.panics);
+    }
+    let (checks, actions) = (oracle::check_range_as_none(), oracle::last_action_as_none());
+    let classes = oracle::no_classes_as_none();
+    println!(
+        "panics taken for None: {} in check_range, {} at action 65,535, {} at class count 0",
+        checks, actions, classes
+    );
+    println!("{} cases, {} differences (seed {})", totals.cases, totals.differences, seed);
+    ExitCode::from(u8::from(totals.differences > 0))
+}
+
+/// Compares what the shaper's program prints with what the crate gives.
+fn shape(cases: u64, seed: u64, seconds: u64, command: &[String]) -> ExitCode {
+    let totals = match shaper_program::compare(command, cases, seed, seconds) {
+        Ok(totals) => totals,
+        Err(error) => return failed(error),
+    };
+    if totals.left_out > 0 {
+        println!("{} inputs were left out when {} seconds were over", totals.left_out, seconds);
+    }
+    println!("the program shape: {} inputs, {} differences (seed {})", totals.cases, totals.differences, seed);
+    ExitCode::from(u8::from(totals.differences > 0))
+}
+
+const SAMPLE_SEED: u64 = 1;
+
+fn sample(file: &str) -> ExitCode {
+    let mut sample = Sample::default();
+    lookup::ask_sample(&mut sample, &mut Random::new(SAMPLE_SEED));
+    shaper_sample::add_all(&mut sample, &mut Random::new(SAMPLE_SEED));
+    write_sample(file, &sample.bytes, sample.cases)
+}
+
+/// The random cases that calls of every entry are picked from, besides all others.
+const SAMPLED_CASES: u64 = 20_000;
+
+fn sample_entries(file: &str) -> ExitCode {
+    let mut sample = EntriesSample::new(Random::new(SAMPLE_SEED));
+    ask_all(&mut sample, SAMPLED_CASES, SAMPLE_SEED, 0);
+    let (bytes, cases) = sample.finish();
+    write_sample(file, &bytes, cases as u64)
+}
+
+fn write_sample(file: &str, bytes: &[u8], cases: u64) -> ExitCode {
+    if let Err(error) = std::fs::write(file, bytes) {
+        return failed(error);
+    }
+    println!("{} cases in {} bytes", cases, bytes.len());
+    ExitCode::SUCCESS
+}
+
+fn failed(why: impl std::fmt::Display) -> ExitCode {
+    eprintln!("{}", why);
+    ExitCode::from(2)
+}

@@ -1,0 +1,111 @@
+//! Which rows of docs/DIFFERENCES.md a line meets: lookups and state tables as the crate reads them, and what the rows
+//! ask of them.
+
+use crate::font::sfnt::{long, word};
+use crate::reference::oracle::{aat, Answer, Bytes};
+use crate::reference::survey::{survey, Verdict};
+use std::collections::{BTreeSet, HashMap};
+
+/// A table whose reads are watched, and the rows that they met.
+pub struct Met<'a> {
+    pub table: &'a [u8],
+    /// The font's glyph count, where it is known.
+    glyphs: Option<u16>,
+    pub rows: BTreeSet<u32>,
+    unsorted: HashMap<usize, bool>,
+}
+
+/// A glyph that is deleted.
+pub const DELETED: u16 = 0xFFFF;
+
+/// Don't advance, in every machine.
+pub const STAY: u16 = 0x4000;
+
+/// No list and no lookup, in every entry.
+pub const NONE: u16 = 0xFFFF;
+
+/// As many steps in a row did not advance when the next has to.
+pub const MOST_CYCLES: u64 = 17;
+
+impl<'a> Met<'a> {
+    /// Nothing is read yet.
+    pub fn new(table: &'a [u8], glyphs: Option<u16>) -> Self {
+        Met { table, glyphs, rows: BTreeSet::new(), unsorted: HashMap::new() }
+    }
+
+    /// Meets a row where it applies.
+    pub fn row(&mut self, number: u32, applies: bool) {
+        if applies {
+            self.rows.insert(number);
+        }
+    }
+
+    /// The element of a glyph in the lookup that begins here.
+    pub fn lookup(&mut self, at: usize, glyph: u16) -> Option<u16> {
+        let found = aat::lookup::<u16>(&Bytes::new(self.table), at, glyph);
+        let (format, unit) = (word(self.table, at), word(self.table, at.saturating_add(2)));
+        match format {
+            Some(0) => self.row(4, found.is_some() && self.glyphs.map_or(false, |count| glyph >= count)),
+            Some(format @ (2 | 4 | 6)) => {
+                self.row(2, unit != Some(if format == 6 { 4 } else { 6 }));
+                self.row(3, found.is_some() && glyph == DELETED);
+                let is_unsorted = self.is_unsorted(at);
+                self.row(5, is_unsorted);
+            }
+            Some(10) => self.row(1, unit != Some(2)),
+            _ => {}
+        }
+        found
+    }
+
+    fn is_unsorted(&mut self, at: usize) -> bool {
+        let table = self.table;
+        let look = || matches!(survey(table, at as u64), Answer::Done(Verdict::Bad(_)));
+        *self.unsorted.entry(at).or_insert_with(look)
+    }
+
+    /// The class of a glyph in the extended state table that begins here.
+    pub fn class(&mut self, at: usize, glyph: u16) -> Option<u16> {
+        if glyph == DELETED {
+            return Some(2);
+        }
+        let classes = at + long(self.table, at + 4)? as usize;
+        Some(self.lookup(classes, glyph).unwrap_or(1))
+    }
+
+    /// The entry for a state and a class there, whose payload has so many bytes.
+    pub fn entry(&mut self, at: usize, payload: usize, state: u16, class: u16) -> Option<Entry> {
+        let classes = long(self.table, at)? as usize;
+        self.row(6, usize::from(class) >= classes);
+        let row = at + long(self.table, at + 8)? as usize + 2 * usize::from(state) * classes;
+        let index = usize::from(word(self.table, row + 2 * usize::from(class))?);
+        let entry = at + long(self.table, at + 12)? as usize + index * (4 + payload);
+        Some(Entry { state: word(self.table, entry)?, flags: word(self.table, entry + 2)?, payload: entry + 4 })
+    }
+}
+
+/// An entry, and where its payload begins.
+#[derive(Clone, Copy)]
+pub struct Entry {
+    pub state: u16,
+    pub flags: u16,
+    pub payload: usize,
+}
+
+impl Entry {
+    /// Whether it does not advance.
+    pub fn stays(&self) -> bool {
+        self.flags & STAY != 0
+    }
+}
+
+const DIFFERENCES: &str = include_str!("../../../docs/DIFFERENCES.md");
+
+/// The rows of docs/DIFFERENCES.md: their numbers, and what they say of the crate.
+pub fn rows() -> Vec<(u32, &'static str)> {
+    let row = |line: &'static str| {
+        let mut cells = line.strip_prefix("| ")?.split(" | ");
+        Some((cells.next()?.parse().ok()?, cells.next()?))
+    };
+    DIFFERENCES.lines().filter_map(row).collect()
+}

@@ -1,0 +1,221 @@
+//! A font's tables for shaping, and what the crate and the box make of a line by them.
+
+use crate::font::met::Met;
+use crate::font::met_kerning::{self, Watched};
+use crate::font::sfnt::Font;
+use crate::font::{met_language, met_morx};
+use crate::reference::kerning::{Kerned, Kerning, ALONE_AT};
+use crate::reference::line::{Line, LARGEST_ROOM};
+use crate::reference::oracle::{self, Fault, LONGEST_TABLE};
+use crate::reference::pass::line_of;
+use crate::reference::{kerning_run, run};
+use crate::wire::along::along_of;
+use crate::wire::entries::Entry;
+use crate::wire::pipe::{lend_bytes, lend_table, TheBox};
+use crate::wire::reply::number;
+use std::collections::BTreeSet;
+use std::io;
+
+/// The tables, each behind a few bytes, as a list must not begin at 0.
+pub struct Tables {
+    pub glyphs: Option<u16>,
+    morx: Option<Vec<u8>>,
+    kerx: Option<Vec<u8>>,
+    kern: Option<Vec<u8>>,
+    ltag: Option<Vec<u8>>,
+}
+
+const START: u64 = ALONE_AT as u64;
+
+/// A line as one side left it.
+#[derive(PartialEq)]
+pub struct Shaped {
+    line: Line,
+    /// Each run's table, answer and heads.
+    runs: Vec<(&'static str, u32, u32)>,
+    /// The adjustments by each table of kerning.
+    along: Vec<(&'static str, Vec<i64>)>,
+}
+
+const ANSWERS: [&str; 10] = ["DONE", "NOTHING", "TABLE", "LINE", "PLACE", "STATE", "HEAD", "FULL", "ENDED", "LIMIT"];
+
+impl Shaped {
+    /// The runs and the line in words: of each place its glyph, its tag, its adjustments, and the characters that belong
+    /// to it.
+    pub fn columns(&self) -> Vec<String> {
+        let answer = |run: &(&str, u32, u32)| format!("{}: {}, heads {}", run.0, ANSWERS[run.1 as usize], run.2);
+        let mut lines: Vec<String> = self.runs.iter().map(answer).collect();
+        let names: String = self.along.iter().map(|(name, _)| format!("{:>8}", name)).collect();
+        lines.push(format!("place  glyph    tag{}  characters", names));
+        for place in 0..self.line.length() {
+            let along: String = self.along.iter().map(|(_, along)| format!("{:>8}", along[place])).collect();
+            let (glyph, tag) = (self.line.glyphs[place], self.line.tags[place]);
+            lines.push(format!("{:>5} {:>6} {:>6}{}  {}", place, glyph, tag, along, self.characters(tag)));
+        }
+        lines
+    }
+
+    fn characters(&self, tag: u16) -> String {
+        let homes = self.line.homes.iter().enumerate().filter(|home| *home.1 == tag);
+        homes.map(|home| home.0.to_string()).collect::<Vec<_>>().join(" ")
+    }
+}
+
+impl Tables {
+    /// Those of a font; or why it has none to shape by.
+    pub fn of(font: &Font) -> Result<Self, String> {
+        let table = |name: &[u8; 4]| match font.table(name) {
+            Some(table) if ALONE_AT + table.len() > LONGEST_TABLE => {
+                Err(format!("its table {} is too long", String::from_utf8_lossy(name)))
+            }
+            Some(table) => Ok(Some([&[0; ALONE_AT], table].concat())),
+            None => Ok(None),
+        };
+        let (morx, kerx, kern, ltag) = (table(b"morx")?, table(b"kerx")?, table(b"kern")?, table(b"ltag")?);
+        if [&morx, &kerx, &kern, &ltag].iter().all(|table| table.is_none()) {
+            return Err("it has none of the tables morx, kerx, kern and ltag".into());
+        }
+        Ok(Tables { glyphs: font.glyphs(), morx, kerx, kern, ltag })
+    }
+
+    /// Which there are.
+    pub fn describe(&self) -> String {
+        let tables = [("morx", &self.morx), ("kerx", &self.kerx), ("kern", &self.kern), ("ltag", &self.ltag)];
+        let size = |table: &Option<Vec<u8>>| {
+            table.as_ref().map_or("none".into(), |table| format!("{} bytes", table.len() - ALONE_AT))
+        };
+        let sizes: Vec<String> = tables.iter().map(|(name, table)| format!("{} {}", name, size(table))).collect();
+        let glyphs = self.glyphs.map_or("no glyph count".into(), |count| format!("{} glyphs", count));
+        format!("{}; {}", glyphs, sizes.join(", "))
+    }
+
+    fn kernings(&self) -> impl Iterator<Item = (Kerning, &Vec<u8>)> {
+        let tables = [(Kerning::Kerx, &self.kerx), (Kerning::Kern, &self.kern)];
+        tables.into_iter().filter_map(|(kerning, table)| Some((kerning, table.as_ref()?)))
+    }
+
+    /// The line by the crate: first morx, then each table of kerning on what it left.
+    pub fn by_crate(&self, glyphs: &[u16], right_to_left: bool) -> Result<Shaped, Fault> {
+        let mut shaped = Shaped { line: line_of(glyphs, LARGEST_ROOM), runs: Vec::new(), along: Vec::new() };
+        if let Some(table) = &self.morx {
+            let run = run::Run { table, start: START, right_to_left };
+            let (answer, heads) = run.make(&mut shaped.line, &mut |_, _| {})?;
+            shaped.runs.push(("morx", answer.number(), heads));
+        }
+        for (kerning, table) in self.kernings() {
+            let mut lent = unkerned(&shaped.line);
+            let run = kerning_run::Run { kerning, table, start: START, right_to_left };
+            let (answer, heads) = run.make(&mut lent)?;
+            shaped.runs.push((kerning.name(), answer.number(), heads));
+            shaped.along.push((kerning.name(), lent.along));
+        }
+        Ok(shaped)
+    }
+
+    /// The same by the box.
+    pub fn by_box(&self, glyphs: &[u16], right_to_left: bool, the_box: &mut TheBox) -> io::Result<Shaped> {
+        let mut shaped = Shaped { line: line_of(glyphs, LARGEST_ROOM), runs: Vec::new(), along: Vec::new() };
+        let direction = u32::from(right_to_left).to_le_bytes();
+        if let Some(table) = &self.morx {
+            let mut call = call_of(table, Entry::MorxRun);
+            shaped.line.lend(&mut call);
+            call.extend(START.to_le_bytes());
+            call.extend([direction, [0; 4]].concat());
+            let reply = the_box.exchange(&call, line_bytes(&shaped.line) + 12)?;
+            let (line, rest) = reply.split_at(line_bytes(&shaped.line));
+            read_line(&mut shaped.line, line);
+            shaped.line.used = number(&rest[4..]);
+            shaped.runs.push(("morx", number(&line[..4]) as u32, number(&rest[..4]) as u32));
+        }
+        for (kerning, table) in self.kernings() {
+            let lent = unkerned(&shaped.line);
+            let entry = if kerning == Kerning::Kern { Entry::KernRun } else { Entry::KerxRun };
+            let mut call = call_of(table, entry);
+            lent.lend(START, &mut call);
+            call.extend([0; 4]);
+            if kerning == Kerning::Kerx {
+                call.extend(direction);
+            }
+            let reply = the_box.exchange(&call, line_bytes(&shaped.line) + 8 * lent.along.len() + 4)?;
+            let (line, rest) = reply.split_at(line_bytes(&shaped.line));
+            let (along, heads) = rest.split_at(8 * lent.along.len());
+            read_line(&mut shaped.line, line);
+            shaped.runs.push((kerning.name(), number(&line[..4]) as u32, number(heads) as u32));
+            shaped.along.push((kerning.name(), along_of(along)));
+        }
+        Ok(shaped)
+    }
+
+    /// The index of a language by both sides, in words.
+    pub fn language(&self, name: &str, the_box: &mut TheBox) -> Result<[String; 2], String> {
+        let table = self.ltag.as_ref().ok_or("it has no table ltag to look for a language in")?;
+        let answer = oracle::language_index(table, START, name).map_err(|fault| fault.describe().to_string())?;
+        let mut call = call_of(table, Entry::LanguageIndex);
+        call.extend(START.to_le_bytes());
+        lend_bytes(name.as_bytes(), &mut call);
+        call.extend([0; 4]);
+        let reply = the_box.exchange(&call, 8).map_err(|error| format!("the box: {}", error))?;
+        let words = |answer: u64, value: u64| match answer {
+            0 => value.to_string(),
+            _ => ANSWERS[answer as usize].to_string(),
+        };
+        let theirs = words(answer.number().into(), answer.done().unwrap_or(0).into());
+        Ok([theirs, words(number(&reply[..4]), number(&reply[4..]))])
+    }
+
+    /// The rows of docs/DIFFERENCES.md that the line and the language meet.
+    pub fn met(&self, glyphs: &[u16], right_to_left: bool, language: Option<&str>) -> BTreeSet<u32> {
+        let mut rows = BTreeSet::new();
+        let mut line = line_of(glyphs, LARGEST_ROOM);
+        if let Some(table) = &self.morx {
+            let mut met = Met::new(table, self.glyphs);
+            let run = run::Run { table, start: START, right_to_left };
+            met_morx::watch(&mut met, &run, &line);
+            rows.append(&mut met.rows);
+            // A fault is shown where the sides are compared.
+            let _ = run.make(&mut line, &mut |_, _| {});
+        }
+        for (kerning, table) in self.kernings() {
+            let mut met = Met::new(table, self.glyphs);
+            let glyphs = &line.glyphs[..line.length()];
+            Watched { kerning, start: ALONE_AT, right_to_left, glyphs }.watch(&mut met);
+            rows.append(&mut met.rows);
+        }
+        if let (Some(table), Some(name)) = (&self.ltag, language) {
+            let mut met = Met::new(table, self.glyphs);
+            met_language::watch(&mut met, ALONE_AT, name.as_bytes());
+            rows.append(&mut met.rows);
+        }
+        rows
+    }
+
+    /// The rows that can be met, or are known not to be, as their tables are not there.
+    pub fn looked_at(&self, has_language: bool) -> BTreeSet<u32> {
+        let rows = met_morx::ROWS.into_iter().chain(met_kerning::ROWS);
+        let of_language = met_language::ROWS.into_iter().filter(|_| has_language);
+        rows.chain(of_language).filter(|row| *row != 4 || self.glyphs.is_some()).collect()
+    }
+}
+
+fn unkerned(line: &Line) -> Kerned {
+    Kerned { line: line.clone(), along: vec![0; line.glyphs.len()] }
+}
+
+fn call_of(table: &[u8], entry: Entry) -> Vec<u8> {
+    let mut call = Vec::new();
+    lend_table(table, &mut call);
+    call.push(entry as u8);
+    call
+}
+
+/// The bytes of an answer and a line in a reply.
+fn line_bytes(line: &Line) -> usize {
+    4 + 2 * (line.glyphs.len() + line.tags.len() + line.homes.len())
+}
+
+fn read_line(line: &mut Line, reply: &[u8]) {
+    let mut numbers = reply[4..].chunks_exact(2).map(|bytes| number(bytes) as u16);
+    for part in [&mut line.glyphs, &mut line.tags, &mut line.homes] {
+        part.iter_mut().zip(&mut numbers).for_each(|(place, number)| *place = number);
+    }
+}

@@ -1,0 +1,3 @@
+fn main() {
+    beside::compare::changed::main()
+}

@@ -1,0 +1,3 @@
+fn main() -> std::process::ExitCode {
+    beside::font::main()
+}

@@ -1,0 +1,317 @@
+//! Kerning passes beside the crate's formats in document 01's pass.
+
+use crate::questions::kerning_pairs::editions;
+use crate::questions::passes::any_glyphs;
+use crate::questions::{Ask, Question};
+use crate::reference::kerning::{Kerned, Kerning, Subtable, LARGEST_ADJUSTMENT};
+use crate::reference::kerning_by_copy::open;
+use crate::reference::kerning_trace::describe_pass;
+use crate::reference::line::{Line, DELETED, LARGEST_ROOM};
+use crate::reference::oracle::{Answer, Fault, LONGEST_TABLE};
+use crate::reference::pass::line_of;
+use crate::tables::kerning::{any_body, any_subtable, formats, Edition};
+use crate::tables::kerning_examples::{documented, pushes, runs_on_past_its_end, small_bodies, Documented};
+use crate::tables::random::Random;
+use crate::wire::entries::Entry;
+use std::rc::Rc;
+
+/// A call of a pass.
+pub struct Pass {
+    pub edition: Edition,
+    pub lent: Kerned,
+    pub start: u64,
+    /// The answer and the used adjustments that a document gives, from fresh ones.
+    pub written: Option<(Answer<()>, Vec<i64>)>,
+}
+
+impl Pass {
+    /// The answer, and what the call has to leave.
+    fn after(&self, table: &[u8]) -> Result<(Answer<()>, Kerned), Fault> {
+        let mut lent = self.lent.clone();
+        let answer = match lent.refuses_pass(table) {
+            Some(answer) => answer,
+            None => self.made(table, &mut lent)?,
+        };
+        match &self.written {
+            Some(written) if *written != (answer, lent.along.clone()) => Err(Fault::Disputed),
+            _ => Ok((answer, lent)),
+        }
+    }
+
+    /// The pass by the crate, if the subtable can be read; steps by its copy have to make the same.
+    fn made(&self, table: &[u8], lent: &mut Kerned) -> Result<Answer<()>, Fault> {
+        let Edition { kerning, version, .. } = self.edition;
+        let table = match table.get(self.start as usize..) {
+            Some(bytes) => kerning.alone(version, bytes),
+            None => return Ok(Answer::Head),
+        };
+        let subtable = match Subtable::alone(kerning, &table)? {
+            Some(subtable) => subtable,
+            None => return Ok(Answer::Head),
+        };
+        let length = lent.line.length();
+        let mut of_steps = lent.along.clone();
+        let answer = lent.pass(&subtable)?;
+        if let Some(machine) = open(kerning, &table) {
+            let glyphs = &lent.line.glyphs[..length];
+            if machine.pass(glyphs, &mut of_steps[..length], &mut |_, _, _| {})? != answer || of_steps != lent.along {
+                return Err(Fault::Disputed);
+            }
+        }
+        Ok(answer)
+    }
+}
+
+impl Question for Pass {
+    fn entry(&self) -> Entry {
+        self.edition.kerning.its(ENTRIES)
+    }
+
+    fn arguments(&self, _held: u64, call: &mut Vec<u8>) {
+        self.lent.lend(self.start, call);
+        call.extend(self.edition.version.to_le_bytes());
+    }
+
+    fn reply(&self, table: &[u8], _held: u64, reply: &mut Vec<u8>) -> Result<(), Fault> {
+        let (answer, lent) = self.after(table)?;
+        lent.reply(answer, reply);
+        Ok(())
+    }
+
+    fn describe(&self, _held: u64) -> String {
+        let Edition { kerning, version, .. } = self.edition;
+        format!("{} pass at start {}, version {}, lent {}", kerning.name(), self.start, version, self.lent.describe())
+    }
+
+    fn describe_reply(&self, reply: &[u8]) -> String {
+        self.lent.describe_reply(reply)
+    }
+
+    fn trace(&self, table: &[u8]) -> Vec<String> {
+        let Edition { kerning, version, .. } = self.edition;
+        match table.get(self.start as usize..) {
+            Some(bytes) if self.lent.refuses_pass(table).is_none() => {
+                describe_pass(kerning, &kerning.alone(version, bytes), &self.lent)
+            }
+            _ => Vec::new(),
+        }
+    }
+}
+
+const ENTRIES: [Entry; 2] = [Entry::KernPass, Entry::KerxPass];
+
+/// Every question about a table's passes, with so many random ones.
+pub fn ask_all(asked: &mut dyn Ask, kerning: Kerning, random: &mut Random, cases: u64) {
+    examples(asked, kerning);
+    list_runs_on_past_its_end(asked, kerning);
+    eight_and_nine_pushes(asked, kerning);
+    short_bodies(asked, kerning);
+    cut_subtables(asked, kerning, random);
+    formats_and_bits(asked, kerning, random);
+    far_starts(asked, kerning);
+    large_adjustments(asked, kerning);
+    refused_lines(asked, kerning);
+    long_tables(asked, kerning);
+    long_lines(asked, kerning, random);
+    random_subtables(asked, kerning, random, cases);
+}
+
+fn ask_pass(asked: &mut dyn Ask, edition: Edition, table: &Rc<[u8]>, start: usize, lent: &Kerned) {
+    asked.ask(table, Box::new(Pass { edition, lent: lent.clone(), start: start as u64, written: None }));
+}
+
+fn ask_line(asked: &mut dyn Ask, edition: Edition, table: &Rc<[u8]>, glyphs: &[u16]) {
+    ask_pass(asked, edition, table, 0, &Kerned::of(line_of(glyphs, glyphs.len() + 2)));
+}
+
+/// The tables that say where the crate and the manual part.
+fn examples(asked: &mut dyn Ask, kerning: Kerning) {
+    for example in documented().iter().filter(|example| example.edition.kerning == kerning) {
+        let Documented { edition, table, start, line, pass, .. } = example;
+        let lent = Kerned { line: line_of(line, line.len()), along: vec![0; line.len()] };
+        let (start, written) = (*start as u64, Some(pass.clone()));
+        asked.ask(&Rc::from(&table[..]), Box::new(Pass { edition: *edition, lent, start, written }));
+    }
+}
+
+/// Lists of 0xFFFF, and of other numbers, longer and shorter than the stack, the last numbers of the table: kern's end at an
+/// odd number, kerx's do not end at 0xFFFF, and both go on into what lies behind them.
+fn list_runs_on_past_its_end(asked: &mut dyn Ask, kerning: Kerning) {
+    for edition in editions(kerning) {
+        runs_on_past_its_end(*edition, &mut |subtable| {
+            let table = Rc::from(subtable);
+            for length in 1..=9 {
+                ask_line(asked, *edition, &table, &[&vec![10; length][..], &[11, 10, 11]].concat());
+            }
+        });
+    }
+}
+
+/// As many places as the stack has, and one more.
+fn eight_and_nine_pushes(asked: &mut dyn Ask, kerning: Kerning) {
+    for edition in editions(kerning) {
+        pushes(*edition, &mut |subtable| {
+            let table = Rc::from(subtable);
+            for length in 6..=20 {
+                ask_line(asked, *edition, &table, &vec![10; length]);
+                ask_line(asked, *edition, &table, &[&vec![10; length][..], &[11, 10, 11]].concat());
+            }
+        });
+    }
+}
+
+/// All small machines on a few lines each.
+fn short_bodies(asked: &mut dyn Ask, kerning: Kerning) {
+    let lines: [&[u16]; 6] =
+        [&[], &[10], &[10, 11], &[11, 10, 10], &[10, 10, 11, 11, 10], &[10, DELETED, 11, 10, 12, 11]];
+    for edition in editions(kerning) {
+        small_bodies(*edition, &mut |subtable| {
+            let table = Rc::from(subtable);
+            lines.iter().for_each(|line| ask_line(asked, *edition, &table, line));
+        });
+    }
+}
+
+/// Subtables of every format cut at every byte, at their own start and behind other bytes.
+fn cut_subtables(asked: &mut dyn Ask, kerning: Kerning, random: &mut Random) {
+    for edition in editions(kerning) {
+        for format in formats(kerning) {
+            let body = any_body(random, *edition, *format, &(10..13));
+            for before in [0, 1] {
+                let table = [&[9][..before], &edition.subtable(edition.plain(), *format, &body)].concat();
+                for length in 0..=table.len() {
+                    let table = Rc::from(&table[..length]);
+                    for line in [&[10, 11, 12, 10, 10, 11][..], &[]] {
+                        ask_pass(asked, *edition, &table, before, &Kerned::of(line_of(line, 6)));
+                    }
+                }
+            }
+        }
+    }
+}
+
+/// Every format under every mix of bits, by every version.
+fn formats_and_bits(asked: &mut dyn Ask, kerning: Kerning, random: &mut Random) {
+    for edition in editions(kerning) {
+        for format in formats(kerning) {
+            let body = any_body(random, *edition, *format, &(10..13));
+            for bits in edition.coverages() {
+                for number in (0..9).chain([0x7F, 0x80, 0xFF]) {
+                    let table = Rc::from(edition.subtable(*bits, number, &body));
+                    ask_line(asked, *edition, &table, &[10, 11, 12, 10, 10]);
+                }
+            }
+            let table = Rc::from(edition.subtable(edition.plain(), *format, &body));
+            for version in [0, 1, 2, 3, 4, 5, 0x100, 0x400, 0x8000, 0xFFFF] {
+                ask_line(asked, Edition { version, ..*edition }, &table, &[10, 11, 12, 10, 10]);
+            }
+        }
+    }
+}
+
+/// The first example of a table, for what does not depend on the subtable.
+fn any_example(kerning: Kerning) -> Documented {
+    documented().into_iter().find(|example| example.edition.kerning == kerning).expect("an example")
+}
+
+fn far_starts(asked: &mut dyn Ask, kerning: Kerning) {
+    let Documented { edition, table, line, .. } = any_example(kerning);
+    let length = table.len();
+    let table = Rc::from(table);
+    let near = [0, 1, length - 1, length, length + 1];
+    let far = [1 << 16, 1 << 31, 1 << 32, 1 << 63, usize::MAX - 11, usize::MAX - 3, usize::MAX];
+    for start in near.into_iter().chain(far) {
+        ask_pass(asked, edition, &table, start, &Kerned::of(line_of(&line, 5)));
+    }
+}
+
+/// Adjustments about the largest, at places that are used and that are not.
+fn large_adjustments(asked: &mut dyn Ask, kerning: Kerning) {
+    let Documented { edition, table, start, line, .. } = any_example(kerning);
+    let table = Rc::from(table);
+    let largest = LARGEST_ADJUSTMENT as i64;
+    for number in [largest - 1, largest, largest + 1, 1 << 41, i64::MAX, i64::MIN, i64::MIN + 1, i64::MIN >> 1] {
+        for number in [number, number.wrapping_neg()] {
+            for place in 0..5 {
+                let mut lent = Kerned::of(line_of(&line, 5));
+                lent.along[place] = number;
+                ask_pass(asked, edition, &table, start, &lent);
+            }
+        }
+    }
+}
+
+/// Lengths of all parts, most of them no line's, on a right subtable and on one that is refused by itself.
+fn refused_lines(asked: &mut dyn Ask, kerning: Kerning) {
+    let Documented { edition, table, start, .. } = any_example(kerning);
+    let none: Rc<[u8]> = Rc::from(&table[..start + 2]);
+    let table = Rc::from(table);
+    let numbers = |count: usize| (0..count as u16).collect::<Vec<u16>>();
+    let lengths = [0, 1, 3, LARGEST_ROOM, LARGEST_ROOM + 1];
+    for glyphs in lengths {
+        for tags in lengths {
+            for along in lengths {
+                for homes in [0, 1, 4] {
+                    for used in [0, 1, 3, glyphs as u64 + 1, u64::MAX] {
+                        let line = Line { glyphs: vec![5; glyphs], tags: numbers(tags), homes: numbers(homes), used };
+                        let lent = Kerned { line, along: vec![0; along] };
+                        ask_pass(asked, edition, &table, start, &lent);
+                        if glyphs < 4 {
+                            ask_pass(asked, edition, &none, start, &lent);
+                        }
+                    }
+                }
+            }
+        }
+    }
+}
+
+fn long_tables(asked: &mut dyn Ask, kerning: Kerning) {
+    let Documented { edition, mut table, start, line, .. } = any_example(kerning);
+    for length in [LONGEST_TABLE, LONGEST_TABLE + 1] {
+        table.resize(length, 0);
+        let table: Rc<[u8]> = Rc::from(&table[..]);
+        for start in [start, length, length + 1] {
+            ask_pass(asked, edition, &table, start, &Kerned::of(line_of(&line, 5)));
+            ask_pass(asked, edition, &table, start, &Kerned::of(Line { used: 6, ..line_of(&line, 5) }));
+        }
+    }
+}
+
+/// Lines that fill the largest room, and almost.
+fn long_lines(asked: &mut dyn Ask, kerning: Kerning, random: &mut Random) {
+    for edition in editions(kerning) {
+        for format in formats(kerning) {
+            let glyphs = any_glyphs(random);
+            let body = any_body(random, *edition, *format, &glyphs);
+            let table = Rc::from(edition.subtable(edition.plain(), *format, &body));
+            for used in [LARGEST_ROOM - 1, LARGEST_ROOM] {
+                let lent = Kerned::any(random, &glyphs, used, LARGEST_ROOM);
+                ask_pass(asked, *edition, &table, 0, &lent);
+            }
+        }
+    }
+}
+
+const LINES_FOR_ONE_TABLE: u64 = 3;
+
+fn random_subtables(asked: &mut dyn Ask, kerning: Kerning, random: &mut Random, cases: u64) {
+    let mut left = cases;
+    while left > 0 {
+        let glyphs = any_glyphs(random);
+        let edition = Edition::any(random, kerning);
+        let format = if random.once_in(2) { 1 } else { random.among(formats(kerning)) };
+        let made = any_subtable(random, edition, format, &glyphs);
+        let table = Rc::from(&made.table[..]);
+        let start = made.any_start(random);
+        let lines = left.min(LINES_FOR_ONE_TABLE);
+        for _ in 0..lines {
+            let longest = random.among(&[2, 5, 12, 12, 24, 60]);
+            let used = random.below(longest + 1);
+            let room = used + random.among(&[0, 0, 1, 9]);
+            let lent = Kerned::any(random, &glyphs, used, room);
+            asked.ask(&table, Box::new(Pass { edition, lent, start, written: None }));
+        }
+        left -= lines;
+    }
+}

@@ -1,0 +1,427 @@
+//! Passes over a line beside the crate's machines in document 01's pass.
+
+use crate::questions::{Ask, Question};
+use crate::reference::line::{Line, DELETED, LARGEST_ROOM};
+use crate::reference::oracle::{caught, Answer, Fault, LONGEST_TABLE};
+use crate::reference::pass::{line_of, Example, Kind, Written};
+use crate::reference::passes_by_crate::{caught_pass, number};
+use crate::reference::steps_by_copy::open;
+use crate::reference::trace::describe_pass;
+use crate::tables::lookup::{damage, Made};
+use crate::tables::morx::{in_chain, subtable, the_subtable, SUBTABLE_HEAD};
+use crate::tables::random::Random;
+use crate::tables::{contextual, insertion, ligature, noncontextual, rearrangement};
+use crate::wire::entries::Entry;
+use crate::wire::line::{any_line, spoil};
+use std::ops::Range;
+use std::rc::Rc;
+
+/// The kinds of subtables.
+pub static KINDS: [Kind; 5] =
+    [rearrangement::KIND, noncontextual::KIND, contextual::KIND, ligature::KIND, insertion::KIND];
+
+/// A pass by subtables of a kind: the kind's own, or the one that takes every kind.
+#[derive(Clone, Copy)]
+pub struct By {
+    pub entry: Entry,
+    pub kind: &'static Kind,
+}
+
+/// A call of a pass.
+pub struct Pass {
+    pub by: By,
+    pub line: Line,
+    pub start: u64,
+    /// What a document gives, for examples made from its sentences.
+    pub written: Option<Written>,
+}
+
+impl Pass {
+    /// The answer, and the line as the call has to leave it.
+    fn after(&self, table: &[u8]) -> Result<(Answer<()>, Line), Fault> {
+        let mut line = self.line.clone();
+        let answer = match self.refusal(table) {
+            Some(answer) => answer,
+            None => self.made(table, &mut line)?,
+        };
+        match &self.written {
+            Some(written) if !written.is(answer, &line) => Err(Fault::Disputed),
+            _ => Ok((answer, line)),
+        }
+    }
+
+    fn refusal(&self, table: &[u8]) -> Option<Answer<()>> {
+        if table.len() > LONGEST_TABLE {
+            Some(Answer::Table)
+        } else if !self.line.is_line() {
+            Some(Answer::Line)
+        } else {
+            None
+        }
+    }
+
+    /// The pass by the crate's machine, if it can be read and is of the kind; steps by its copy have to make the same.
+    fn made(&self, table: &[u8], line: &mut Line) -> Result<Answer<()>, Fault> {
+        let table = match self.bytes(table) {
+            Some(bytes) => in_chain(bytes),
+            None => return Ok(Answer::Head),
+        };
+        let subtable = match caught(|| the_subtable(&table))? {
+            Some(subtable) if self.by.entry == Entry::MorxPass || number(&subtable) == self.by.kind.number => subtable,
+            _ => return Ok(Answer::Head),
+        };
+        let mut of_steps = line.clone();
+        let answer = caught_pass(&subtable, line)?;
+        if let Some(opened) = open(&table) {
+            if opened.pass(&mut of_steps, &mut |_, _, _| {})? != answer || of_steps != *line {
+                return Err(Fault::Disputed);
+            }
+        }
+        Ok(answer)
+    }
+
+    fn bytes<'a>(&self, table: &'a [u8]) -> Option<&'a [u8]> {
+        table.get(usize::try_from(self.start).ok()?..)
+    }
+
+    /// Whether the entry is lent the used length, and so hands it back.
+    fn hands_length_back(&self) -> bool {
+        matches!(self.by.entry, Entry::InsertionPass | Entry::MorxPass)
+    }
+}
+
+impl Question for Pass {
+    fn entry(&self) -> Entry {
+        self.by.entry
+    }
+
+    fn arguments(&self, _held: u64, call: &mut Vec<u8>) {
+        self.line.lend(call);
+        call.extend(self.start.to_le_bytes());
+    }
+
+    fn reply(&self, table: &[u8], _held: u64, reply: &mut Vec<u8>) -> Result<(), Fault> {
+        let (answer, line) = self.after(table)?;
+        line.reply(answer, reply);
+        if self.hands_length_back() {
+            reply.extend(line.used.to_le_bytes());
+        }
+        Ok(())
+    }
+
+    fn describe(&self, _held: u64) -> String {
+        let entry = if self.by.entry == Entry::MorxPass { ", by the entry for all kinds," } else { "" };
+        format!("{} pass{} at start {}, lent {}", self.by.kind.name, entry, self.start, self.line.describe())
+    }
+
+    fn describe_reply(&self, reply: &[u8]) -> String {
+        if self.hands_length_back() {
+            self.line.describe_reply_with_used(reply)
+        } else {
+            self.line.describe_reply(reply)
+        }
+    }
+
+    fn trace(&self, table: &[u8]) -> Vec<String> {
+        match (self.refusal(table), self.bytes(table)) {
+            (None, Some(bytes)) => describe_pass(&in_chain(bytes), &self.line),
+            _ => Vec::new(),
+        }
+    }
+}
+
+/// Every question about a kind's own pass, with so many random ones.
+pub fn ask_own(asked: &mut dyn Ask, kind: &'static Kind, random: &mut Random, cases: u64) {
+    let by = By { entry: kind.pass, kind };
+    examples(asked, by);
+    short_bodies(asked, by);
+    limits(asked, by);
+    cut_subtables(asked, by);
+    coverages(asked, by);
+    far_starts(asked, by);
+    far_offsets(asked, by);
+    refused_lines(asked, by);
+    long_tables(asked, by);
+    long_lines(asked, by, random);
+    random_subtables(asked, by, random, cases);
+}
+
+/// Every question about the pass that takes every kind, with so many random ones for each.
+pub fn ask_general(asked: &mut dyn Ask, random: &mut Random, cases: u64) {
+    let of_kind = |kind| By { entry: Entry::MorxPass, kind };
+    for by in KINDS.iter().map(of_kind) {
+        examples(asked, by);
+        cut_subtables(asked, by);
+        coverages(asked, by);
+        random_subtables(asked, by, random, cases);
+    }
+    many_subtables(asked, random, cases);
+    far_starts(asked, of_kind(&KINDS[0]));
+    refused_lines(asked, of_kind(&KINDS[0]));
+    long_tables(asked, of_kind(&KINDS[0]));
+}
+
+fn ask_pass(asked: &mut dyn Ask, by: By, table: &Rc<[u8]>, start: usize, line: &Line) {
+    asked.ask(table, Box::new(Pass { by, line: line.clone(), start: start as u64, written: None }));
+}
+
+/// The subtable of an example.
+fn whole(by: By, example: &Example) -> Vec<u8> {
+    subtable(by.kind.number, &example.body)
+}
+
+fn examples(asked: &mut dyn Ask, by: By) {
+    for example in (by.kind.examples)() {
+        let table = Rc::from(whole(by, &example));
+        asked.ask(&table, Box::new(Pass { by, line: example.before, start: 0, written: Some(example.written) }));
+    }
+}
+
+/// The kind's bodies with lines that bring them to their limits.
+fn limits(asked: &mut dyn Ask, by: By) {
+    (by.kind.limits)(&mut |body, line| ask_pass(asked, by, &Rc::from(subtable(by.kind.number, &body)), 0, &line));
+}
+
+/// All of the kind's small bodies on a few lines each.
+fn short_bodies(asked: &mut dyn Ask, by: By) {
+    let lines: [&[u16]; 6] =
+        [&[], &[10], &[10, 11], &[11, 10, 10], &[10, 10, 11, 11, 10], &[10, DELETED, 11, 10, 12, 11]];
+    let rooms: &[usize] = if by.kind.number == insertion::KIND.number { &[0, 1, 2, 3, 60] } else { &[0] };
+    let in_rooms = |glyphs: &[u16]| rooms.iter().map(|more| line_of(glyphs, glyphs.len() + more)).collect::<Vec<_>>();
+    let lines: Vec<Line> = lines.iter().flat_map(|glyphs| in_rooms(glyphs)).collect();
+    (by.kind.short_bodies)(&mut |body| {
+        let table = Rc::from(subtable(by.kind.number, &body));
+        for line in &lines {
+            ask_pass(asked, by, &table, 0, line);
+        }
+    });
+}
+
+/// The examples cut at every byte, at their own start and behind other bytes, on their line and on an empty one.
+fn cut_subtables(asked: &mut dyn Ask, by: By) {
+    for example in (by.kind.examples)() {
+        for before in [0, 1, 3] {
+            let table = [&[0, 8, 0][..before], &whole(by, &example)].concat();
+            for length in 0..=table.len() {
+                let table = Rc::from(&table[..length]);
+                ask_pass(asked, by, &table, before, &example.before);
+                ask_pass(asked, by, &table, before, &line_of(&[], 0));
+            }
+        }
+    }
+}
+
+/// Every kind under coverage bits that a lone pass does not look at.
+fn coverages(asked: &mut dyn Ask, by: By) {
+    for example in (by.kind.examples)() {
+        for bits in [0, 0x100, 0x8000_0000, 0x5000_0000, 0xFFFF_FF00] {
+            for number in 0..=255 {
+                let table = Rc::from(subtable(bits | number, &example.body));
+                ask_pass(asked, by, &table, 0, &example.before);
+            }
+        }
+    }
+}
+
+/// Starts about the end, and those that a number of fewer bits, or a sum without care, would take for one in the table.
+fn far_starts(asked: &mut dyn Ask, by: By) {
+    for example in (by.kind.examples)() {
+        let table = whole(by, &example);
+        let length = table.len();
+        let table = Rc::from(table);
+        let near = [1, length - SUBTABLE_HEAD, length - 1, length, length + 1];
+        let far = [1 << 16, 1 << 31, 1 << 32, 1 << 63, usize::MAX - 11, usize::MAX - 3, usize::MAX];
+        for start in near.into_iter().chain(far) {
+            ask_pass(asked, by, &table, start, &example.before);
+        }
+    }
+}
+
+/// Numbers in a body's head that fewer bits, or a sum of 32 bits, would take for the right ones or for ones in the table.
+fn far_offsets(asked: &mut dyn Ask, by: By) {
+    for example in (by.kind.examples)() {
+        for before in [0, 64] {
+            let table = [vec![0; before], whole(by, &example)].concat();
+            for at in (before + SUBTABLE_HEAD..table.len() - 4).step_by(4).take(7) {
+                for number in far_numbers(&table, at) {
+                    let mut table = table.clone();
+                    table[at..at + 4].copy_from_slice(&number.to_be_bytes());
+                    ask_pass(asked, by, &Rc::from(table), before, &example.before);
+                }
+            }
+        }
+    }
+}
+
+/// Numbers for the one at this place of the table.
+fn far_numbers(table: &[u8], at: usize) -> Vec<u32> {
+    let right = u32::from_be_bytes([table[at], table[at + 1], table[at + 2], table[at + 3]]);
+    let length = table.len() as u32;
+    let near = [0, 1, 2, right.wrapping_sub(1), right.wrapping_add(1), right.wrapping_add(2)];
+    let ends = [77, 14, 13, 12, 0].map(|back| length.saturating_sub(back));
+    let wrapped = [1 << 8, 1 << 16, 1 << 24, 1 << 31, u32::MAX - 75, u32::MAX - 63, u32::MAX - 11];
+    let wrapped = wrapped.map(|more| right.wrapping_add(more));
+    [&near[..], &ends, &wrapped, &[0x7FFF_FFFF, 0x8000_0000, u32::MAX - 1, u32::MAX]].concat()
+}
+
+/// Lengths of all parts, most of them no line's, on a right subtable and on one that is refused by itself.
+fn refused_lines(asked: &mut dyn Ask, by: By) {
+    let example = &(by.kind.examples)()[0];
+    let right: Rc<[u8]> = Rc::from(whole(by, example));
+    let none = Rc::from(&right[..SUBTABLE_HEAD - 1]);
+    let numbers = |count: usize| (0..count as u16).collect::<Vec<u16>>();
+    let lengths = [0, 1, 3, 5, LARGEST_ROOM, LARGEST_ROOM + 1];
+    for glyphs in lengths {
+        for tags in lengths {
+            for homes in [0, 1, 4] {
+                for used in [0, 1, 3, tags as u64, glyphs as u64 + 1, 1 << 32, u64::MAX] {
+                    let line = Line { glyphs: vec![10; glyphs], tags: numbers(tags), homes: numbers(homes), used };
+                    ask_pass(asked, by, &right, 0, &line);
+                    ask_pass(asked, by, &none, 0, &line);
+                }
+            }
+        }
+    }
+}
+
+/// Tables at the limit of length and above it, with a subtable at either end, on a line and on none.
+fn long_tables(asked: &mut dyn Ask, by: By) {
+    let example = &(by.kind.examples)()[0];
+    let subtable = whole(by, example);
+    let line = example.before.clone();
+    let no_line = Line { used: line.used + 1, ..line.clone() };
+    for length in [LONGEST_TABLE, LONGEST_TABLE + 1] {
+        let mut table = vec![0; length];
+        table[..subtable.len()].copy_from_slice(&subtable);
+        table[length - subtable.len()..].copy_from_slice(&subtable);
+        let table = Rc::from(table);
+        for start in [0, length - subtable.len(), length - 1, length, length + 1, usize::MAX] {
+            ask_pass(asked, by, &table, start, &line);
+            ask_pass(asked, by, &table, start, &no_line);
+        }
+    }
+}
+
+const LONG_LINES: usize = 12;
+
+/// Lines that fill the largest room, and almost.
+fn long_lines(asked: &mut dyn Ask, by: By, random: &mut Random) {
+    for _ in 0..LONG_LINES {
+        let glyphs = any_glyphs(random);
+        let table = Rc::from(subtable(by.kind.number, &(by.kind.any_body)(random, &glyphs)));
+        for used in [LARGEST_ROOM - 1, LARGEST_ROOM] {
+            let line = any_line_of(random, &glyphs, used, LARGEST_ROOM);
+            ask_pass(asked, by, &table, 0, &line);
+        }
+    }
+}
+
+const LINES_FOR_ONE_TABLE: u64 = 3;
+
+fn random_subtables(asked: &mut dyn Ask, by: By, random: &mut Random, cases: u64) {
+    let mut left = cases;
+    while left > 0 {
+        let glyphs = any_glyphs(random);
+        let made = any_subtable(random, by.kind, &glyphs);
+        let table = Rc::from(&made.table[..]);
+        let start = made.any_start(random);
+        let lines = left.min(LINES_FOR_ONE_TABLE);
+        for _ in 0..lines {
+            let longest = random.among(&[2, 5, 5, 12, 12, 12, 24, 60]);
+            let used = random.below(longest + 1);
+            let room = used + random.among(&[0, 0, 1, 9, 40]);
+            let mut line = any_line_of(random, &glyphs, used, room);
+            spoil(random, &mut line);
+            asked.ask(&table, Box::new(Pass { by, line, start, written: None }));
+        }
+        left -= lines;
+    }
+}
+
+/// Several subtables in a table, each asked for at its place.
+fn many_subtables(asked: &mut dyn Ask, random: &mut Random, cases: u64) {
+    for _ in 0..cases / 3 {
+        let glyphs = any_glyphs(random);
+        let kinds: Vec<&'static Kind> = (0..3).map(|_| &KINDS[random.below(KINDS.len())]).collect();
+        let subtables: Vec<Vec<u8>> =
+            kinds.iter().map(|kind| subtable(kind.number, &(kind.any_body)(random, &glyphs))).collect();
+        let table = Rc::from(subtables.concat());
+        let line = any_line_of(random, &glyphs, 9, 30);
+        let mut start = 0;
+        for (kind, subtable) in kinds.into_iter().zip(&subtables) {
+            ask_pass(asked, By { entry: Entry::MorxPass, kind }, &table, start, &line);
+            start += subtable.len();
+        }
+    }
+}
+
+/// A few glyphs: often low ones, sometimes the highest.
+pub fn any_glyphs(random: &mut Random) -> Range<u16> {
+    let count = 1 + random.below(9) as u16;
+    let first = random.among(&[0, 1, 10, 10, 10, 300, 0xFFFE - count]);
+    first..first + count
+}
+
+/// Hands over whole tables of any glyphs, often behind other bytes and now and then damaged, each a few times, as many times as
+/// there are cases: with the start, the glyphs, and a length for the line.
+pub fn for_each_table(
+    random: &mut Random,
+    cases: u64,
+    any_table: impl Fn(&mut Random, &Range<u16>) -> Vec<u8>,
+    show: &mut dyn FnMut(&mut Random, &Rc<[u8]>, u64, &Range<u16>, usize),
+) {
+    let mut left = cases;
+    while left > 0 {
+        let glyphs = any_glyphs(random);
+        let mut table = any_table(random, &glyphs);
+        if random.once_in(4) {
+            damage(random, &mut table);
+        }
+        let made = Made::behind_others(random, table, Vec::new());
+        let table = Rc::from(&made.table[..]);
+        let start = made.any_start(random);
+        let lines = left.min(LINES_FOR_ONE_TABLE);
+        for _ in 0..lines {
+            let longest = random.among(&[2, 5, 12, 12, 24]);
+            let used = random.below(longest + 1);
+            show(random, &table, start, &glyphs, used);
+        }
+        left -= lines;
+    }
+}
+
+/// Any subtable: mostly whole and of its kind, often behind other bytes.
+pub fn any_subtable(random: &mut Random, kind: &Kind, glyphs: &Range<u16>) -> Made {
+    let body = (kind.any_body)(random, glyphs);
+    let number = if random.once_in(30) { random.below(7) as u32 } else { kind.number };
+    let bits = if random.once_in(2) { 0 } else { random.number() as u32 & !0xFF };
+    let mut table = subtable(bits | number, &body);
+    match random.below(8) {
+        0 => damage_head(random, &mut table),
+        1 | 2 => damage(random, &mut table),
+        _ => {}
+    }
+    Made::behind_others(random, table, Vec::new())
+}
+
+/// Changes a number of the body's head.
+fn damage_head(random: &mut Random, table: &mut [u8]) {
+    let numbers = (table.len() - SUBTABLE_HEAD) / 4;
+    let at = SUBTABLE_HEAD + 4 * random.below(numbers.min(5));
+    let number = random.among(&far_numbers(table, at));
+    table[at..at + 4].copy_from_slice(&number.to_be_bytes());
+}
+
+/// Any line, mostly of these glyphs.
+pub fn any_line_of(random: &mut Random, glyphs: &Range<u16>, used: usize, room: usize) -> Line {
+    let mut line = any_line(random, used, room);
+    for glyph in &mut line.glyphs[..used] {
+        *glyph = match random.below(20) {
+            0 => DELETED,
+            1 => glyphs.end,
+            2 => random.word(),
+            _ => glyphs.start + random.below(glyphs.len()) as u16,
+        };
+    }
+    line
+}

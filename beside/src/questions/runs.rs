@@ -1,0 +1,324 @@
+//! Whole runs of morx tables beside document 01's run over the crate's chains, subtables and machines.
+
+use crate::questions::passes::{any_line_of, for_each_table, KINDS};
+use crate::questions::{Ask, Question};
+use crate::reference::line::{Line, LARGEST_ROOM};
+use crate::reference::oracle::{Answer, Fault, LONGEST_TABLE};
+use crate::reference::pass::{line_of, Kind, Written};
+use crate::reference::run::{Run, MOST_HEADS};
+use crate::reference::trace::describe_run;
+use crate::tables::insertion;
+use crate::tables::lookup::{damage, with_values};
+use crate::tables::morx::{chain, chosen_subtable, morx, subtable};
+use crate::tables::random::Random;
+use crate::tables::strings::for_each_string;
+use crate::wire::entries::Entry;
+use crate::wire::line::spoil;
+use crate::wire::reply::number;
+use std::ops::Range;
+use std::rc::Rc;
+
+/// A call of `aat_morx_run`.
+pub struct MorxRun {
+    pub line: Line,
+    pub start: u64,
+    /// Not 0 where the text runs from right to left.
+    pub right_to_left: u32,
+    /// What a document gives, with the heads, for its own examples.
+    pub written: Option<(Written, u32)>,
+}
+
+impl MorxRun {
+    fn run<'a>(&self, table: &'a [u8]) -> Run<'a> {
+        Run { table, start: self.start, right_to_left: self.right_to_left != 0 }
+    }
+
+    /// The answer, the line as the call has to leave it, and the heads, where they are counted.
+    fn after(&self, table: &[u8]) -> Result<(Answer<()>, Line, Option<u32>), Fault> {
+        let mut line = self.line.clone();
+        let run = self.run(table);
+        if let Some(answer) = run.refusal(&line) {
+            return Ok((answer, line, None));
+        }
+        let (answer, heads) = run.make(&mut line, &mut |_, _| {})?;
+        match &self.written {
+            Some((written, counted)) if !written.is(answer, &line) || *counted != heads => Err(Fault::Disputed),
+            _ => Ok((answer, line, Some(heads))),
+        }
+    }
+}
+
+impl Question for MorxRun {
+    fn entry(&self) -> Entry {
+        Entry::MorxRun
+    }
+
+    fn arguments(&self, held: u64, call: &mut Vec<u8>) {
+        self.line.lend(call);
+        call.extend(self.start.to_le_bytes());
+        call.extend(self.right_to_left.to_le_bytes());
+        call.extend((held as u32).to_le_bytes());
+    }
+
+    fn reply(&self, table: &[u8], held: u64, reply: &mut Vec<u8>) -> Result<(), Fault> {
+        let (answer, line, heads) = self.after(table)?;
+        line.reply(answer, reply);
+        reply.extend(heads.unwrap_or(held as u32).to_le_bytes());
+        reply.extend(line.used.to_le_bytes());
+        Ok(())
+    }
+
+    fn describe(&self, held: u64) -> String {
+        let (start, flag) = (self.start, self.right_to_left);
+        format!("run at start {}, right to left {}, lent heads {}, {}", start, flag, held as u32, self.line.describe())
+    }
+
+    fn describe_reply(&self, reply: &[u8]) -> String {
+        let heads = number(&reply[reply.len() - 12..reply.len() - 8]);
+        format!("heads {}, {}", heads, self.line.describe_reply_with_used(reply))
+    }
+
+    fn trace(&self, table: &[u8]) -> Vec<String> {
+        let run = self.run(table);
+        match run.refusal(&self.line) {
+            None => describe_run(&run, &self.line),
+            Some(_) => Vec::new(),
+        }
+    }
+}
+
+/// Every question about runs, with so many random ones.
+pub fn ask_all(asked: &mut dyn Ask, random: &mut Random, cases: u64) {
+    examples(asked);
+    one_subtable(asked);
+    cut_tables(asked);
+    far_starts(asked);
+    refused_lines(asked);
+    long_tables(asked);
+    many_heads(asked);
+    full_rooms(asked);
+    random_tables(asked, random, cases);
+}
+
+/// A run in either direction, with two numbers for the second.
+fn ask_run(asked: &mut dyn Ask, table: &Rc<[u8]>, start: usize, line: &Line) {
+    for right_to_left in [0, 1, 0x8000_0000] {
+        ask_one_way(asked, table, start, line, right_to_left);
+    }
+}
+
+fn ask_one_way(asked: &mut dyn Ask, table: &Rc<[u8]>, start: usize, line: &Line, right_to_left: u32) {
+    let (line, start) = (line.clone(), start as u64);
+    asked.ask(table, Box::new(MorxRun { line, start, right_to_left, written: None }));
+}
+
+/// The lookup of document 01: 5 becomes 7 and 6 becomes 9.
+pub fn trimmed() -> Vec<u8> {
+    with_values(8, 5, &[7, 9])
+}
+
+/// A subtable of this order that puts two glyphs in behind each 10.
+pub fn puts_in(order: u32) -> Vec<u8> {
+    let Kind { number, examples, .. } = insertion::KIND;
+    subtable(order | number, &examples().swap_remove(0).body)
+}
+
+/// Document 01's run, and what it says of chains and subtables.
+fn examples(asked: &mut dyn Ask) {
+    let one = subtable(4, &trimmed());
+    let of_one = |flags| chain(flags, &[], &[one.clone()]);
+    let vertical = chosen_subtable(0x8000_0004, 1, &trimmed());
+    let both_ways = chosen_subtable(0xA000_0004, 1, &trimmed());
+    let left_out = chosen_subtable(3, 1, &trimmed());
+    let changed = [7, 9, 20];
+    let same = [5, 6, 20];
+    let written: [(Vec<u8>, [u16; 3], u32); 8] = [
+        (morx(&[of_one(1)]), changed, 2),
+        (morx(&[of_one(3)]), changed, 2),
+        (morx(&[of_one(2)]), same, 2),
+        (morx(&[of_one(2), of_one(1)]), changed, 4),
+        (morx(&[chain(1, &[7; 24], &[vertical.clone(), left_out.clone()])]), same, 3),
+        (morx(&[chain(1, &[7; 12], &[vertical, left_out, both_ways])]), changed, 4),
+        (morx(&[]), same, 0),
+        (morx(&[chain(1, &[], &[])]), same, 1),
+    ];
+    for (table, glyphs, heads) in written {
+        let written = Written { answer: Answer::Done(()), glyphs: glyphs.to_vec(), homes: Some(vec![0, 1, 2]) };
+        let line = line_of(&same, 3);
+        let run = MorxRun { line, start: 0, right_to_left: 0, written: Some((written, heads)) };
+        asked.ask(&Rc::from(table), Box::new(run));
+    }
+}
+
+/// Every example of every kind, alone in a table, under every order and direction.
+fn one_subtable(asked: &mut dyn Ask) {
+    for kind in &KINDS {
+        for example in (kind.examples)() {
+            for order in 0..16 {
+                let subtable = chosen_subtable(order << 28 | kind.number, 1, &example.body);
+                ask_run(asked, &Rc::from(morx(&[chain(1, &[], &[subtable])])), 0, &example.before);
+            }
+        }
+    }
+}
+
+/// Two chains, the second with two subtables.
+fn two_chains() -> Vec<u8> {
+    let first = chain(1, &[0; 12], &[subtable(4, &trimmed())]);
+    let second = chain(1, &[], &[puts_in(0), subtable(4, &trimmed())]);
+    morx(&[first, second])
+}
+
+const LINE: [u16; 4] = [5, 10, 6, 20];
+
+/// A table cut at every byte, at its own start and behind other bytes.
+fn cut_tables(asked: &mut dyn Ask) {
+    for before in [0, 1, 3] {
+        let table = [&[0, 2, 0][..before], &two_chains()].concat();
+        for length in 0..=table.len() {
+            ask_run(asked, &Rc::from(&table[..length]), before, &line_of(&LINE, 9));
+        }
+    }
+}
+
+fn far_starts(asked: &mut dyn Ask) {
+    let table = two_chains();
+    let length = table.len();
+    let table = Rc::from(table);
+    let near = [1, 8, length - 8, length - 1, length, length + 1];
+    let far = [1 << 16, 1 << 31, 1 << 32, (1 << 32) + 1, 1 << 63, usize::MAX - 7, usize::MAX];
+    for start in near.into_iter().chain(far) {
+        ask_run(asked, &table, start, &line_of(&LINE, 9));
+    }
+}
+
+/// Lengths of all parts, most of them no line's, at a start in the table and past it.
+fn refused_lines(asked: &mut dyn Ask) {
+    let table = Rc::from(two_chains());
+    let numbers = |count: usize| (0..count as u16).collect::<Vec<u16>>();
+    for glyphs in [0, 1, 5, LARGEST_ROOM, LARGEST_ROOM + 1] {
+        for tags in [0, 1, 5, LARGEST_ROOM, LARGEST_ROOM + 1] {
+            for homes in [0, 1, 4] {
+                for used in [0, 1, 3, tags as u64, glyphs as u64 + 1, 1 << 32, u64::MAX] {
+                    let line = Line { glyphs: vec![10; glyphs], tags: numbers(tags), homes: numbers(homes), used };
+                    ask_run(asked, &table, 0, &line);
+                    ask_run(asked, &table, usize::MAX, &line);
+                }
+            }
+        }
+    }
+}
+
+/// Tables at the limit of length and above it.
+fn long_tables(asked: &mut dyn Ask) {
+    for length in [LONGEST_TABLE, LONGEST_TABLE + 1] {
+        let mut table = two_chains();
+        table.resize(length, 0);
+        let table = Rc::from(table);
+        for start in [0, length - 1, length, length + 1] {
+            ask_run(asked, &table, start, &line_of(&LINE, 9));
+            ask_run(asked, &table, start, &Line { used: 10, ..line_of(&LINE, 9) });
+        }
+    }
+}
+
+/// As many heads as are counted, one fewer and more: subtables that come again because their length is 0, and chains. The
+/// last subtable puts glyphs in, for which there is room or not.
+fn many_heads(asked: &mut dyn Ask) {
+    for again in [subtable(4, &trimmed()), chosen_subtable(4, 2, &trimmed()), puts_in(0)] {
+        for count in [MOST_HEADS - 3, MOST_HEADS - 2, MOST_HEADS - 1, MOST_HEADS, u32::MAX] {
+            let mut many = chain(1, &[], &[[&[0; 4], &again[4..]].concat()]);
+            many[12..16].copy_from_slice(&count.to_be_bytes());
+            for behind in [vec![], vec![chain(1, &[], &[])], vec![chain(1, &[], &[puts_in(0)])]] {
+                let table = Rc::from(morx(&[vec![many.clone()], behind].concat()));
+                ask_one_way(asked, &table, 0, &line_of(&LINE, 4), 0);
+                ask_one_way(asked, &table, 0, &line_of(&LINE, 9), 1);
+            }
+        }
+    }
+    for count in [1, MOST_HEADS - 1, MOST_HEADS, MOST_HEADS + 1, u32::MAX] {
+        let mut table = morx(&[chain(1, &[], &[])]);
+        table[4..8].copy_from_slice(&count.to_be_bytes());
+        table[12..16].copy_from_slice(&[0; 4]);
+        ask_one_way(asked, &Rc::from(table), 0, &line_of(&LINE, 9), 0);
+    }
+}
+
+/// Rooms that the insertions of several subtables fill, or not, in every order.
+fn full_rooms(asked: &mut dyn Ask) {
+    let orders = [0, 0x1000_0000, 0x4000_0000, 0x5000_0000];
+    for_each_string(&orders, 3, &mut |orders| {
+        let parts: Vec<Vec<u8>> = orders.iter().map(|order| puts_in(*order)).collect();
+        let table = Rc::from(morx(&[chain(1, &[], &parts), chain(1, &[], &[subtable(4, &trimmed())])]));
+        for room in [3, 4, 6, 7, 8, 10, 11, 12, 14, 15, 16, 30] {
+            ask_run(asked, &table, 0, &line_of(&[10, 5, 10], room));
+        }
+    });
+}
+
+fn random_tables(asked: &mut dyn Ask, random: &mut Random, cases: u64) {
+    for_each_table(random, cases, any_morx, &mut |random, table, start, glyphs, used| {
+        let room = used + random.among(&[0, 1, 9, 40, 200]);
+        let mut line = any_line_of(random, glyphs, used, room);
+        spoil(random, &mut line);
+        let right_to_left = random.among(&[0, 1, 2, u32::MAX]);
+        asked.ask(table, Box::new(MorxRun { line, start, right_to_left, written: None }));
+    });
+}
+
+/// Any table: some chains, each of some subtables; now and then a count or a length is wrong.
+pub fn any_morx(random: &mut Random, glyphs: &Range<u16>) -> Vec<u8> {
+    let chains: Vec<Vec<u8>> = (0..random.below(4)).map(|_| any_chain(random, glyphs)).collect();
+    let mut table = morx(&chains);
+    if random.once_in(12) {
+        table[7] = random.below(6) as u8;
+    }
+    table
+}
+
+fn any_chain(random: &mut Random, glyphs: &Range<u16>) -> Vec<u8> {
+    let subtables: Vec<Vec<u8>> = (0..random.below(4)).map(|_| any_chained(random, glyphs)).collect();
+    let features = random.among(&[0, 0, 12, 36]);
+    let mut made = chain(any_flags(random), &random.bytes(features), &subtables);
+    match random.below(24) {
+        0 => made[15] = random.below(6) as u8,
+        1 => made[11] = random.below(4) as u8,
+        2 => made[7] = random.number() as u8,
+        3 => made[4..8].copy_from_slice(&[0; 4]),
+        _ => {}
+    }
+    made
+}
+
+fn any_chained(random: &mut Random, glyphs: &Range<u16>) -> Vec<u8> {
+    let kind: &Kind = &KINDS[random.below(KINDS.len())];
+    let number = if random.once_in(20) { random.below(256) as u32 } else { kind.number };
+    let bits = if random.once_in(8) { random.number() as u32 & !0xFF } else { random.among(&ORDERS) };
+    let mut made = chosen_subtable(bits | number, any_flags(random), &(kind.any_body)(random, glyphs));
+    match random.below(30) {
+        0 => made[3] = random.number() as u8,
+        1 => made[..4].copy_from_slice(&[0; 4]),
+        2 => damage(random, &mut made),
+        _ => {}
+    }
+    made
+}
+
+/// The coverage bits of the four orders, and those for vertical text.
+const ORDERS: [u32; 10] = [
+    0,
+    0x1000_0000,
+    0x4000_0000,
+    0x5000_0000,
+    0x2000_0000,
+    0x3000_0000,
+    0x6000_0000,
+    0xE000_0000,
+    0xF000_0000,
+    0x8000_0000,
+];
+
+/// Mostly flags that choose.
+fn any_flags(random: &mut Random) -> u32 {
+    random.among(&[1, 1, 1, 3, 3, 0x8000_0001, 2, 0, 0x8000_0000])
+}

@@ -1,0 +1,99 @@
+//! Document 01's whole run of a morx table, over the crate's chains and subtables.
+
+use crate::reference::line::Line;
+use crate::reference::opened::aat::morx as opened;
+use crate::reference::oracle::aat::morx::{chains, Chain, Subtable};
+use crate::reference::oracle::{caught, Answer, Fault, LONGEST_TABLE};
+use crate::reference::passes_by_crate::{caught_pass, is_chosen};
+
+/// The most heads that are counted.
+pub const MOST_HEADS: u32 = 65_535;
+
+/// A subtable on the way of a run.
+pub struct Visit<'a> {
+    pub coverage: u32,
+    pub flags: u32,
+    /// Whether the run makes its pass, if it is of a kind that can be read.
+    pub is_chosen: bool,
+    /// Whether the line is turned round for it.
+    pub is_turned: bool,
+    /// The same subtable, by the crate's copy.
+    pub opened: Option<opened::SubtableKind<'a>>,
+}
+
+/// A run from this place of a table on, on a line whose text runs this way.
+pub struct Run<'a> {
+    pub table: &'a [u8],
+    pub start: u64,
+    pub right_to_left: bool,
+}
+
+/// What a run from this place of a table on is refused for, on what is a line or not.
+pub fn refusal_of_run(table: &[u8], is_line: bool, start: u64) -> Option<Answer<()>> {
+    let refusals = [
+        (table.len() > LONGEST_TABLE, Answer::Table),
+        (!is_line, Answer::Line),
+        (start > table.len() as u64, Answer::Head),
+    ];
+    refusals.into_iter().find(|refusal| refusal.0).map(|refusal| refusal.1)
+}
+
+impl Run<'_> {
+    /// What the run is refused for.
+    pub fn refusal(&self, line: &Line) -> Option<Answer<()>> {
+        refusal_of_run(self.table, line.is_line(), self.start)
+    }
+
+    /// The answer and the heads that were counted; each subtable is shown before its pass, with the line.
+    pub fn make(&self, line: &mut Line, show: &mut dyn FnMut(Visit, &Line)) -> Result<(Answer<()>, u32), Fault> {
+        let start = self.start as u32;
+        let mut heads = 0;
+        let mut copies = opened::chains(self.table, start);
+        let mut left = chains(self.table, start);
+        while let Some(chain) = caught(|| left.next())? {
+            let copy = copies.next();
+            if heads == MOST_HEADS {
+                return Ok((Answer::Limit, heads));
+            }
+            heads += 1;
+            let mut copies = copy.map(|copy| copy.subtables());
+            let mut left = chain.subtables();
+            while let Some(subtable) = caught(|| left.next())? {
+                let copy = copies.as_mut().and_then(|copies| copies.next());
+                if heads == MOST_HEADS {
+                    return Ok((Answer::Limit, heads));
+                }
+                heads += 1;
+                let visit = self.visit(&chain, &subtable, copy.and_then(|copy| copy.kind()));
+                let (is_chosen, is_turned) = (visit.is_chosen, visit.is_turned);
+                show(visit, line);
+                if is_chosen && self.pass(&subtable, is_turned, line)? == Answer::Full {
+                    return Ok((Answer::Full, heads));
+                }
+            }
+        }
+        Ok((Answer::Done(()), heads))
+    }
+
+    fn visit<'a>(&self, chain: &Chain, subtable: &Subtable, opened: Option<opened::SubtableKind<'a>>) -> Visit<'a> {
+        let (coverage, flags) = (subtable.coverage(), subtable.flags());
+        let is_chosen = is_chosen(chain, subtable);
+        Visit { coverage, flags, is_chosen, is_turned: subtable.should_reverse(self.right_to_left), opened }
+    }
+
+    /// The pass by a subtable that was chosen, the line turned round before and after where that is asked for.
+    fn pass(&self, subtable: &Subtable, is_turned: bool, line: &mut Line) -> Result<Answer<()>, Fault> {
+        let kind = match caught(|| subtable.kind())? {
+            Some(kind) => kind,
+            None => return Ok(Answer::Head),
+        };
+        if is_turned {
+            line.reverse();
+        }
+        let answer = caught_pass(&kind, line)?;
+        if is_turned {
+            line.reverse();
+        }
+        Ok(answer)
+    }
+}

@@ -1,0 +1,16 @@
+//! Tables, subtables, glyphs and names as bytes: those of the documents, all small ones, and any from a seed.
+
+pub mod contextual;
+pub mod insertion;
+pub mod kerning;
+pub mod kerning_examples;
+pub mod language;
+pub mod ligature;
+pub mod lookup;
+pub mod morx;
+pub mod noncontextual;
+pub mod random;
+pub mod rearrangement;
+pub mod shaper_inputs;
+pub mod states;
+pub mod strings;
