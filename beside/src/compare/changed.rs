@@ -1,12 +1,8 @@
 //! Puts one part of the questions to a changed crate and to the box, up to the first answer in which they differ.
 
 use crate::compare::limit::Limited;
-use crate::questions::{
-    classes, kerning_lists, kerning_pairs, kerning_passes, kerning_runs, kerning_steps, language, lists, lookup,
-    passes, runs, steps, verbs, Ask, Question,
-};
-use crate::reference::kerning::Kerning;
-use crate::reference::{oracle, step};
+use crate::questions::{parts, Ask, Part, Question};
+use crate::reference::oracle;
 use crate::tables::random::Random;
 use crate::wire::pipe::{lend_table, TheBox};
 use std::process::exit;
@@ -33,36 +29,14 @@ pub fn main() -> ! {
     }
 }
 
-/// Every question of a part.
-fn ask(part: &str, asked: &mut Limited, random: &mut Random, cases: u64) {
-    match part {
-        "lookup" => lookup::ask_all(asked.part(), random, cases),
-        "classes" => classes::ask_all(asked.part(), random, cases),
-        "language" => language::ask_all(asked.part(), random, cases),
-        "verbs" => verbs::ask_all(asked.part(), random, cases),
-        "lists" => lists::ask_all(asked.part(), random, cases),
-        "runs" => runs::ask_all(asked.part(), random, cases),
-        "kern" => ask_kerning(Kerning::Kern, asked, random, cases),
-        "kerx" => ask_kerning(Kerning::Kerx, asked, random, cases),
-        _ => ask_kind(part, asked, random, cases),
+/// Every question of the parts of this name.
+fn ask(name: &str, asked: &mut Limited, random: &mut Random, cases: u64) {
+    let parts: Vec<Part> = parts().into_iter().filter(|part| part.name == name).collect();
+    if parts.is_empty() {
+        fail(format!("there is no part {}", name));
     }
-}
-
-fn ask_kerning(kerning: Kerning, asked: &mut Limited, random: &mut Random, cases: u64) {
-    kerning_passes::ask_all(asked.part(), kerning, random, cases);
-    kerning_runs::ask_all(asked.part(), kerning, random, cases);
-    kerning_pairs::ask_all(asked.part(), kerning, random, cases);
-    kerning_steps::ask_all(asked.part(), kerning, random, cases);
-    kerning_lists::ask_all(asked.part(), kerning, random, cases);
-}
-
-/// The passes of a kind, and the steps of its machine.
-fn ask_kind(part: &str, asked: &mut Limited, random: &mut Random, cases: u64) {
-    let kind = passes::KINDS.iter().find(|kind| kind.name == part);
-    let kind = kind.unwrap_or_else(|| fail(format!("there is no part {}", part)));
-    passes::ask_own(asked.part(), kind, random, cases);
-    for machine in step::MACHINES.iter().filter(|machine| machine.kind.number == kind.number) {
-        steps::ask_all(asked.part(), machine, random, cases);
+    for part in parts {
+        part.ask(asked.part(), random, cases);
     }
 }
 

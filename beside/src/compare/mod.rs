@@ -14,12 +14,8 @@ use crate::compare::entries_sample::EntriesSample;
 use crate::compare::limit::Limited;
 use crate::compare::progress::Progress;
 use crate::compare::sample::Sample;
-use crate::questions::{
-    classes, kerning_lists, kerning_pairs, kerning_passes, kerning_runs, kerning_steps, language, lists, lookup,
-    passes, runs, steps, verbs, Ask,
-};
-use crate::reference::kerning::Kerning;
-use crate::reference::{oracle, step};
+use crate::questions::{lookup, parts, Ask};
+use crate::reference::oracle;
 use crate::tables::random::Random;
 use crate::wire::entries;
 use crate::wire::pipe::TheBox;
@@ -51,25 +47,8 @@ pub fn main() -> ExitCode {
 fn ask_all(asked: &mut dyn Ask, cases: u64, seed: u64, seconds: u64) -> u64 {
     let random = &mut Random::new(seed);
     let asked = &mut Limited::new(asked, seconds);
-    lookup::ask_all(asked.part(), random, cases);
-    classes::ask_all(asked.part(), random, cases);
-    language::ask_all(asked.part(), random, cases / 2);
-    verbs::ask_all(asked.part(), random, cases / 5);
-    for kind in &passes::KINDS {
-        passes::ask_own(asked.part(), kind, random, cases / 5);
-    }
-    passes::ask_general(asked.part(), random, cases / 25);
-    for machine in &step::MACHINES {
-        steps::ask_all(asked.part(), machine, random, cases / 5);
-    }
-    lists::ask_all(asked.part(), random, cases / 5);
-    runs::ask_all(asked.part(), random, cases / 5);
-    for kerning in [Kerning::Kern, Kerning::Kerx] {
-        kerning_pairs::ask_all(asked.part(), kerning, random, cases / 5);
-        kerning_passes::ask_all(asked.part(), kerning, random, cases / 5);
-        kerning_steps::ask_all(asked.part(), kerning, random, cases / 5);
-        kerning_lists::ask_all(asked.part(), kerning, random, cases / 5);
-        kerning_runs::ask_all(asked.part(), kerning, random, cases / 5);
+    for part in parts() {
+        part.ask(asked.part(), random, cases / part.every);
     }
     asked.left_out
 }

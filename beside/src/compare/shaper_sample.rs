@@ -5,14 +5,15 @@
 //! used tags and the homes. A refusal has 0 for all but the answer.
 
 use crate::compare::sample::Sample;
-use crate::questions::passes::{any_glyphs, KINDS};
-use crate::questions::runs::{any_morx, puts_in, trimmed};
 use crate::reference::line::LARGEST_ROOM;
 use crate::reference::oracle::Answer;
 use crate::reference::pass::line_of;
 use crate::reference::run::MOST_HEADS;
 use crate::reference::shaper::{input_of, shaped, Shaped, SHAPER_TABLE};
+use crate::tables::kinds::KINDS;
+use crate::tables::lines::any_glyphs;
 use crate::tables::lookup::words;
+use crate::tables::morx::{any_morx, puts_in, trimmed};
 use crate::tables::morx::{chain, chosen_subtable, morx, subtable};
 use crate::tables::random::Random;
 use crate::tables::shaper_inputs::input_again;

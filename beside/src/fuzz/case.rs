@@ -7,7 +7,7 @@ use crate::questions::kerning_runs::KerningRun;
 use crate::questions::language::Language;
 use crate::questions::lists::{Coverage, Next, Start, LISTS};
 use crate::questions::lookup::{Lookup, Survey};
-use crate::questions::passes::{By, Pass, KINDS};
+use crate::questions::passes::{By, Pass};
 use crate::questions::runs::MorxRun;
 use crate::questions::steps::Step;
 use crate::questions::value::{Asked, Value};
@@ -22,6 +22,7 @@ use crate::reference::oracle::aat::{kern, kerx, morx::chains};
 use crate::reference::oracle::Fault;
 use crate::reference::step::{Machine, Told, MACHINES};
 use crate::tables::kerning::Edition;
+use crate::tables::kinds::KINDS;
 use crate::wire::entries::{Entry, ENTRIES};
 use crate::wire::pipe::lend_table;
 

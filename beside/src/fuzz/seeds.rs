@@ -3,15 +3,15 @@
 use crate::fuzz::case::{kerning_of, list_of, machine_of};
 use crate::fuzz::source::{LONGEST, LONGEST_NAME};
 use crate::questions::lists::any_cursor;
-use crate::questions::passes::{any_glyphs, KINDS};
 use crate::reference::kerning::Kerning;
 use crate::reference::kerning_by_copy::STATE;
 use crate::reference::kerning_lists_by_copy as by_copy;
 use crate::reference::line::{Line, DELETED};
 use crate::reference::lists_by_copy::{chains_from, lists_of_chain, next, Cursor, List};
-use crate::reference::pass::Kind;
 use crate::tables::kerning::{any_body, formats, Edition};
+use crate::tables::kinds::{Kind, KINDS};
 use crate::tables::language::any_ltag;
+use crate::tables::lines::any_glyphs;
 use crate::tables::lookup::{words, Made};
 use crate::tables::morx::{any_heads, chain, morx, subtable};
 use crate::tables::random::Random;

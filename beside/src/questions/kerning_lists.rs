@@ -1,6 +1,5 @@
 //! The subtables of kern and kerx, as cursors go through them, beside the crate's iterators.
 
-use crate::questions::kerning_pairs::editions;
 use crate::questions::kerning_runs::{any_table, behind_others, some_table, BEFORE};
 use crate::questions::lists::{far_places, lent, Counted, ELEMENTS};
 use crate::questions::{Ask, Question};
@@ -8,6 +7,7 @@ use crate::reference::kerning::Kerning;
 use crate::reference::kerning_lists_by_copy::{list_from, next, Cursor};
 use crate::reference::kerning_run::Visit;
 use crate::reference::oracle::{caught, Answer, Fault, LONGEST_TABLE};
+use crate::tables::kerning::editions;
 use crate::tables::kerning::Edition;
 use crate::tables::lookup::{damage, Made};
 use crate::tables::random::Random;

@@ -1,11 +1,11 @@
 //! Numbers of pairs of glyphs beside the crate's.
 
-use crate::questions::passes::any_glyphs;
 use crate::questions::value::{Asked, Value};
 use crate::questions::Ask;
 use crate::reference::kerning::{Kerning, Subtable};
 use crate::reference::oracle::{caught, Answer, Fault, LONGEST_TABLE};
-use crate::tables::kerning::{any_subtable, classes, formats, Edition, Pair};
+use crate::tables::kerning::{any_subtable, classes, editions, formats, Edition, Pair};
+use crate::tables::lines::any_glyphs;
 use crate::tables::lookup::with_values;
 use crate::tables::random::Random;
 use crate::wire::entries::Entry;
@@ -69,25 +69,6 @@ fn ask_pair(asked: &mut dyn Ask, table: &Rc<[u8]>, start: u64, edition: Edition,
 }
 
 const PAIRS: [Pair; 5] = [(5, 6, 10), (5, 7, -20), (6, 5, i16::MIN), (0xFFFF, 5, 30), (0xFFFF, 0xFFFF, i16::MAX)];
-
-/// The editions of a table.
-pub fn editions(kerning: Kerning) -> &'static [Edition] {
-    use Kerning::{Kern, Kerx};
-    const KERN: [Edition; 3] = [Edition::new(Kern, 0, 0), Edition::new(Kern, 1, 0), Edition::new(Kern, 0xFFFF, 0)];
-    const KERX: [Edition; 7] = [
-        Edition::new(Kerx, 2, 0),
-        Edition::new(Kerx, 3, 7),
-        Edition::new(Kerx, 4, 0),
-        Edition::new(Kerx, 4, 1),
-        Edition::new(Kerx, 4, 3),
-        Edition::new(Kerx, 4, u32::MAX),
-        Edition::new(Kerx, 0xFFFF, 2),
-    ];
-    match kerning {
-        Kern => &KERN,
-        Kerx => &KERX,
-    }
-}
 
 /// A subtable of each format that has pairs.
 fn of_pairs(edition: Edition) -> Vec<Vec<u8>> {

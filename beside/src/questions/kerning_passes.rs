@@ -1,7 +1,5 @@
 //! Kerning passes beside the crate's formats in document 01's pass.
 
-use crate::questions::kerning_pairs::editions;
-use crate::questions::passes::any_glyphs;
 use crate::questions::{Ask, Question};
 use crate::reference::kerning::{Kerned, Kerning, Subtable, LARGEST_ADJUSTMENT};
 use crate::reference::kerning_by_copy::open;
@@ -9,8 +7,10 @@ use crate::reference::kerning_trace::describe_pass;
 use crate::reference::line::{Line, DELETED, LARGEST_ROOM};
 use crate::reference::oracle::{Answer, Fault, LONGEST_TABLE};
 use crate::reference::pass::line_of;
+use crate::tables::kerning::editions;
 use crate::tables::kerning::{any_body, any_subtable, formats, Edition};
 use crate::tables::kerning_examples::{documented, pushes, runs_on_past_its_end, small_bodies, Documented};
+use crate::tables::lines::any_glyphs;
 use crate::tables::random::Random;
 use crate::wire::entries::Entry;
 use std::rc::Rc;

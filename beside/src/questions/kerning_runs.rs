@@ -1,6 +1,5 @@
 //! Whole runs of kern and kerx tables beside document 01's run over the crate's subtables.
 
-use crate::questions::kerning_pairs::editions;
 use crate::questions::passes::for_each_table;
 use crate::questions::{Ask, Question};
 use crate::reference::kerning::{Kerned, Kerning, ALONE_AT};
@@ -10,6 +9,7 @@ use crate::reference::line::{Line, LARGEST_ROOM};
 use crate::reference::oracle::{Answer, Fault, LONGEST_TABLE};
 use crate::reference::pass::line_of;
 use crate::reference::run::MOST_HEADS;
+use crate::tables::kerning::editions;
 use crate::tables::kerning::{any_body, formats, Edition};
 use crate::tables::kerning_examples::{documented, Documented};
 use crate::tables::lookup::damage;

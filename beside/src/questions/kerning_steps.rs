@@ -1,17 +1,17 @@
 //! Lone kerning steps beside the crate's copy, from fresh and from lent states.
 
-use crate::questions::kerning_pairs::editions;
-use crate::questions::passes::any_glyphs;
 use crate::questions::{Ask, Question};
 use crate::reference::kerning::{are_roomy, Kerning};
 use crate::reference::kerning_by_copy::{open, DEEPEST, STATE};
 use crate::reference::line::LARGEST_ROOM;
 use crate::reference::oracle::{Answer, Fault, LONGEST_TABLE};
 use crate::reference::trace::describe_state;
+use crate::tables::kerning::editions;
 use crate::tables::kerning::{any_subtable, Edition};
 use crate::tables::kerning_examples::{documented, pushes, runs_on_past_its_end, small_bodies, Documented};
+use crate::tables::lines::{any_along, any_glyphs};
 use crate::tables::random::Random;
-use crate::wire::along::{add_along, along_of, any_along, describe_along, lend_along};
+use crate::wire::along::{add_along, along_of, describe_along, lend_along};
 use crate::wire::entries::Entry;
 use crate::wire::reply::{add, number, numbers};
 use std::rc::Rc;

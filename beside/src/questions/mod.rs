@@ -15,7 +15,11 @@ pub mod steps;
 pub mod value;
 pub mod verbs;
 
+use crate::reference::kerning::Kerning;
 use crate::reference::oracle::Fault;
+use crate::reference::step::MACHINES;
+use crate::tables::kinds::KINDS;
+use crate::tables::random::Random;
 use crate::wire::entries::Entry;
 use std::rc::Rc;
 
@@ -53,4 +57,59 @@ pub trait Ask {
     fn ask_alone(&mut self, question: Box<dyn Question>) {
         self.ask(&Rc::from(Vec::new()), question);
     }
+}
+
+/// Questions that belong together.
+pub struct Part {
+    /// What it is called in beside/changes.
+    pub name: &'static str,
+    /// It has one random case where a run has so many.
+    pub every: u64,
+    ask: Box<Asks>,
+}
+
+type Asks = dyn Fn(&mut dyn Ask, &mut Random, u64);
+
+impl Part {
+    fn new(name: &'static str, every: u64, ask: impl Fn(&mut dyn Ask, &mut Random, u64) + 'static) -> Self {
+        Part { name, every, ask: Box::new(ask) }
+    }
+
+    /// Puts all of its questions, with so many random ones.
+    pub fn ask(&self, asked: &mut dyn Ask, random: &mut Random, cases: u64) {
+        (self.ask)(asked, random, cases)
+    }
+}
+
+/// All parts, in the order in which they are asked.
+pub fn parts() -> Vec<Part> {
+    let mut parts = vec![
+        Part::new("lookup", 1, lookup::ask_all),
+        Part::new("classes", 1, classes::ask_all),
+        Part::new("language", 2, language::ask_all),
+        Part::new("verbs", 5, verbs::ask_all),
+    ];
+    for kind in &KINDS {
+        parts.push(Part::new(kind.name, 5, move |asked, random, cases| passes::ask_own(asked, kind, random, cases)));
+    }
+    parts.push(Part::new("passes", 25, passes::ask_general));
+    for machine in &MACHINES {
+        let ask = move |asked: &mut dyn Ask, random: &mut Random, cases| steps::ask_all(asked, machine, random, cases);
+        parts.push(Part::new(machine.kind.name, 5, ask));
+    }
+    parts.push(Part::new("lists", 5, lists::ask_all));
+    parts.push(Part::new("runs", 5, runs::ask_all));
+    let of_kerning: [fn(&mut dyn Ask, Kerning, &mut Random, u64); 5] = [
+        kerning_pairs::ask_all,
+        kerning_passes::ask_all,
+        kerning_steps::ask_all,
+        kerning_lists::ask_all,
+        kerning_runs::ask_all,
+    ];
+    for kerning in [Kerning::Kern, Kerning::Kerx] {
+        for ask in of_kerning {
+            parts.push(Part::new(kerning.name(), 5, move |asked, random, cases| ask(asked, kerning, random, cases)));
+        }
+    }
+    parts
 }

@@ -3,22 +3,19 @@
 use crate::questions::{Ask, Question};
 use crate::reference::line::{Line, DELETED, LARGEST_ROOM};
 use crate::reference::oracle::{caught, Answer, Fault, LONGEST_TABLE};
-use crate::reference::pass::{line_of, Example, Kind, Written};
+use crate::reference::pass::line_of;
 use crate::reference::passes_by_crate::{caught_pass, number};
 use crate::reference::steps_by_copy::open;
 use crate::reference::trace::describe_pass;
+use crate::tables::insertion;
+use crate::tables::kinds::{any_subtable, far_numbers, Example, Kind, Written, KINDS};
+use crate::tables::lines::{any_glyphs, any_line_of, spoil};
 use crate::tables::lookup::{damage, Made};
 use crate::tables::morx::{in_chain, subtable, the_subtable, SUBTABLE_HEAD};
 use crate::tables::random::Random;
-use crate::tables::{contextual, insertion, ligature, noncontextual, rearrangement};
 use crate::wire::entries::Entry;
-use crate::wire::line::{any_line, spoil};
 use std::ops::Range;
 use std::rc::Rc;
-
-/// The kinds of subtables.
-pub static KINDS: [Kind; 5] =
-    [rearrangement::KIND, noncontextual::KIND, contextual::KIND, ligature::KIND, insertion::KIND];
 
 /// A pass by subtables of a kind: the kind's own, or the one that takes every kind.
 #[derive(Clone, Copy)]
@@ -253,17 +250,6 @@ fn far_offsets(asked: &mut dyn Ask, by: By) {
     }
 }
 
-/// Numbers for the one at this place of the table.
-fn far_numbers(table: &[u8], at: usize) -> Vec<u32> {
-    let right = u32::from_be_bytes([table[at], table[at + 1], table[at + 2], table[at + 3]]);
-    let length = table.len() as u32;
-    let near = [0, 1, 2, right.wrapping_sub(1), right.wrapping_add(1), right.wrapping_add(2)];
-    let ends = [77, 14, 13, 12, 0].map(|back| length.saturating_sub(back));
-    let wrapped = [1 << 8, 1 << 16, 1 << 24, 1 << 31, u32::MAX - 75, u32::MAX - 63, u32::MAX - 11];
-    let wrapped = wrapped.map(|more| right.wrapping_add(more));
-    [&near[..], &ends, &wrapped, &[0x7FFF_FFFF, 0x8000_0000, u32::MAX - 1, u32::MAX]].concat()
-}
-
 /// Lengths of all parts, most of them no line's, on a right subtable and on one that is refused by itself.
 fn refused_lines(asked: &mut dyn Ask, by: By) {
     let example = &(by.kind.examples)()[0];
@@ -355,13 +341,6 @@ fn many_subtables(asked: &mut dyn Ask, random: &mut Random, cases: u64) {
     }
 }
 
-/// A few glyphs: often low ones, sometimes the highest.
-pub fn any_glyphs(random: &mut Random) -> Range<u16> {
-    let count = 1 + random.below(9) as u16;
-    let first = random.among(&[0, 1, 10, 10, 10, 300, 0xFFFE - count]);
-    first..first + count
-}
-
 /// Hands over whole tables of any glyphs, often behind other bytes and now and then damaged, each a few times, as many times as
 /// there are cases: with the start, the glyphs, and a length for the line.
 pub fn for_each_table(
@@ -388,40 +367,4 @@ pub fn for_each_table(
         }
         left -= lines;
     }
-}
-
-/// Any subtable: mostly whole and of its kind, often behind other bytes.
-pub fn any_subtable(random: &mut Random, kind: &Kind, glyphs: &Range<u16>) -> Made {
-    let body = (kind.any_body)(random, glyphs);
-    let number = if random.once_in(30) { random.below(7) as u32 } else { kind.number };
-    let bits = if random.once_in(2) { 0 } else { random.number() as u32 & !0xFF };
-    let mut table = subtable(bits | number, &body);
-    match random.below(8) {
-        0 => damage_head(random, &mut table),
-        1 | 2 => damage(random, &mut table),
-        _ => {}
-    }
-    Made::behind_others(random, table, Vec::new())
-}
-
-/// Changes a number of the body's head.
-fn damage_head(random: &mut Random, table: &mut [u8]) {
-    let numbers = (table.len() - SUBTABLE_HEAD) / 4;
-    let at = SUBTABLE_HEAD + 4 * random.below(numbers.min(5));
-    let number = random.among(&far_numbers(table, at));
-    table[at..at + 4].copy_from_slice(&number.to_be_bytes());
-}
-
-/// Any line, mostly of these glyphs.
-pub fn any_line_of(random: &mut Random, glyphs: &Range<u16>, used: usize, room: usize) -> Line {
-    let mut line = any_line(random, used, room);
-    for glyph in &mut line.glyphs[..used] {
-        *glyph = match random.below(20) {
-            0 => DELETED,
-            1 => glyphs.end,
-            2 => random.word(),
-            _ => glyphs.start + random.below(glyphs.len()) as u16,
-        };
-    }
-    line
 }

@@ -1,6 +1,5 @@
 //! Lone steps beside the crate's copy, from fresh and from lent states.
 
-use crate::questions::passes::{any_glyphs, any_line_of, any_subtable};
 use crate::questions::{Ask, Question};
 use crate::reference::line::{Line, LARGEST_ROOM};
 use crate::reference::oracle::{caught, Answer, Fault, LONGEST_TABLE};
@@ -8,10 +7,11 @@ use crate::reference::pass::line_of;
 use crate::reference::step::{Lent, Machine, Sees, Slot, Told, DEEPEST};
 use crate::reference::steps_by_copy::open;
 use crate::reference::trace::describe_state;
+use crate::tables::kinds::any_subtable;
+use crate::tables::lines::{any_glyphs, any_line_of, spoil};
 use crate::tables::morx::{in_chain, subtable, CHAIN_HEADS, SUBTABLE_HEAD};
 use crate::tables::random::Random;
 use crate::wire::entries::Entry;
-use crate::wire::line::spoil;
 use crate::wire::reply::{add, numbers};
 use std::ops::Range;
 use std::rc::Rc;

@@ -4,10 +4,10 @@ use crate::questions::{Ask, Question};
 use crate::reference::line::{fresh, lone_verb, Line, LARGEST_ROOM};
 use crate::reference::oracle::{caught, Answer, Fault};
 use crate::reference::rearrange::rearrange;
+use crate::tables::lines::{any_line, any_numbers, spoil};
 use crate::tables::random::Random;
 use crate::tables::strings::for_each_string;
 use crate::wire::entries::Entry;
-use crate::wire::line::{any_line, any_numbers, spoil};
 
 /// A call of `aat_fresh` with slices of these lengths; what they hold comes from the number held.
 pub struct Fresh {

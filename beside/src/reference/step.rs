@@ -1,7 +1,7 @@
 //! Document 01's lone step: what it is lent and when that is refused; written from the document alone.
 
 use crate::reference::line::{Line, LARGEST_ROOM};
-use crate::reference::pass::Kind;
+use crate::tables::kinds::Kind;
 use crate::tables::{contextual, insertion, ligature, rearrangement};
 use crate::wire::entries::Entry;
 use crate::wire::reply::add;

@@ -2,7 +2,7 @@
 
 use crate::reference::line::DELETED;
 use crate::reference::oracle::Answer;
-use crate::reference::pass::{Example, Kind};
+use crate::tables::kinds::{Example, Kind};
 use crate::tables::lookup::{record_size, with_records, with_values, words, Record};
 use crate::tables::morx::{any_machine, machine, small_machine, Placed};
 use crate::tables::noncontextual;

@@ -194,6 +194,25 @@ fn classic_machine(parts: &Parts) -> Vec<u8> {
     body
 }
 
+/// The editions of a table.
+pub fn editions(kerning: Kerning) -> &'static [Edition] {
+    use Kerning::{Kern, Kerx};
+    const KERN: [Edition; 3] = [Edition::new(Kern, 0, 0), Edition::new(Kern, 1, 0), Edition::new(Kern, 0xFFFF, 0)];
+    const KERX: [Edition; 7] = [
+        Edition::new(Kerx, 2, 0),
+        Edition::new(Kerx, 3, 7),
+        Edition::new(Kerx, 4, 0),
+        Edition::new(Kerx, 4, 1),
+        Edition::new(Kerx, 4, 3),
+        Edition::new(Kerx, 4, u32::MAX),
+        Edition::new(Kerx, 0xFFFF, 2),
+    ];
+    match kerning {
+        Kern => &KERN,
+        Kerx => &KERX,
+    }
+}
+
 /// Any body of a format about these glyphs.
 pub fn any_body(random: &mut Random, edition: Edition, format: u8, glyphs: &Range<u16>) -> Vec<u8> {
     match format {

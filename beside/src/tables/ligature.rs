@@ -2,7 +2,8 @@
 
 use crate::reference::line::{Line, DELETED};
 use crate::reference::oracle::Answer;
-use crate::reference::pass::{line_of, Example, Kind};
+use crate::reference::pass::line_of;
+use crate::tables::kinds::{Example, Kind};
 use crate::tables::lookup::words;
 use crate::tables::morx::{any_machine, body_of, small_machine, Placed};
 use crate::tables::random::Random;

@@ -1,7 +1,9 @@
 //! morx subtables as bytes, of given parts and from a seed, and how the crate is brought to read one.
 
 use crate::reference::oracle::aat::morx::{chains, SubtableKind};
-use crate::tables::lookup::{any_with_values, with_values, words};
+use crate::tables::insertion;
+use crate::tables::kinds::{Kind, KINDS};
+use crate::tables::lookup::{any_with_values, damage, with_values, words};
 use crate::tables::random::Random;
 use crate::wire::hex::bytes;
 use std::ops::Range;
@@ -143,4 +145,72 @@ fn mislead(random: &mut Random, goes_astray: bool, number: &mut [u8]) {
         let wrong = random.among(&[0, 1, few, few, 0xFFFF, 0x8000_0000, u32::MAX]);
         number.copy_from_slice(&wrong.to_be_bytes());
     }
+}
+
+/// The lookup of document 01: 5 becomes 7 and 6 becomes 9.
+pub fn trimmed() -> Vec<u8> {
+    with_values(8, 5, &[7, 9])
+}
+
+/// A subtable of this order that puts two glyphs in behind each 10.
+pub fn puts_in(order: u32) -> Vec<u8> {
+    let Kind { number, examples, .. } = insertion::KIND;
+    subtable(order | number, &examples().swap_remove(0).body)
+}
+
+/// Any table: some chains, each of some subtables; now and then a count or a length is wrong.
+pub fn any_morx(random: &mut Random, glyphs: &Range<u16>) -> Vec<u8> {
+    let chains: Vec<Vec<u8>> = (0..random.below(4)).map(|_| any_chain(random, glyphs)).collect();
+    let mut table = morx(&chains);
+    if random.once_in(12) {
+        table[7] = random.below(6) as u8;
+    }
+    table
+}
+
+fn any_chain(random: &mut Random, glyphs: &Range<u16>) -> Vec<u8> {
+    let subtables: Vec<Vec<u8>> = (0..random.below(4)).map(|_| any_chained(random, glyphs)).collect();
+    let features = random.among(&[0, 0, 12, 36]);
+    let mut made = chain(any_flags(random), &random.bytes(features), &subtables);
+    match random.below(24) {
+        0 => made[15] = random.below(6) as u8,
+        1 => made[11] = random.below(4) as u8,
+        2 => made[7] = random.number() as u8,
+        3 => made[4..8].copy_from_slice(&[0; 4]),
+        _ => {}
+    }
+    made
+}
+
+fn any_chained(random: &mut Random, glyphs: &Range<u16>) -> Vec<u8> {
+    let kind: &Kind = &KINDS[random.below(KINDS.len())];
+    let number = if random.once_in(20) { random.below(256) as u32 } else { kind.number };
+    let bits = if random.once_in(8) { random.number() as u32 & !0xFF } else { random.among(&ORDERS) };
+    let mut made = chosen_subtable(bits | number, any_flags(random), &(kind.any_body)(random, glyphs));
+    match random.below(30) {
+        0 => made[3] = random.number() as u8,
+        1 => made[..4].copy_from_slice(&[0; 4]),
+        2 => damage(random, &mut made),
+        _ => {}
+    }
+    made
+}
+
+/// The coverage bits of the four orders, and those for vertical text.
+const ORDERS: [u32; 10] = [
+    0,
+    0x1000_0000,
+    0x4000_0000,
+    0x5000_0000,
+    0x2000_0000,
+    0x3000_0000,
+    0x6000_0000,
+    0xE000_0000,
+    0xF000_0000,
+    0x8000_0000,
+];
+
+/// Mostly flags that choose.
+fn any_flags(random: &mut Random) -> u32 {
+    random.among(&[1, 1, 1, 3, 3, 0x8000_0001, 2, 0, 0x8000_0000])
 }

@@ -2,7 +2,7 @@
 
 use crate::reference::line::DELETED;
 use crate::reference::oracle::Answer;
-use crate::reference::pass::{Example, Kind};
+use crate::tables::kinds::{Example, Kind};
 use crate::tables::lookup::{any_with_values, with_values, words};
 use crate::tables::random::Random;
 use crate::tables::strings::for_each_string;

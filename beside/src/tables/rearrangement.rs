@@ -2,7 +2,7 @@
 
 use crate::reference::line::DELETED;
 use crate::reference::oracle::Answer;
-use crate::reference::pass::{Example, Kind};
+use crate::tables::kinds::{Example, Kind};
 use crate::tables::morx::{any_machine, small_machine, Placed};
 use crate::tables::random::Random;
 use crate::wire::entries::Entry;

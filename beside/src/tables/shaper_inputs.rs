@@ -1,11 +1,11 @@
 //! Inputs of the shaper's program: document 01's, those at its limits, and from a seed.
 
-use crate::questions::passes::{any_glyphs, any_line_of};
-use crate::questions::runs::{any_morx, puts_in, trimmed};
 use crate::reference::line::LARGEST_ROOM;
 use crate::reference::run::MOST_HEADS;
 use crate::reference::shaper::{input_of, SHAPER_TABLE};
+use crate::tables::lines::{any_glyphs, any_line_of};
 use crate::tables::lookup::damage;
+use crate::tables::morx::{any_morx, puts_in, trimmed};
 use crate::tables::morx::{chain, morx, subtable};
 use crate::tables::random::Random;
 use crate::wire::hex::bytes;

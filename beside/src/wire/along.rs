@@ -1,13 +1,8 @@
-//! Adjustments as they are lent with a line: on the pipe, in words, and from a seed.
+//! Adjustments as they are lent with a line: on the pipe, and in words.
 
-use crate::questions::passes::any_line_of;
-use crate::reference::kerning::{Kerned, LARGEST_ADJUSTMENT};
-use crate::reference::line::Line;
+use crate::reference::kerning::Kerned;
 use crate::reference::oracle::Answer;
-use crate::tables::random::Random;
-use crate::wire::line::spoil;
 use crate::wire::reply::number;
-use std::ops::Range;
 
 /// Adds the count of adjustments, and these.
 pub fn lend_along(along: &[i64], call: &mut Vec<u8>) {
@@ -35,23 +30,6 @@ pub fn along_of(bytes: &[u8]) -> Vec<i64> {
 }
 
 impl Kerned {
-    /// A line with adjustments that count up from 100.
-    pub fn of(line: Line) -> Self {
-        let along = (100..).take(line.glyphs.len()).collect();
-        Kerned { line, along }
-    }
-
-    /// Any line, mostly of these glyphs, with any adjustments; now and then one that is refused.
-    pub fn any(random: &mut Random, glyphs: &Range<u16>, used: usize, room: usize) -> Self {
-        let mut line = any_line_of(random, glyphs, used, room);
-        let mut along = any_along(random, room);
-        spoil(random, &mut line);
-        if random.once_in(40) {
-            along.push(0);
-        }
-        Kerned { line, along }
-    }
-
     /// Adds the line and the start, then the adjustments, as a call has them.
     pub fn lend(&self, start: u64, call: &mut Vec<u8>) {
         self.line.lend(call);
@@ -76,21 +54,4 @@ impl Kerned {
         let along = along_of(&reply[line..line + 8 * self.along.len()]);
         format!("{}; {}", self.line.describe_reply(&reply[..line]), describe_along(&along))
     }
-}
-
-/// So many adjustments, rarely beyond the largest, often at it.
-pub fn any_along(random: &mut Random, count: usize) -> Vec<i64> {
-    let largest = LARGEST_ADJUSTMENT as i64;
-    let mut along: Vec<i64> = (0..count)
-        .map(|_| match random.below(6) {
-            0 => random.among(&[0, 1, -1, largest, -largest, largest - 1]),
-            _ => random.below(4_000) as i64 - 2_000,
-        })
-        .collect();
-    if count > 0 && random.once_in(16) {
-        let any = random.number() as i64;
-        let beyond = [largest + 1, -largest - 1, i64::MIN, i64::MAX, 1 << 41, any];
-        along[random.below(count)] = random.among(&beyond);
-    }
-    along
 }

@@ -1,8 +1,7 @@
-//! A line as it is lent: on the pipe, in words, and from a seed.
+//! A line as it is lent: on the pipe, and in words.
 
 use crate::reference::line::Line;
 use crate::reference::oracle::Answer;
-use crate::tables::random::Random;
 use crate::wire::pipe::{add_numbers, lend_numbers};
 use crate::wire::reply::number;
 
@@ -58,47 +57,4 @@ fn describe_numbers(numbers: &[u16]) -> String {
     let shown: Vec<String> = numbers.iter().take(NUMBERS_SHOWN).map(u16::to_string).collect();
     let more = if shown.len() < numbers.len() { " .." } else { "" };
     format!("({}) {}{}", numbers.len(), shown.join(" "), more)
-}
-
-/// So many numbers.
-pub fn any_numbers(random: &mut Random, count: usize) -> Vec<u16> {
-    (0..count).map(|_| random.word()).collect()
-}
-
-/// A line with distinct glyphs in the part that is used, its tags in any order, and any homes.
-pub fn any_line(random: &mut Random, used: usize, room: usize) -> Line {
-    let mut glyphs = any_numbers(random, room);
-    let first = random.word();
-    for (place, glyph) in glyphs[..used].iter_mut().enumerate() {
-        *glyph = first.wrapping_add(place as u16);
-    }
-    let mut tags = any_numbers(random, room);
-    for (place, tag) in tags[..used].iter_mut().enumerate() {
-        *tag = place as u16;
-    }
-    random.shuffle(&mut tags[..used]);
-    let some = random.below(used + 1);
-    let characters = random.among(&[0, some, used]);
-    let homes = (0..characters).map(|_| random.below(used) as u16).collect();
-    Line { glyphs, tags, homes, used: used as u64 }
-}
-
-/// Sometimes makes a line one that is refused.
-pub fn spoil(random: &mut Random, line: &mut Line) {
-    let used = line.used as usize;
-    let too_large = random.among(&[line.used as u16, line.used as u16 + 1, 4_096, 0xFFFF]);
-    match random.below(40) {
-        0 if used > 0 => line.tags[random.below(used)] = too_large,
-        1 if used > 0 => line.tags[random.below(used)] = random.below(used) as u16,
-        2 if !line.homes.is_empty() => {
-            let character = random.below(line.homes.len());
-            line.homes[character] = too_large;
-        }
-        3 => line.homes.resize(used + 1, 0),
-        4 => line.tags.push(0),
-        5 => line.glyphs.push(0),
-        6 => line.used += random.among(&[1, 1 << 16, 1 << 32]),
-        7 => line.used = line.used.saturating_sub(1),
-        _ => {}
-    }
 }
