@@ -12,6 +12,7 @@ use crate::font::met::rows;
 use crate::font::sfnt::{wrap, Font};
 use crate::font::shaping::{Shaped, Tables};
 use crate::reference::{line, oracle};
+use crate::wire::hex;
 use crate::wire::pipe::TheBox;
 use std::collections::BTreeSet;
 use std::process::ExitCode;
@@ -200,7 +201,7 @@ fn try_one(line: &str, the_box: &mut TheBox) -> Result<(String, bool), String> {
         _ => return Err(format!("no table to try: {}", line)),
     };
     let named: BTreeSet<u32> = named.split(' ').filter_map(|row| row.parse().ok()).collect();
-    let bytes = hex(table).ok_or_else(|| format!("no hex: {}", table))?;
+    let bytes = hex::parse(table).ok_or_else(|| format!("no hex: {}", table))?;
     let file = wrap(&[(tag(name)?, bytes), (*b"maxp", vec![0, 1, 0, 0, 0, 100])]);
     let font = Font::open(&file, None)?;
     let tables = Tables::of(&font)?;
@@ -220,16 +221,6 @@ fn tag(name: &str) -> Result<[u8; 4], String> {
     <[u8; 4]>::try_from(name.as_bytes()).map_err(|_| format!("{} is no table's name", name))
 }
 
-/// The bytes that hex digits stand for, with white space anywhere.
-fn hex(text: &str) -> Option<Vec<u8>> {
-    let digits: Vec<u32> =
-        text.chars().filter(|letter| !letter.is_whitespace()).map(|digit| digit.to_digit(16)).collect::<Option<_>>()?;
-    if digits.len() % 2 != 0 {
-        return None;
-    }
-    Some(digits.chunks(2).map(|pair| (pair[0] << 4 | pair[1]) as u8).collect())
-}
-
 /// Writes a font of the tables in these files, each raw or in hex.
 fn wrap_files(words: &[String]) -> Result<bool, String> {
     let (font, words) = words.split_first().ok_or(USAGE)?;
@@ -237,7 +228,7 @@ fn wrap_files(words: &[String]) -> Result<bool, String> {
     for word in words {
         let (name, file) = word.split_once('=').ok_or(USAGE)?;
         let bytes = std::fs::read(file).map_err(|error| format!("{}: {}", file, error))?;
-        let in_hex = std::str::from_utf8(&bytes).ok().and_then(hex);
+        let in_hex = std::str::from_utf8(&bytes).ok().and_then(hex::parse);
         tables.push((tag(name)?, in_hex.unwrap_or(bytes)));
     }
     std::fs::write(font, wrap(&tables)).map_err(|error| format!("{}: {}", font, error))?;

@@ -24,6 +24,7 @@ use crate::reference::step::{Machine, Told, MACHINES};
 use crate::tables::kerning::Edition;
 use crate::tables::kinds::KINDS;
 use crate::wire::entries::{Entry, ENTRIES};
+use crate::wire::hex;
 use crate::wire::pipe::lend_table;
 
 /// A question about a table.
@@ -89,8 +90,7 @@ impl Case {
 
     /// The call in words.
     pub fn describe(&self) -> String {
-        let table: String = self.table.iter().map(|byte| format!("{:02x}", byte)).collect();
-        format!("{}\n  table {}", self.question.describe(HELD), table)
+        format!("{}\n  table {}", self.question.describe(HELD), hex::digits(&self.table))
     }
 
     /// A reply to it in words.

@@ -1,10 +1,21 @@
 //! Bytes in hex.
 
-/// The bytes of these digits, which may have white space between them.
-pub fn bytes(digits: &str) -> Vec<u8> {
-    let digits = digits.chars().filter(|digit| !digit.is_whitespace());
-    let digits: Vec<u32> = digits.map(|digit| digit.to_digit(16).expect("a hex digit")).collect();
-    digits.chunks_exact(2).map(|pair| (pair[0] << 4 | pair[1]) as u8).collect()
+/// The bytes that a text of hex digits stands for, with white space anywhere; None where it is none.
+pub fn parse(text: &str) -> Option<Vec<u8>> {
+    let digits = text.chars().filter(|letter| !letter.is_whitespace());
+    let digits: Vec<u32> = digits.map(|digit| digit.to_digit(16)).collect::<Option<_>>()?;
+    let are_pairs = digits.len() % 2 == 0;
+    are_pairs.then(|| digits.chunks(2).map(|pair| (pair[0] << 4 | pair[1]) as u8).collect())
+}
+
+/// The same of a text that is in hex.
+pub fn bytes(text: &str) -> Vec<u8> {
+    parse(text).expect("bytes in hex")
+}
+
+/// The digits of bytes.
+pub fn digits(bytes: &[u8]) -> String {
+    bytes.iter().map(|byte| format!("{:02x}", byte)).collect()
 }
 
 const BYTES_SHOWN: usize = 200;
@@ -13,6 +24,5 @@ const BYTES_SHOWN: usize = 200;
 pub fn describe(bytes: &[u8]) -> String {
     let shown = &bytes[..bytes.len().min(BYTES_SHOWN)];
     let more = if shown.len() < bytes.len() { ".." } else { "" };
-    let digits: String = shown.iter().map(|byte| format!("{:02x}", byte)).collect();
-    format!("{} bytes: {}{}", bytes.len(), digits, more)
+    format!("{} bytes: {}{}", bytes.len(), digits(shown), more)
 }
