@@ -1,7 +1,7 @@
 //! Puts one part of the questions to a changed crate and to the box, up to the first answer in which they differ.
 
 use crate::compare::limit::Limited;
-use crate::questions::{parts, Ask, Part, Question};
+use crate::questions::{Ask, Question, PARTS};
 use crate::reference::oracle;
 use crate::tables::random::Random;
 use crate::wire::pipe::{lend_table, TheBox};
@@ -31,11 +31,10 @@ pub fn main() -> ! {
 
 /// Every question of the parts of this name.
 fn ask(name: &str, asked: &mut Limited, random: &mut Random, cases: u64) {
-    let parts: Vec<Part> = parts().into_iter().filter(|part| part.name == name).collect();
-    if parts.is_empty() {
+    if PARTS.iter().all(|part| part.name() != name) {
         fail(format!("there is no part {}", name));
     }
-    for part in parts {
+    for part in PARTS.iter().filter(|part| part.name() == name) {
         part.ask(asked.part(), random, cases);
     }
 }

@@ -121,13 +121,13 @@ impl EntriesSample {
         }
         let (mut lent, mut count) = (None, 0);
         for (entry, _) in ENTRIES {
-            let cases = self.cases_of(entry as u8);
+            let cases = self.cases_of(*entry as u8);
             count += cases.len();
             for case in cases {
                 if lent.as_ref() != Some(&case.table) {
                     add_table(&case.table, &mut bytes);
                 }
-                bytes.push(entry as u8);
+                bytes.push(*entry as u8);
                 add_part(&case.call, &mut bytes);
                 add_part(&case.reply, &mut bytes);
                 lent = Some(case.table);

@@ -14,10 +14,9 @@ use crate::compare::entries_sample::EntriesSample;
 use crate::compare::limit::Limited;
 use crate::compare::progress::Progress;
 use crate::compare::sample::Sample;
-use crate::questions::{lookup, parts, Ask};
+use crate::questions::{lookup, not_asked_for, Ask, PARTS};
 use crate::reference::oracle;
 use crate::tables::random::Random;
-use crate::wire::entries;
 use crate::wire::pipe::TheBox;
 use std::process::ExitCode;
 
@@ -47,15 +46,15 @@ pub fn main() -> ExitCode {
 fn ask_all(asked: &mut dyn Ask, cases: u64, seed: u64, seconds: u64) -> u64 {
     let random = &mut Random::new(seed);
     let asked = &mut Limited::new(asked, seconds);
-    for part in parts() {
-        part.ask(asked.part(), random, cases / part.every);
+    for part in PARTS {
+        part.ask(asked.part(), random, cases / part.every());
     }
     asked.left_out
 }
 
 /// Compares the box with the crate; where it `traces`, shows the steps of cases that differ.
 fn compare(traces: bool, cases: u64, seed: u64, seconds: u64, command: &[String]) -> ExitCode {
-    let unknown = entries::not_asked_for();
+    let unknown = not_asked_for();
     if !unknown.is_empty() {
         return failed(format!("aat.h declares what nobody asks for: {}", unknown.join(", ")));
     }

@@ -1,28 +1,11 @@
 //! A call of an exported entry that any bytes choose, as one of the questions of the comparison.
 
 use crate::fuzz::source::Source;
-use crate::questions::classes::{Class, Kind};
-use crate::questions::kerning_pairs::OfPair;
-use crate::questions::kerning_runs::KerningRun;
-use crate::questions::language::Language;
-use crate::questions::lists::{Coverage, Next, Start, LISTS};
-use crate::questions::lookup::{Lookup, Survey};
-use crate::questions::passes::{By, Pass};
-use crate::questions::runs::MorxRun;
-use crate::questions::steps::Step;
-use crate::questions::value::{Asked, Value};
-use crate::questions::verbs::{Fresh, Verb};
-use crate::questions::Question;
-use crate::questions::{kerning_lists, kerning_passes, kerning_steps};
-use crate::reference::kerning::{Kerned, Kerning};
-use crate::reference::kerning_by_copy::STATE;
-use crate::reference::line::Line;
-use crate::reference::lists_by_copy::List;
+use crate::questions::{part_of, Question};
+use crate::reference::kerning::Kerned;
 use crate::reference::oracle::aat::{kern, kerx, morx::chains};
 use crate::reference::oracle::Fault;
-use crate::reference::step::{Machine, Told, MACHINES};
-use crate::tables::kerning::Edition;
-use crate::tables::kinds::KINDS;
+use crate::reference::step::Told;
 use crate::wire::entries::{Entry, ENTRIES};
 use crate::wire::hex;
 use crate::wire::pipe::lend_table;
@@ -48,7 +31,8 @@ impl Case {
         let number = usize::from(source.byte().wrapping_sub(1)) % ENTRIES.len();
         let chosen = Chosen::of(&mut source);
         let start = chosen.start;
-        let question = chosen.question(ENTRIES[number].0, &mut source);
+        let entry = ENTRIES[number].0;
+        let question = part_of(entry).chosen(entry, chosen, &mut source);
         Case { question, start, table: source.0.to_vec() }
     }
 
@@ -99,15 +83,16 @@ impl Case {
     }
 }
 
-/// What any entry may be told, of which each takes its part.
-struct Chosen {
-    start: u64,
-    version: u16,
-    right_to_left: u32,
-    told: Told,
+/// What any entry may be told, of which each takes its part. The glyph is the number of a verb, too, and the pair of glyphs a
+/// coverage.
+pub struct Chosen {
+    pub start: u64,
+    pub version: u16,
+    pub right_to_left: u32,
+    pub told: Told,
     /// The second glyph of a pair.
-    right: u16,
-    lent: Kerned,
+    pub right: u16,
+    pub lent: Kerned,
 }
 
 impl Chosen {
@@ -118,90 +103,4 @@ impl Chosen {
         let told = Told { index: source.number(), glyph: source.word(), ends: (ways & 2).into() };
         Chosen { start, version, right_to_left: (ways & 1).into(), told, right: source.word(), lent: source.kerned() }
     }
-
-    /// The call of an entry, which takes its state, its cursor or its name from the bytes that follow. The glyph is the
-    /// number of a verb, too, and the pair of glyphs a coverage.
-    fn question(self, entry: Entry, source: &mut Source) -> Box<dyn Question> {
-        let Chosen { start, version, right_to_left, told, right, lent } = self;
-        let Told { index, glyph, .. } = told;
-        let coverage = u32::from(glyph) << 16 | u32::from(right);
-        let kerning = kerning_of(entry);
-        let edition = Edition::new(kerning, version, 0);
-        match entry {
-            Entry::Lookup => value(start, Lookup { glyph }),
-            Entry::Survey => Box::new(Survey { start }),
-            Entry::ClassExtended => value(start, Class { kind: Kind::Extended, glyph }),
-            Entry::ClassClassic => value(start, Class { kind: Kind::Classic, glyph }),
-            Entry::LanguageIndex => value(start, Language { name: source.name().into() }),
-            Entry::Fresh => Box::new(fresh(&lent.line)),
-            Entry::Verb => Box::new(Verb { line: lent.line, verb: glyph, start, end: index, written: None }),
-            Entry::RearrangementPass
-            | Entry::NoncontextualPass
-            | Entry::ContextualPass
-            | Entry::LigaturePass
-            | Entry::InsertionPass
-            | Entry::MorxPass => Box::new(Pass { by: by(entry), line: lent.line, start, written: None }),
-            Entry::MorxRun => Box::new(MorxRun { line: lent.line, start, right_to_left, written: None }),
-            Entry::RearrangementStep | Entry::ContextualStep | Entry::LigatureStep | Entry::InsertionStep => {
-                let machine = machine_of(entry).expect("a machine with this step");
-                let state = machine.state.iter().map(|_| source.number()).collect();
-                Box::new(Step::new(machine, start, state, &lent.line, told))
-            }
-            Entry::KernPair | Entry::KerxPair => value(start, OfPair { edition, left: glyph, right }),
-            Entry::KernPass | Entry::KerxPass => Box::new(kerning_passes::Pass { edition, lent, start, written: None }),
-            Entry::KernRun | Entry::KerxRun => {
-                Box::new(KerningRun { kerning, lent, start, right_to_left, written: None })
-            }
-            Entry::KernStep | Entry::KerxStep => {
-                let state = [(); STATE].map(|()| source.number());
-                let (length, along) = (lent.line.used, lent.along);
-                Box::new(kerning_steps::Step { edition, start, state, length, index, glyph, along })
-            }
-            Entry::KernSubtables | Entry::KerxSubtables => Box::new(kerning_lists::Start { kerning, start }),
-            Entry::KernNextSubtable | Entry::KerxNextSubtable => {
-                let cursor = [source.long(), source.long(), source.long()];
-                Box::new(kerning_lists::Next { kerning, cursor, told: None })
-            }
-            Entry::MorxChains => Box::new(Start { start }),
-            Entry::MorxNextChain | Entry::MorxNextFeature | Entry::MorxNextSubtable => {
-                let list = list_of(entry).expect("a list with this entry");
-                Box::new(Next { list, cursor: [source.long(), source.long()], told: None })
-            }
-            Entry::MorxOrder => Box::new(Coverage { coverage, right_to_left: None }),
-            Entry::MorxShouldReverse => Box::new(Coverage { coverage, right_to_left: Some(right_to_left) }),
-        }
-    }
-}
-
-fn value(start: u64, asked: impl Asked + 'static) -> Box<dyn Question> {
-    Box::new(Value { start, asked, written: None })
-}
-
-/// A fresh line in slices as long as this one's.
-fn fresh(line: &Line) -> Fresh {
-    Fresh { glyphs: line.glyphs.len(), tags: line.tags.len(), homes: line.homes.len() }
-}
-
-/// The pass of an entry; for the one that takes every kind, any kind stands in.
-fn by(entry: Entry) -> By {
-    By { entry, kind: KINDS.iter().find(|kind| kind.pass == entry).unwrap_or(&KINDS[0]) }
-}
-
-/// The table of an entry for kerning.
-pub fn kerning_of(entry: Entry) -> Kerning {
-    match entry {
-        Entry::KernPair | Entry::KernPass | Entry::KernRun | Entry::KernStep => Kerning::Kern,
-        Entry::KernSubtables | Entry::KernNextSubtable => Kerning::Kern,
-        _ => Kerning::Kerx,
-    }
-}
-
-/// The machine whose step an entry makes.
-pub fn machine_of(entry: Entry) -> Option<&'static Machine> {
-    MACHINES.iter().find(|machine| machine.step == entry)
-}
-
-/// The list that an entry goes on with.
-pub fn list_of(entry: Entry) -> Option<List> {
-    LISTS.into_iter().find(|list| list.entry() == entry)
 }

@@ -1,9 +1,9 @@
 //! Coverage-guided questions: any bytes choose a call of an exported entry and all that it is lent, and the crate and the box
 //! answer it.
 
-mod case;
-mod seeds;
-mod source;
+pub(crate) mod case;
+pub(crate) mod seeds;
+pub(crate) mod source;
 
 pub use crate::reference::oracle::quiet_crate;
 

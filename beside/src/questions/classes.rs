@@ -1,7 +1,10 @@
 //! The classes of the two state tables beside the crate.
 
+use crate::fuzz::case::Chosen;
+use crate::fuzz::seeds::Seed;
+use crate::fuzz::source::Source;
 use crate::questions::value::{Asked, Value};
-use crate::questions::Ask;
+use crate::questions::{Ask, Part, Question};
 use crate::reference::oracle::{self, Answer, Fault, LONGEST_TABLE};
 use crate::tables::lookup::{record_size, with_records, words, Record};
 use crate::tables::random::Random;
@@ -54,18 +57,44 @@ impl Asked for Class {
     }
 }
 
-/// Every question about classes, with so many random ones.
-pub fn ask_all(asked: &mut dyn Ask, random: &mut Random, cases: u64) {
-    examples(asked);
-    cut_tables(asked);
-    short_tables(asked);
-    class_table_offsets(asked);
-    far_offsets(asked);
-    short_class_arrays(asked);
-    far_starts(asked);
-    long_class_tables(asked);
-    long_tables(asked);
-    random_tables(asked, random, cases);
+/// Classes.
+pub struct Classes;
+
+impl Part for Classes {
+    fn name(&self) -> &'static str {
+        "classes"
+    }
+
+    fn every(&self) -> u64 {
+        1
+    }
+
+    fn entries(&self) -> Vec<Entry> {
+        vec![Entry::ClassExtended, Entry::ClassClassic]
+    }
+
+    fn ask(&self, asked: &mut dyn Ask, random: &mut Random, cases: u64) {
+        examples(asked);
+        cut_tables(asked);
+        short_tables(asked);
+        class_table_offsets(asked);
+        far_offsets(asked);
+        short_class_arrays(asked);
+        far_starts(asked);
+        long_class_tables(asked);
+        long_tables(asked);
+        random_tables(asked, random, cases);
+    }
+
+    fn chosen(&self, entry: Entry, chosen: Chosen, _source: &mut Source) -> Box<dyn Question> {
+        let kind = if entry == Entry::ClassExtended { Extended } else { Classic };
+        Value::chosen(chosen.start, Class { kind, glyph: chosen.told.glyph })
+    }
+
+    fn seed(&self, random: &mut Random, entry: Entry) -> Seed {
+        let any = if entry == Entry::ClassExtended { any_extended } else { any_classic };
+        Seed::any(random, |random, _| any(random))
+    }
 }
 
 fn ask_glyphs(asked: &mut dyn Ask, kind: Kind, table: &Rc<[u8]>, start: usize, glyphs: impl IntoIterator<Item = u16>) {

@@ -1,8 +1,11 @@
 //! The subtables of kern and kerx, as cursors go through them, beside the crate's iterators.
 
+use crate::fuzz::case::Chosen;
+use crate::fuzz::seeds::{self, Seed};
+use crate::fuzz::source::Source;
 use crate::questions::kerning_runs::{any_table, behind_others, some_table, BEFORE};
-use crate::questions::lists::{far_places, lent, Counted, ELEMENTS};
-use crate::questions::{Ask, Question};
+use crate::questions::lists::{self, far_places, lent, Counted, ELEMENTS};
+use crate::questions::{Ask, Part, Question};
 use crate::reference::kerning::Kerning;
 use crate::reference::kerning_lists_by_copy::{list_from, next, Cursor};
 use crate::reference::kerning_run::Visit;
@@ -118,17 +121,49 @@ impl Question for Next {
     }
 }
 
-/// Every question about a table's list, with so many random ones.
-pub fn ask_all(asked: &mut dyn Ask, kerning: Kerning, random: &mut Random, cases: u64) {
-    for edition in editions(kerning) {
-        coverages(asked, *edition);
-        cut_tables(asked, *edition, random);
-        counts_and_sizes(asked, *edition, random);
-        far_starts(asked, *edition, random);
-        far_cursors(asked, *edition, random);
-        long_tables(asked, *edition, random);
+/// kern's or kerx's lists.
+pub struct Lists(pub Kerning);
+
+impl Part for Lists {
+    fn name(&self) -> &'static str {
+        self.0.name()
     }
-    random_tables(asked, kerning, random, cases);
+
+    fn entries(&self) -> Vec<Entry> {
+        vec![
+            self.0.its([Entry::KernSubtables, Entry::KerxSubtables]),
+            self.0.its([Entry::KernNextSubtable, Entry::KerxNextSubtable]),
+        ]
+    }
+
+    fn ask(&self, asked: &mut dyn Ask, random: &mut Random, cases: u64) {
+        let kerning = self.0;
+        for edition in editions(kerning) {
+            coverages(asked, *edition);
+            cut_tables(asked, *edition, random);
+            counts_and_sizes(asked, *edition, random);
+            far_starts(asked, *edition, random);
+            far_cursors(asked, *edition, random);
+            long_tables(asked, *edition, random);
+        }
+        random_tables(asked, kerning, random, cases);
+    }
+
+    fn chosen(&self, entry: Entry, chosen: Chosen, source: &mut Source) -> Box<dyn Question> {
+        let kerning = self.0;
+        match entry {
+            Entry::KernSubtables | Entry::KerxSubtables => Box::new(Start { kerning, start: chosen.start }),
+            _ => Box::new(Next { kerning, cursor: [(); 3].map(|()| source.long()), told: None }),
+        }
+    }
+
+    fn seed(&self, random: &mut Random, entry: Entry) -> Seed {
+        let any = Seed::any(random, |random, glyphs| seeds::any_list(random, self.0, glyphs));
+        match entry {
+            Entry::KernSubtables | Entry::KerxSubtables => any,
+            _ => any.with_cursor(|made| some_cursor(random, self.0, made)),
+        }
+    }
 }
 
 fn ask_next(asked: &mut dyn Ask, table: &Rc<[u8]>, kerning: Kerning, cursor: Cursor) {
@@ -239,4 +274,16 @@ fn any_cursor(random: &mut Random, length: usize) -> Cursor {
         _ => random.below(limit) as u64,
     };
     [any(length + 2), any(5), any(7)]
+}
+
+/// A cursor that the crate comes to, now and then with any numbers in it.
+fn some_cursor(random: &mut Random, kerning: Kerning, made: &Made) -> Cursor {
+    let first = list_from(kerning, &made.table, made.start as u64);
+    let cursors = std::iter::successors(Some(first), |cursor| Some(next(kerning, &made.table, *cursor)?.1));
+    let [place, left, version] = cursors.take(1 + random.below(4)).last().unwrap_or(first);
+    if random.once_in(4) {
+        let [place, left] = lists::any_cursor(random, made.table.len());
+        return [place, left, version];
+    }
+    [place, left, version]
 }

@@ -1,7 +1,10 @@
 //! Numbers of pairs of glyphs beside the crate's.
 
+use crate::fuzz::case::Chosen;
+use crate::fuzz::seeds::{self, Seed};
+use crate::fuzz::source::Source;
 use crate::questions::value::{Asked, Value};
-use crate::questions::Ask;
+use crate::questions::{Ask, Part, Question};
 use crate::reference::kerning::{Kerning, Subtable};
 use crate::reference::oracle::{caught, Answer, Fault, LONGEST_TABLE};
 use crate::tables::kerning::{any_subtable, classes, editions, formats, Edition, Pair};
@@ -53,14 +56,36 @@ impl Asked for OfPair {
 
 const ENTRIES: [Entry; 2] = [Entry::KernPair, Entry::KerxPair];
 
-/// Every question about a table's pairs, with so many random ones.
-pub fn ask_all(asked: &mut dyn Ask, kerning: Kerning, random: &mut Random, cases: u64) {
-    examples(asked, kerning);
-    cut_subtables(asked, kerning);
-    formats_and_bits(asked, kerning);
-    far_starts(asked, kerning);
-    long_tables(asked, kerning);
-    random_subtables(asked, kerning, random, cases);
+/// Pairs of kern or kerx.
+pub struct Pairs(pub Kerning);
+
+impl Part for Pairs {
+    fn name(&self) -> &'static str {
+        self.0.name()
+    }
+
+    fn entries(&self) -> Vec<Entry> {
+        vec![self.0.its(ENTRIES)]
+    }
+
+    fn ask(&self, asked: &mut dyn Ask, random: &mut Random, cases: u64) {
+        let kerning = self.0;
+        examples(asked, kerning);
+        cut_subtables(asked, kerning);
+        formats_and_bits(asked, kerning);
+        far_starts(asked, kerning);
+        long_tables(asked, kerning);
+        random_subtables(asked, kerning, random, cases);
+    }
+
+    fn chosen(&self, _entry: Entry, chosen: Chosen, _source: &mut Source) -> Box<dyn Question> {
+        let edition = Edition::new(self.0, chosen.version, 0);
+        Value::chosen(chosen.start, OfPair { edition, left: chosen.told.glyph, right: chosen.right })
+    }
+
+    fn seed(&self, random: &mut Random, _entry: Entry) -> Seed {
+        seeds::any_kerning(random, self.0)
+    }
 }
 
 fn ask_pair(asked: &mut dyn Ask, table: &Rc<[u8]>, start: u64, edition: Edition, pair: (u16, u16)) {

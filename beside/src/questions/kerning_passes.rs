@@ -1,6 +1,9 @@
 //! Kerning passes beside the crate's formats in document 01's pass.
 
-use crate::questions::{Ask, Question};
+use crate::fuzz::case::Chosen;
+use crate::fuzz::seeds::{self, Seed};
+use crate::fuzz::source::Source;
+use crate::questions::{Ask, Part, Question};
 use crate::reference::kerning::{Kerned, Kerning, Subtable, LARGEST_ADJUSTMENT};
 use crate::reference::kerning_by_copy::open;
 use crate::reference::kerning_trace::describe_pass;
@@ -100,20 +103,42 @@ impl Question for Pass {
 
 const ENTRIES: [Entry; 2] = [Entry::KernPass, Entry::KerxPass];
 
-/// Every question about a table's passes, with so many random ones.
-pub fn ask_all(asked: &mut dyn Ask, kerning: Kerning, random: &mut Random, cases: u64) {
-    examples(asked, kerning);
-    list_runs_on_past_its_end(asked, kerning);
-    eight_and_nine_pushes(asked, kerning);
-    short_bodies(asked, kerning);
-    cut_subtables(asked, kerning, random);
-    formats_and_bits(asked, kerning, random);
-    far_starts(asked, kerning);
-    large_adjustments(asked, kerning);
-    refused_lines(asked, kerning);
-    long_tables(asked, kerning);
-    long_lines(asked, kerning, random);
-    random_subtables(asked, kerning, random, cases);
+/// Passes of kern or kerx.
+pub struct Passes(pub Kerning);
+
+impl Part for Passes {
+    fn name(&self) -> &'static str {
+        self.0.name()
+    }
+
+    fn entries(&self) -> Vec<Entry> {
+        vec![self.0.its(ENTRIES)]
+    }
+
+    fn ask(&self, asked: &mut dyn Ask, random: &mut Random, cases: u64) {
+        let kerning = self.0;
+        examples(asked, kerning);
+        list_runs_on_past_its_end(asked, kerning);
+        eight_and_nine_pushes(asked, kerning);
+        short_bodies(asked, kerning);
+        cut_subtables(asked, kerning, random);
+        formats_and_bits(asked, kerning, random);
+        far_starts(asked, kerning);
+        large_adjustments(asked, kerning);
+        refused_lines(asked, kerning);
+        long_tables(asked, kerning);
+        long_lines(asked, kerning, random);
+        random_subtables(asked, kerning, random, cases);
+    }
+
+    fn chosen(&self, _entry: Entry, chosen: Chosen, _source: &mut Source) -> Box<dyn Question> {
+        let edition = Edition::new(self.0, chosen.version, 0);
+        Box::new(Pass { edition, lent: chosen.lent, start: chosen.start, written: None })
+    }
+
+    fn seed(&self, random: &mut Random, _entry: Entry) -> Seed {
+        seeds::any_kerning(random, self.0)
+    }
 }
 
 fn ask_pass(asked: &mut dyn Ask, edition: Edition, table: &Rc<[u8]>, start: usize, lent: &Kerned) {

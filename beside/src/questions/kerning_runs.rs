@@ -1,7 +1,10 @@
 //! Whole runs of kern and kerx tables beside document 01's run over the crate's subtables.
 
+use crate::fuzz::case::Chosen;
+use crate::fuzz::seeds::{self, Seed};
+use crate::fuzz::source::Source;
 use crate::questions::passes::for_each_table;
-use crate::questions::{Ask, Question};
+use crate::questions::{Ask, Part, Question};
 use crate::reference::kerning::{Kerned, Kerning, ALONE_AT};
 use crate::reference::kerning_run::Run;
 use crate::reference::kerning_trace::describe_run;
@@ -92,16 +95,38 @@ impl Question for KerningRun {
 
 const ENTRIES: [Entry; 2] = [Entry::KernRun, Entry::KerxRun];
 
-/// Every question about a table's runs, with so many random ones.
-pub fn ask_all(asked: &mut dyn Ask, kerning: Kerning, random: &mut Random, cases: u64) {
-    examples(asked, kerning);
-    coverages(asked, kerning, random);
-    cut_tables(asked, kerning, random);
-    far_starts(asked, kerning);
-    refused_lines(asked, kerning);
-    long_tables(asked, kerning);
-    many_heads(asked, kerning);
-    random_tables(asked, kerning, random, cases);
+/// Runs of kern or kerx.
+pub struct Runs(pub Kerning);
+
+impl Part for Runs {
+    fn name(&self) -> &'static str {
+        self.0.name()
+    }
+
+    fn entries(&self) -> Vec<Entry> {
+        vec![self.0.its(ENTRIES)]
+    }
+
+    fn ask(&self, asked: &mut dyn Ask, random: &mut Random, cases: u64) {
+        let kerning = self.0;
+        examples(asked, kerning);
+        coverages(asked, kerning, random);
+        cut_tables(asked, kerning, random);
+        far_starts(asked, kerning);
+        refused_lines(asked, kerning);
+        long_tables(asked, kerning);
+        many_heads(asked, kerning);
+        random_tables(asked, kerning, random, cases);
+    }
+
+    fn chosen(&self, _entry: Entry, chosen: Chosen, _source: &mut Source) -> Box<dyn Question> {
+        let Chosen { start, right_to_left, lent, .. } = chosen;
+        Box::new(KerningRun { kerning: self.0, lent, start, right_to_left, written: None })
+    }
+
+    fn seed(&self, random: &mut Random, _entry: Entry) -> Seed {
+        Seed::any(random, |random, glyphs| seeds::any_list(random, self.0, glyphs))
+    }
 }
 
 /// A run in either direction, with two numbers for the second.

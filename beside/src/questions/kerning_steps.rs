@@ -1,6 +1,9 @@
 //! Lone kerning steps beside the crate's copy, from fresh and from lent states.
 
-use crate::questions::{Ask, Question};
+use crate::fuzz::case::Chosen;
+use crate::fuzz::seeds::{self, Seed};
+use crate::fuzz::source::Source;
+use crate::questions::{Ask, Part, Question};
 use crate::reference::kerning::{are_roomy, Kerning};
 use crate::reference::kerning_by_copy::{open, DEEPEST, STATE};
 use crate::reference::line::LARGEST_ROOM;
@@ -121,15 +124,40 @@ impl Question for Step {
 
 const ENTRIES: [Entry; 2] = [Entry::KernStep, Entry::KerxStep];
 
-/// Every question about a table's lone steps, with so many random ones.
-pub fn ask_all(asked: &mut dyn Ask, kerning: Kerning, random: &mut Random, cases: u64) {
-    examples(asked, kerning);
-    refusals(asked, kerning);
-    lengths(asked, kerning);
-    slots(asked, kerning);
-    short_bodies(asked, kerning, random);
-    random_states(asked, kerning, random, cases);
-    random_passes(asked, kerning, random, cases / 50);
+/// Steps of kern or kerx.
+pub struct Steps(pub Kerning);
+
+impl Part for Steps {
+    fn name(&self) -> &'static str {
+        self.0.name()
+    }
+
+    fn entries(&self) -> Vec<Entry> {
+        vec![self.0.its(ENTRIES)]
+    }
+
+    fn ask(&self, asked: &mut dyn Ask, random: &mut Random, cases: u64) {
+        let kerning = self.0;
+        examples(asked, kerning);
+        refusals(asked, kerning);
+        lengths(asked, kerning);
+        slots(asked, kerning);
+        short_bodies(asked, kerning, random);
+        random_states(asked, kerning, random, cases);
+        random_passes(asked, kerning, random, cases / 50);
+    }
+
+    fn chosen(&self, _entry: Entry, chosen: Chosen, source: &mut Source) -> Box<dyn Question> {
+        let Chosen { start, version, told, lent, .. } = chosen;
+        let edition = Edition::new(self.0, version, 0);
+        let state = [(); STATE].map(|()| source.number());
+        let (length, along) = (lent.line.used, lent.along);
+        Box::new(Step { edition, start, state, length, index: told.index, glyph: told.glyph, along })
+    }
+
+    fn seed(&self, random: &mut Random, _entry: Entry) -> Seed {
+        Seed { more: vec![0; STATE], ..seeds::any_kerning(random, self.0) }
+    }
 }
 
 fn ask_step(asked: &mut dyn Ask, table: &Rc<[u8]>, step: &Step) {

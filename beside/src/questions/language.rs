@@ -1,10 +1,14 @@
 //! `language_index` beside the crate where a name is UTF-8, and beside the plain rule for every name.
 
+use crate::fuzz::case::Chosen;
+use crate::fuzz::seeds::Seed;
+use crate::fuzz::source::{Source, LONGEST_NAME};
 use crate::questions::value::{Asked, Value};
-use crate::questions::Ask;
+use crate::questions::{Ask, Part, Question};
 use crate::reference::ltag;
 use crate::reference::oracle::{self, Answer, Fault, LONGEST_TABLE};
 use crate::tables::language::{any_ltag, any_tag, with_ranges, with_tags, Range, HEAD};
+use crate::tables::lines::any_glyphs;
 use crate::tables::random::Random;
 use crate::tables::strings::for_each_string;
 use crate::wire::entries::Entry;
@@ -39,16 +43,43 @@ impl Asked for Language {
     }
 }
 
-/// Every question about languages, with so many random ones.
-pub fn ask_all(asked: &mut dyn Ask, random: &mut Random, cases: u64) {
-    examples(asked);
-    cut_tables(asked);
-    short_tables(asked);
-    far_starts(asked);
-    long_names(asked);
-    many_tags(asked);
-    long_tables(asked);
-    random_tables(asked, random, cases);
+/// Indices of languages.
+pub struct Languages;
+
+impl Part for Languages {
+    fn name(&self) -> &'static str {
+        "language"
+    }
+
+    fn every(&self) -> u64 {
+        2
+    }
+
+    fn entries(&self) -> Vec<Entry> {
+        vec![Entry::LanguageIndex]
+    }
+
+    fn ask(&self, asked: &mut dyn Ask, random: &mut Random, cases: u64) {
+        examples(asked);
+        cut_tables(asked);
+        short_tables(asked);
+        far_starts(asked);
+        long_names(asked);
+        many_tags(asked);
+        long_tables(asked);
+        random_tables(asked, random, cases);
+    }
+
+    fn chosen(&self, _entry: Entry, chosen: Chosen, source: &mut Source) -> Box<dyn Question> {
+        Value::chosen(chosen.start, Language { name: source.name().into() })
+    }
+
+    fn seed(&self, random: &mut Random, _entry: Entry) -> Seed {
+        let glyphs = any_glyphs(random);
+        let (made, tags) = any_ltag(random);
+        let more = name(if tags.is_empty() { b"en" } else { &tags[random.below(tags.len())] });
+        Seed { more, ..Seed::of(glyphs, made) }
+    }
 }
 
 fn ask_names<'a>(asked: &mut dyn Ask, table: &Rc<[u8]>, start: u64, names: impl IntoIterator<Item = &'a [u8]>) {
@@ -213,4 +244,10 @@ fn any_name(random: &mut Random, tags: &[Vec<u8>]) -> Vec<u8> {
         _ => {}
     }
     name
+}
+
+/// The length and the bytes of a name, as far as they are taken.
+fn name(tag: &[u8]) -> Vec<u8> {
+    let name = &tag[..tag.len().min(usize::from(LONGEST_NAME) - 1)];
+    [&[name.len() as u8], name].concat()
 }

@@ -1,6 +1,9 @@
 //! morx's chains, features and subtables, as cursors go through them, beside the crate's iterators.
 
-use crate::questions::{Ask, Question};
+use crate::fuzz::case::Chosen;
+use crate::fuzz::seeds::{self, Seed};
+use crate::fuzz::source::Source;
+use crate::questions::{Ask, Part, Question};
 use crate::reference::lists_by_copy::{chains_from, lists_of_chain, next, Cursor, List};
 use crate::reference::oracle::aat::morx::{chains, Chain, Feature, Subtable};
 use crate::reference::oracle::{caught, Answer, Fault, LONGEST_TABLE};
@@ -199,16 +202,50 @@ pub fn lent(held: u64, count: usize) -> Vec<u64> {
     (0..count as u32).map(|number| held.rotate_left(number)).collect()
 }
 
-/// Every question about lists, with so many random ones.
-pub fn ask_all(asked: &mut dyn Ask, random: &mut Random, cases: u64) {
-    examples(asked);
-    cut_tables(asked);
-    counts_and_sizes(asked);
-    far_starts(asked);
-    far_cursors(asked);
-    long_tables(asked);
-    coverages(asked, random);
-    random_tables(asked, random, cases);
+/// morx's lists, and the orders of its subtables.
+pub struct Lists;
+
+impl Part for Lists {
+    fn name(&self) -> &'static str {
+        "lists"
+    }
+
+    fn entries(&self) -> Vec<Entry> {
+        [&[Entry::MorxChains][..], &LISTS.map(List::entry), &[Entry::MorxOrder, Entry::MorxShouldReverse]].concat()
+    }
+
+    fn ask(&self, asked: &mut dyn Ask, random: &mut Random, cases: u64) {
+        examples(asked);
+        cut_tables(asked);
+        counts_and_sizes(asked);
+        far_starts(asked);
+        far_cursors(asked);
+        long_tables(asked);
+        coverages(asked, random);
+        random_tables(asked, random, cases);
+    }
+
+    fn chosen(&self, entry: Entry, chosen: Chosen, source: &mut Source) -> Box<dyn Question> {
+        let Chosen { start, right_to_left, told, right, .. } = chosen;
+        let coverage = u32::from(told.glyph) << 16 | u32::from(right);
+        match entry {
+            Entry::MorxChains => Box::new(Start { start }),
+            Entry::MorxOrder => Box::new(Coverage { coverage, right_to_left: None }),
+            Entry::MorxShouldReverse => Box::new(Coverage { coverage, right_to_left: Some(right_to_left) }),
+            _ => Box::new(Next { list: list_of(entry), cursor: [(); 2].map(|()| source.long()), told: None }),
+        }
+    }
+
+    fn seed(&self, random: &mut Random, entry: Entry) -> Seed {
+        if matches!(entry, Entry::MorxOrder | Entry::MorxShouldReverse) {
+            return Seed::of(0..0xFFFF, Made::whole(Vec::new()));
+        }
+        let any = Seed::any(random, seeds::any_lists);
+        match entry {
+            Entry::MorxChains => any,
+            _ => any.with_cursor(|made| some_cursor(random, list_of(entry), made)),
+        }
+    }
 }
 
 fn ask_next(asked: &mut dyn Ask, table: &Rc<[u8]>, list: List, cursor: Cursor) {
@@ -398,6 +435,36 @@ pub fn any_cursor(random: &mut Random, length: usize) -> Cursor {
         _ => random.below(limit) as u64,
     };
     [any(length + 2), any(5)]
+}
+
+/// The list that an entry goes on with.
+fn list_of(entry: Entry) -> List {
+    LISTS.into_iter().find(|list| list.entry() == entry).expect("a list with this entry")
+}
+
+/// A cursor for a list: mostly one that the crate comes to, else any.
+fn some_cursor(random: &mut Random, list: List, made: &Made) -> Cursor {
+    let own = if random.once_in(4) { None } else { own_cursor(random, list, made) };
+    own.unwrap_or_else(|| any_cursor(random, made.table.len()))
+}
+
+/// A cursor of a list as the crate goes through it; None where it comes to no chain.
+fn own_cursor(random: &mut Random, list: List, made: &Made) -> Option<Cursor> {
+    let chains = chains_from(&made.table, made.start as u64);
+    let of_chain = further(random, List::Chains, &made.table, chains);
+    if list == List::Chains {
+        return Some(of_chain);
+    }
+    let (fields, _) = next(List::Chains, &made.table, of_chain)?;
+    let [features, subtables] = lists_of_chain(&fields);
+    let first = if list == List::Features { features } else { subtables };
+    Some(further(random, list, &made.table, first))
+}
+
+/// The cursor some elements further on, as far as there are any.
+fn further(random: &mut Random, list: List, table: &[u8], first: Cursor) -> Cursor {
+    let elements = std::iter::successors(Some(first), |cursor| Some(next(list, table, *cursor)?.1));
+    elements.take(1 + random.below(4)).last().unwrap_or(first)
 }
 
 /// Passes questions on and counts them down.

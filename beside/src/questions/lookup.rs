@@ -1,7 +1,10 @@
 //! `lookup` beside the crate, and the survey beside document 01.
 
+use crate::fuzz::case::Chosen;
+use crate::fuzz::seeds::Seed;
+use crate::fuzz::source::Source;
 use crate::questions::value::{Asked, Value};
-use crate::questions::{Ask, Question};
+use crate::questions::{Ask, Part, Question};
 use crate::reference::oracle::{self, Answer, Fault, LONGEST_TABLE};
 use crate::reference::survey::{plain_look, survey, Verdict};
 use crate::tables::lookup::{record_size, with_records, words, Made, Record};
@@ -98,16 +101,44 @@ fn sample_case(sample: &mut Vec<u8>, start: u64, glyph: u16, answer: u32, values
     sample.extend(words(&values));
 }
 
-/// Every question about lookups, with so many random ones.
-pub fn ask_all(asked: &mut dyn Ask, random: &mut Random, cases: u64) {
-    examples(asked);
-    far_starts(asked);
-    short_arrays(asked);
-    short_record_lists(asked);
-    long_arrays(asked);
-    long_record_lists(asked);
-    long_tables(asked);
-    random_tables(asked, random, cases);
+/// Lookups and surveys.
+pub struct Lookups;
+
+impl Part for Lookups {
+    fn name(&self) -> &'static str {
+        "lookup"
+    }
+
+    fn every(&self) -> u64 {
+        1
+    }
+
+    fn entries(&self) -> Vec<Entry> {
+        vec![Entry::Lookup, Entry::Survey]
+    }
+
+    fn ask(&self, asked: &mut dyn Ask, random: &mut Random, cases: u64) {
+        examples(asked);
+        far_starts(asked);
+        short_arrays(asked);
+        short_record_lists(asked);
+        long_arrays(asked);
+        long_record_lists(asked);
+        long_tables(asked);
+        random_tables(asked, random, cases);
+    }
+
+    fn chosen(&self, entry: Entry, chosen: Chosen, _source: &mut Source) -> Box<dyn Question> {
+        let start = chosen.start;
+        if entry == Entry::Survey {
+            return Box::new(Survey { start });
+        }
+        Value::chosen(start, Lookup { glyph: chosen.told.glyph })
+    }
+
+    fn seed(&self, random: &mut Random, _entry: Entry) -> Seed {
+        Seed::any(random, |random, _| Made::any(random, 12))
+    }
 }
 
 /// Questions for the sample: the examples, many small tables and a few of some thousand bytes.

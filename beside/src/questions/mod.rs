@@ -15,12 +15,15 @@ pub mod steps;
 pub mod value;
 pub mod verbs;
 
-use crate::reference::kerning::Kerning;
+use crate::fuzz::case::Chosen;
+use crate::fuzz::seeds::Seed;
+use crate::fuzz::source::Source;
+use crate::reference::kerning::Kerning::{Kern, Kerx};
 use crate::reference::oracle::Fault;
 use crate::reference::step::MACHINES;
 use crate::tables::kinds::KINDS;
 use crate::tables::random::Random;
-use crate::wire::entries::Entry;
+use crate::wire::entries::{Entry, ENTRIES};
 use std::rc::Rc;
 
 /// One call of an exported entry, and what is right for it.
@@ -59,57 +62,65 @@ pub trait Ask {
     }
 }
 
-/// Questions that belong together.
-pub struct Part {
+/// Some entries, and all that is asked about them.
+pub trait Part: Sync {
     /// What it is called in beside/changes.
-    pub name: &'static str,
+    fn name(&self) -> &'static str;
     /// It has one random case where a run has so many.
-    pub every: u64,
-    ask: Box<Asks>,
-}
-
-type Asks = dyn Fn(&mut dyn Ask, &mut Random, u64);
-
-impl Part {
-    fn new(name: &'static str, every: u64, ask: impl Fn(&mut dyn Ask, &mut Random, u64) + 'static) -> Self {
-        Part { name, every, ask: Box::new(ask) }
+    fn every(&self) -> u64 {
+        5
     }
-
+    /// Its entries.
+    fn entries(&self) -> Vec<Entry>;
     /// Puts all of its questions, with so many random ones.
-    pub fn ask(&self, asked: &mut dyn Ask, random: &mut Random, cases: u64) {
-        (self.ask)(asked, random, cases)
-    }
+    fn ask(&self, asked: &mut dyn Ask, random: &mut Random, cases: u64);
+    /// The call of one of its entries that bytes choose, with a state, a cursor or a name from the bytes that follow.
+    fn chosen(&self, entry: Entry, chosen: Chosen, source: &mut Source) -> Box<dyn Question>;
+    /// What such bytes can begin with.
+    fn seed(&self, random: &mut Random, entry: Entry) -> Seed;
 }
 
 /// All parts, in the order in which they are asked.
-pub fn parts() -> Vec<Part> {
-    let mut parts = vec![
-        Part::new("lookup", 1, lookup::ask_all),
-        Part::new("classes", 1, classes::ask_all),
-        Part::new("language", 2, language::ask_all),
-        Part::new("verbs", 5, verbs::ask_all),
-    ];
-    for kind in &KINDS {
-        parts.push(Part::new(kind.name, 5, move |asked, random, cases| passes::ask_own(asked, kind, random, cases)));
-    }
-    parts.push(Part::new("passes", 25, passes::ask_general));
-    for machine in &MACHINES {
-        let ask = move |asked: &mut dyn Ask, random: &mut Random, cases| steps::ask_all(asked, machine, random, cases);
-        parts.push(Part::new(machine.kind.name, 5, ask));
-    }
-    parts.push(Part::new("lists", 5, lists::ask_all));
-    parts.push(Part::new("runs", 5, runs::ask_all));
-    let of_kerning: [fn(&mut dyn Ask, Kerning, &mut Random, u64); 5] = [
-        kerning_pairs::ask_all,
-        kerning_passes::ask_all,
-        kerning_steps::ask_all,
-        kerning_lists::ask_all,
-        kerning_runs::ask_all,
-    ];
-    for kerning in [Kerning::Kern, Kerning::Kerx] {
-        for ask in of_kerning {
-            parts.push(Part::new(kerning.name(), 5, move |asked, random, cases| ask(asked, kerning, random, cases)));
-        }
-    }
-    parts
+pub static PARTS: &[&dyn Part] = &[
+    &lookup::Lookups,
+    &classes::Classes,
+    &language::Languages,
+    &verbs::Verbs,
+    &passes::OwnPasses(&KINDS[0]),
+    &passes::OwnPasses(&KINDS[1]),
+    &passes::OwnPasses(&KINDS[2]),
+    &passes::OwnPasses(&KINDS[3]),
+    &passes::OwnPasses(&KINDS[4]),
+    &passes::Passes,
+    &steps::Steps(&MACHINES[0]),
+    &steps::Steps(&MACHINES[1]),
+    &steps::Steps(&MACHINES[2]),
+    &steps::Steps(&MACHINES[3]),
+    &lists::Lists,
+    &runs::Runs,
+    &kerning_pairs::Pairs(Kern),
+    &kerning_passes::Passes(Kern),
+    &kerning_steps::Steps(Kern),
+    &kerning_lists::Lists(Kern),
+    &kerning_runs::Runs(Kern),
+    &kerning_pairs::Pairs(Kerx),
+    &kerning_passes::Passes(Kerx),
+    &kerning_steps::Steps(Kerx),
+    &kerning_lists::Lists(Kerx),
+    &kerning_runs::Runs(Kerx),
+];
+
+/// The part that an entry belongs to.
+pub fn part_of(entry: Entry) -> &'static dyn Part {
+    *PARTS.iter().find(|part| part.entries().contains(&entry)).expect("a part with this entry")
+}
+
+const HEADER: &str = include_str!("../../../crates/firmware/aat.h");
+
+/// The entries that aat.h declares and no part has.
+pub fn not_asked_for() -> Vec<&'static str> {
+    let declared = HEADER.lines().filter_map(|line| line.strip_prefix("uint32_t ")?.split_once('('));
+    let has = |entry: Entry| PARTS.iter().any(|part| part.entries().contains(&entry));
+    let is_asked_for = |name: &&str| ENTRIES.iter().any(|entry| entry.1 == *name && has(entry.0));
+    declared.map(|(name, _)| name).filter(|name| !is_asked_for(name)).collect()
 }

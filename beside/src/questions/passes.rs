@@ -1,6 +1,9 @@
 //! Passes over a line beside the crate's machines in document 01's pass.
 
-use crate::questions::{Ask, Question};
+use crate::fuzz::case::Chosen;
+use crate::fuzz::seeds::{self, Seed};
+use crate::fuzz::source::Source;
+use crate::questions::{Ask, Part, Question};
 use crate::reference::line::{Line, DELETED, LARGEST_ROOM};
 use crate::reference::oracle::{caught, Answer, Fault, LONGEST_TABLE};
 use crate::reference::pass::line_of;
@@ -22,6 +25,12 @@ use std::rc::Rc;
 pub struct By {
     pub entry: Entry,
     pub kind: &'static Kind,
+}
+
+impl By {
+    fn chosen(self, chosen: Chosen) -> Box<dyn Question> {
+        Box::new(Pass { by: self, line: chosen.lent.line, start: chosen.start, written: None })
+    }
 }
 
 /// A call of a pass.
@@ -127,35 +136,83 @@ impl Question for Pass {
     }
 }
 
-/// Every question about a kind's own pass, with so many random ones.
-pub fn ask_own(asked: &mut dyn Ask, kind: &'static Kind, random: &mut Random, cases: u64) {
-    let by = By { entry: kind.pass, kind };
-    examples(asked, by);
-    short_bodies(asked, by);
-    limits(asked, by);
-    cut_subtables(asked, by);
-    coverages(asked, by);
-    far_starts(asked, by);
-    far_offsets(asked, by);
-    refused_lines(asked, by);
-    long_tables(asked, by);
-    long_lines(asked, by, random);
-    random_subtables(asked, by, random, cases);
-}
+/// A kind's own pass.
+pub struct OwnPasses(pub &'static Kind);
 
-/// Every question about the pass that takes every kind, with so many random ones for each.
-pub fn ask_general(asked: &mut dyn Ask, random: &mut Random, cases: u64) {
-    let of_kind = |kind| By { entry: Entry::MorxPass, kind };
-    for by in KINDS.iter().map(of_kind) {
+impl Part for OwnPasses {
+    fn name(&self) -> &'static str {
+        self.0.name
+    }
+
+    fn entries(&self) -> Vec<Entry> {
+        vec![self.0.pass]
+    }
+
+    fn ask(&self, asked: &mut dyn Ask, random: &mut Random, cases: u64) {
+        let kind = self.0;
+        let by = By { entry: kind.pass, kind };
         examples(asked, by);
+        short_bodies(asked, by);
+        limits(asked, by);
         cut_subtables(asked, by);
         coverages(asked, by);
+        far_starts(asked, by);
+        far_offsets(asked, by);
+        refused_lines(asked, by);
+        long_tables(asked, by);
+        long_lines(asked, by, random);
         random_subtables(asked, by, random, cases);
     }
-    many_subtables(asked, random, cases);
-    far_starts(asked, of_kind(&KINDS[0]));
-    refused_lines(asked, of_kind(&KINDS[0]));
-    long_tables(asked, of_kind(&KINDS[0]));
+
+    fn chosen(&self, entry: Entry, chosen: Chosen, _source: &mut Source) -> Box<dyn Question> {
+        By { entry, kind: self.0 }.chosen(chosen)
+    }
+
+    fn seed(&self, random: &mut Random, _entry: Entry) -> Seed {
+        Seed::any(random, |random, glyphs| Made::whole(seeds::any_subtable(random, self.0, glyphs)))
+    }
+}
+
+/// The pass that takes every kind.
+pub struct Passes;
+
+impl Part for Passes {
+    fn name(&self) -> &'static str {
+        "passes"
+    }
+
+    fn every(&self) -> u64 {
+        25
+    }
+
+    fn entries(&self) -> Vec<Entry> {
+        vec![Entry::MorxPass]
+    }
+
+    fn ask(&self, asked: &mut dyn Ask, random: &mut Random, cases: u64) {
+        let of_kind = |kind| By { entry: Entry::MorxPass, kind };
+        for by in KINDS.iter().map(of_kind) {
+            examples(asked, by);
+            cut_subtables(asked, by);
+            coverages(asked, by);
+            random_subtables(asked, by, random, cases);
+        }
+        many_subtables(asked, random, cases);
+        far_starts(asked, of_kind(&KINDS[0]));
+        refused_lines(asked, of_kind(&KINDS[0]));
+        long_tables(asked, of_kind(&KINDS[0]));
+    }
+
+    fn chosen(&self, entry: Entry, chosen: Chosen, _source: &mut Source) -> Box<dyn Question> {
+        By { entry, kind: &KINDS[0] }.chosen(chosen)
+    }
+
+    fn seed(&self, random: &mut Random, _entry: Entry) -> Seed {
+        Seed::any(random, |random, glyphs| {
+            let kind = &KINDS[random.below(KINDS.len())];
+            Made::whole(seeds::any_subtable(random, kind, glyphs))
+        })
+    }
 }
 
 fn ask_pass(asked: &mut dyn Ask, by: By, table: &Rc<[u8]>, start: usize, line: &Line) {

@@ -1,7 +1,10 @@
 //! Whole runs of morx tables beside document 01's run over the crate's chains, subtables and machines.
 
+use crate::fuzz::case::Chosen;
+use crate::fuzz::seeds::{self, Seed};
+use crate::fuzz::source::Source;
 use crate::questions::passes::for_each_table;
-use crate::questions::{Ask, Question};
+use crate::questions::{Ask, Part, Question};
 use crate::reference::line::{Line, LARGEST_ROOM};
 use crate::reference::oracle::{Answer, Fault, LONGEST_TABLE};
 use crate::reference::pass::line_of;
@@ -9,6 +12,7 @@ use crate::reference::run::{Run, MOST_HEADS};
 use crate::reference::trace::describe_run;
 use crate::tables::kinds::{Written, KINDS};
 use crate::tables::lines::{any_line_of, spoil};
+use crate::tables::lookup::Made;
 use crate::tables::morx::{any_morx, chain, chosen_subtable, morx, puts_in, subtable, trimmed};
 use crate::tables::random::Random;
 use crate::tables::strings::for_each_string;
@@ -85,17 +89,38 @@ impl Question for MorxRun {
     }
 }
 
-/// Every question about runs, with so many random ones.
-pub fn ask_all(asked: &mut dyn Ask, random: &mut Random, cases: u64) {
-    examples(asked);
-    one_subtable(asked);
-    cut_tables(asked);
-    far_starts(asked);
-    refused_lines(asked);
-    long_tables(asked);
-    many_heads(asked);
-    full_rooms(asked);
-    random_tables(asked, random, cases);
+/// Runs of morx.
+pub struct Runs;
+
+impl Part for Runs {
+    fn name(&self) -> &'static str {
+        "runs"
+    }
+
+    fn entries(&self) -> Vec<Entry> {
+        vec![Entry::MorxRun]
+    }
+
+    fn ask(&self, asked: &mut dyn Ask, random: &mut Random, cases: u64) {
+        examples(asked);
+        one_subtable(asked);
+        cut_tables(asked);
+        far_starts(asked);
+        refused_lines(asked);
+        long_tables(asked);
+        many_heads(asked);
+        full_rooms(asked);
+        random_tables(asked, random, cases);
+    }
+
+    fn chosen(&self, _entry: Entry, chosen: Chosen, _source: &mut Source) -> Box<dyn Question> {
+        let Chosen { start, right_to_left, lent, .. } = chosen;
+        Box::new(MorxRun { line: lent.line, start, right_to_left, written: None })
+    }
+
+    fn seed(&self, random: &mut Random, _entry: Entry) -> Seed {
+        Seed::any(random, |random, glyphs| Made::whole(seeds::any_morx(random, glyphs)))
+    }
 }
 
 /// A run in either direction, with two numbers for the second.

@@ -1,6 +1,9 @@
 //! Lone steps beside the crate's copy, from fresh and from lent states.
 
-use crate::questions::{Ask, Question};
+use crate::fuzz::case::Chosen;
+use crate::fuzz::seeds::{self, Seed};
+use crate::fuzz::source::Source;
+use crate::questions::{Ask, Part, Question};
 use crate::reference::line::{Line, LARGEST_ROOM};
 use crate::reference::oracle::{caught, Answer, Fault, LONGEST_TABLE};
 use crate::reference::pass::line_of;
@@ -9,6 +12,7 @@ use crate::reference::steps_by_copy::open;
 use crate::reference::trace::describe_state;
 use crate::tables::kinds::any_subtable;
 use crate::tables::lines::{any_glyphs, any_line_of, spoil};
+use crate::tables::lookup::Made;
 use crate::tables::morx::{in_chain, subtable, CHAIN_HEADS, SUBTABLE_HEAD};
 use crate::tables::random::Random;
 use crate::wire::entries::Entry;
@@ -137,16 +141,39 @@ impl Question for Step {
     }
 }
 
-/// Every question about a machine's lone step, with so many random ones.
-pub fn ask_all(asked: &mut dyn Ask, machine: &'static Machine, random: &mut Random, cases: u64) {
-    examples(asked, machine);
-    refusals(asked, machine);
-    lengths(asked, machine);
-    slots(asked, machine);
-    short_bodies(asked, machine, random);
-    limits(asked, machine);
-    random_states(asked, machine, random, cases);
-    random_passes(asked, machine, random, cases / 50);
+/// The steps of a machine.
+pub struct Steps(pub &'static Machine);
+
+impl Part for Steps {
+    fn name(&self) -> &'static str {
+        self.0.kind.name
+    }
+
+    fn entries(&self) -> Vec<Entry> {
+        vec![self.0.step]
+    }
+
+    fn ask(&self, asked: &mut dyn Ask, random: &mut Random, cases: u64) {
+        let machine = self.0;
+        examples(asked, machine);
+        refusals(asked, machine);
+        lengths(asked, machine);
+        slots(asked, machine);
+        short_bodies(asked, machine, random);
+        limits(asked, machine);
+        random_states(asked, machine, random, cases);
+        random_passes(asked, machine, random, cases / 50);
+    }
+
+    fn chosen(&self, _entry: Entry, chosen: Chosen, source: &mut Source) -> Box<dyn Question> {
+        let state = self.0.state.iter().map(|_| source.number()).collect();
+        Box::new(Step::new(self.0, chosen.start, state, &chosen.lent.line, chosen.told))
+    }
+
+    fn seed(&self, random: &mut Random, _entry: Entry) -> Seed {
+        let any = Seed::any(random, |random, glyphs| Made::whole(seeds::any_subtable(random, self.0.kind, glyphs)));
+        Seed { more: vec![0; self.0.state.len()], ..any }
+    }
 }
 
 fn ask_step(asked: &mut dyn Ask, machine: &'static Machine, table: &Rc<[u8]>, state: &[u64], line: &Line, told: Told) {

@@ -29,6 +29,13 @@ pub struct Value<T> {
     pub written: Option<Answer<u32>>,
 }
 
+impl<T: Asked + 'static> Value<T> {
+    /// The call that bytes chose.
+    pub fn chosen(start: u64, asked: T) -> Box<dyn Question> {
+        Box::new(Value { start, asked, written: None })
+    }
+}
+
 impl<T: Asked> Value<T> {
     fn answer(&self, table: &[u8]) -> Result<Answer<u32>, Fault> {
         let (answer, other) = self.asked.answers(table, self.start)?;

@@ -1,10 +1,15 @@
 //! The lone verb beside the crate and document 01, and a fresh line beside document 01.
 
-use crate::questions::{Ask, Question};
+use crate::fuzz::case::Chosen;
+use crate::fuzz::seeds::Seed;
+use crate::fuzz::source::Source;
+use crate::questions::{Ask, Part, Question};
+use crate::reference::kerning::Kerned;
 use crate::reference::line::{fresh, lone_verb, Line, LARGEST_ROOM};
 use crate::reference::oracle::{caught, Answer, Fault};
 use crate::reference::rearrange::rearrange;
 use crate::tables::lines::{any_line, any_numbers, spoil};
+use crate::tables::lookup::Made;
 use crate::tables::random::Random;
 use crate::tables::strings::for_each_string;
 use crate::wire::entries::Entry;
@@ -114,16 +119,43 @@ impl Question for Verb {
     }
 }
 
-/// Every question about fresh lines and lone verbs, with so many random ones.
-pub fn ask_all(asked: &mut dyn Ask, random: &mut Random, cases: u64) {
-    fresh_lines(asked);
-    examples(asked);
-    short_lines(asked, random);
-    short_tags(asked);
-    short_homes(asked);
-    refused_lengths(asked);
-    longest_lines(asked, random);
-    random_lines(asked, random, cases);
+/// Verbs and fresh lines.
+pub struct Verbs;
+
+impl Part for Verbs {
+    fn name(&self) -> &'static str {
+        "verbs"
+    }
+
+    fn entries(&self) -> Vec<Entry> {
+        vec![Entry::Fresh, Entry::Verb]
+    }
+
+    fn ask(&self, asked: &mut dyn Ask, random: &mut Random, cases: u64) {
+        fresh_lines(asked);
+        examples(asked);
+        short_lines(asked, random);
+        short_tags(asked);
+        short_homes(asked);
+        refused_lengths(asked);
+        longest_lines(asked, random);
+        random_lines(asked, random, cases);
+    }
+
+    fn chosen(&self, entry: Entry, chosen: Chosen, _source: &mut Source) -> Box<dyn Question> {
+        let Chosen { start, told, lent: Kerned { line, .. }, .. } = chosen;
+        if entry == Entry::Fresh {
+            return Box::new(Fresh { glyphs: line.glyphs.len(), tags: line.tags.len(), homes: line.homes.len() });
+        }
+        Box::new(Verb { line, verb: told.glyph, start, end: told.index, written: None })
+    }
+
+    fn seed(&self, random: &mut Random, entry: Entry) -> Seed {
+        if entry == Entry::Fresh {
+            return Seed::any(random, |_, _| Made::whole(Vec::new()));
+        }
+        Seed::of(0..16, Made { start: random.below(4), ..Made::whole(Vec::new()) })
+    }
 }
 
 fn ask_verb(asked: &mut dyn Ask, line: &Line, verb: u16, start: u64, end: u64) {

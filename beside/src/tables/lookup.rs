@@ -79,6 +79,11 @@ pub fn any_with_values(random: &mut Random, first: u16, values: &[u16]) -> Vec<u
 }
 
 impl Made {
+    /// A table that begins with its first byte.
+    pub fn whole(table: Vec<u8>) -> Self {
+        Made { table, start: 0, edges: Vec::new() }
+    }
+
     /// Any lookup table: of any format, often damaged, often behind other bytes.
     pub fn any(random: &mut Random, most_records: usize) -> Self {
         let (mut lookup, edges) = any_lookup(random, most_records);
