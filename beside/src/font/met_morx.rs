@@ -1,71 +1,48 @@
-//! Which rows of docs/DIFFERENCES.md a line meets in the run of a morx table: the subtables that are chosen, and each
-//! step of theirs before the crate makes it.
+//! Which rows of docs/DIFFERENCES.md a line meets in the run of a morx table: this looks on while the crate goes from subtable
+//! to subtable and from step to step, with the state and the line before each.
+//!
+//! What a step does inside is read from the table once more: the crate hands over glyphs and places, not the entries, flags and
+//! actions that the rows ask for, and rows 38 and 39 ask for some that it leaves unread. To tell of them it would have to be
+//! changed, and then it would be another crate than the one compared.
 
 use crate::font::met::{Entry, Met, MOST_CYCLES, NONE};
 use crate::font::sfnt::{long, word};
 use crate::reference::line::Line;
 use crate::reference::opened::aat::morx::SubtableKind;
-use crate::reference::run::{Run, Visit, MOST_HEADS};
+use crate::reference::run::{Run, Visit};
 use crate::reference::step::Told;
 use crate::reference::steps_by_copy::Opened;
 use crate::tables::morx::SUBTABLE_HEAD;
 
 /// Watches the run.
 pub fn watch(met: &mut Met, run: &Run, line: &Line) {
-    let places = places(run);
-    let mut next = places.iter();
     let mut show = |visit: Visit, line: &Line| {
-        if let (Some(at), true) = (next.next(), visit.is_chosen) {
+        if let (Some((at, opened)), true) = (visit.opened, visit.is_chosen) {
             let mut line = line.clone();
             if visit.is_turned {
                 line.reverse();
             }
-            watch_subtable(met, at + SUBTABLE_HEAD, visit, run.table, line);
+            watch_subtable(met, at + SUBTABLE_HEAD, opened, visit.is_turned, run.table, line);
         }
     };
     // A fault is shown where the sides are compared.
     let _ = run.make(&mut line.clone(), &mut show);
 }
 
-/// Where the subtables of the run begin, in its order.
-fn places(run: &Run) -> Vec<usize> {
-    let mut places = Vec::new();
-    let mut add = |chain: usize| {
-        let mut at = chain + 16 + 12 * long(run.table, chain + 8)? as usize;
-        for _ in 0..long(run.table, chain + 12)?.min(MOST_HEADS) {
-            places.push(at);
-            at += long(run.table, at)? as usize;
-        }
-        Some(())
-    };
-    let start = run.start as usize;
-    let mut chain = start + 8;
-    for _ in 0..long(run.table, start + 4).unwrap_or(0).min(MOST_HEADS) {
-        add(chain);
-        match long(run.table, chain + 4) {
-            Some(length) => chain += length as usize,
-            None => break,
-        }
-    }
-    places
-}
-
-fn watch_subtable(met: &mut Met, body: usize, visit: Visit, table: &[u8], mut line: Line) {
-    let Visit { opened, is_turned, .. } = visit;
+fn watch_subtable(met: &mut Met, body: usize, opened: SubtableKind, is_turned: bool, table: &[u8], mut line: Line) {
     let number = match opened {
-        Some(SubtableKind::Rearrangement(_)) => 0,
-        Some(SubtableKind::Contextual(_)) => 1,
-        Some(SubtableKind::Ligature(_)) => 2,
-        Some(SubtableKind::NonContextual(_)) => {
+        SubtableKind::Rearrangement(_) => 0,
+        SubtableKind::Contextual(_) => 1,
+        SubtableKind::Ligature(_) => 2,
+        SubtableKind::NonContextual(_) => {
             for glyph in &line.glyphs[..line.length()] {
                 met.lookup(body, *glyph);
             }
             return;
         }
-        Some(SubtableKind::Insertion(_)) => 5,
-        None => return,
+        SubtableKind::Insertion(_) => 5,
     };
-    let machine = match opened.and_then(|subtable| Opened::of(subtable, table)) {
+    let machine = match Opened::of(opened, table) {
         Some(machine) => machine,
         None => return,
     };

@@ -17,8 +17,8 @@ pub struct Visit<'a> {
     pub is_chosen: bool,
     /// Whether the line is turned round for it.
     pub is_turned: bool,
-    /// The same subtable, by the crate's copy.
-    pub opened: Option<opened::SubtableKind<'a>>,
+    /// The same subtable, by the crate's copy, and where it begins in the table.
+    pub opened: Option<(usize, opened::SubtableKind<'a>)>,
 }
 
 /// A run from this place of a table on, on a line whose text runs this way.
@@ -64,7 +64,8 @@ impl Run<'_> {
                     return Ok((Answer::Limit, heads));
                 }
                 heads += 1;
-                let visit = self.visit(&chain, &subtable, copy.and_then(|copy| copy.kind()));
+                let opened = copy.and_then(|copy| Some((self.start as usize + copy.offset, copy.kind()?)));
+                let visit = self.visit(&chain, &subtable, opened);
                 let (is_chosen, is_turned) = (visit.is_chosen, visit.is_turned);
                 show(visit, line);
                 if is_chosen && self.pass(&subtable, is_turned, line)? == Answer::Full {
@@ -75,7 +76,12 @@ impl Run<'_> {
         Ok((Answer::Done(()), heads))
     }
 
-    fn visit<'a>(&self, chain: &Chain, subtable: &Subtable, opened: Option<opened::SubtableKind<'a>>) -> Visit<'a> {
+    fn visit<'a>(
+        &self,
+        chain: &Chain,
+        subtable: &Subtable,
+        opened: Option<(usize, opened::SubtableKind<'a>)>,
+    ) -> Visit<'a> {
         let (coverage, flags) = (subtable.coverage(), subtable.flags());
         let is_chosen = is_chosen(chain, subtable);
         Visit { coverage, flags, is_chosen, is_turned: subtable.should_reverse(self.right_to_left), opened }

@@ -30,7 +30,7 @@ pub fn describe_run(run: &Run, line: &Line) -> Vec<String> {
             if visit.is_turned {
                 line.reverse();
             }
-            if let Some(opened) = visit.opened.and_then(|subtable| Opened::of(subtable, run.table)) {
+            if let Some(opened) = visit.opened.and_then(|(_, subtable)| Opened::of(subtable, run.table)) {
                 add_steps(&opened, line, &mut steps);
             }
         }
