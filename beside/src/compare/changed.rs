@@ -1,10 +1,11 @@
 //! Puts one part of the questions to a changed crate and to the box, up to the first answer in which they differ.
 
+use crate::compare::batch::{held, Batch};
 use crate::compare::limit::Limited;
 use crate::questions::{Ask, Question, PARTS};
 use crate::reference::oracle;
 use crate::tables::random::Random;
-use crate::wire::pipe::{lend_table, TheBox};
+use crate::wire::pipe::TheBox;
 use std::process::exit;
 use std::rc::Rc;
 
@@ -41,13 +42,10 @@ fn ask(name: &str, asked: &mut Limited, random: &mut Random, cases: u64) {
 
 /// Ends the program at the first difference.
 struct First {
-    the_box: TheBox,
+    batch: Batch,
     cases: u64,
-    lent: Option<Rc<[u8]>>,
-    calls: Vec<u8>,
-    expected: Vec<u8>,
-    /// Where each reply that the box has not given yet ends, and the case that it is for.
-    ends: Vec<(usize, u64)>,
+    /// Those of them that the box has answered.
+    answered: u64,
 }
 
 const BATCH_BYTES: usize = 1 << 16;
@@ -55,20 +53,11 @@ const BATCH_BYTES: usize = 1 << 16;
 impl Ask for First {
     fn ask(&mut self, table: &Rc<[u8]>, question: Box<dyn Question>) {
         self.cases += 1;
-        let held = self.cases.wrapping_mul(0x9E37_79B9_7F4A_7C15).rotate_left(32);
-        if let Err(fault) = question.reply(table, held, &mut self.expected) {
-            self.expected.truncate(self.ends.last().map_or(0, |end| end.0));
+        if let Err(fault) = self.batch.add(table, &*question, held(self.cases)) {
             self.compare_batch();
             told_apart(self.cases, fault.describe());
         }
-        if !self.lent.as_ref().map_or(false, |lent| Rc::ptr_eq(lent, table)) {
-            lend_table(table, &mut self.calls);
-            self.lent = Some(table.clone());
-        }
-        self.calls.push(question.entry() as u8);
-        question.arguments(held, &mut self.calls);
-        self.ends.push((self.expected.len(), self.cases));
-        if self.calls.len() + self.expected.len() >= BATCH_BYTES {
+        if self.batch.bytes() >= BATCH_BYTES {
             self.compare_batch();
         }
     }
@@ -76,20 +65,15 @@ impl Ask for First {
 
 impl First {
     fn new(the_box: TheBox) -> Self {
-        First { the_box, cases: 0, lent: None, calls: Vec::new(), expected: Vec::new(), ends: Vec::new() }
+        First { batch: Batch::new(the_box), cases: 0, answered: 0 }
     }
 
     fn compare_batch(&mut self) {
-        let replies = self.the_box.exchange(&self.calls, self.expected.len()).unwrap_or_else(|error| fail(error));
-        let mut begins = 0;
-        for (ends, case) in self.ends.drain(..) {
-            if replies[begins..ends] != self.expected[begins..ends] {
-                told_apart(case, "the box gives another answer");
-            }
-            begins = ends;
+        let differences = self.batch.answer().unwrap_or_else(|error| fail(error));
+        if let Some(first) = differences.first() {
+            told_apart(self.answered + first.number as u64 + 1, "the box gives another answer");
         }
-        self.calls.clear();
-        self.expected.clear();
+        self.answered = self.cases;
     }
 }
 

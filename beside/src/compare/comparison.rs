@@ -1,10 +1,11 @@
 //! Questions to both sides, their answers compared, and what is said of a difference.
 
+use crate::compare::batch::{held, Batch, Difference};
 use crate::compare::progress::Progress;
 use crate::questions::{Ask, Question};
 use crate::reference::oracle::Fault;
 use crate::wire::hex;
-use crate::wire::pipe::{lend_table, TheBox};
+use crate::wire::pipe::TheBox;
 use std::rc::Rc;
 
 /// Counts the questions and asks nobody.
@@ -28,14 +29,12 @@ pub struct Totals {
 
 /// Puts each question to the crate and to the box, a batch at a time.
 pub struct Comparison {
-    the_box: TheBox,
+    batch: Batch,
+    /// The questions of the batch.
+    waiting: Vec<Waiting>,
     progress: Progress,
     traces: bool,
     totals: Totals,
-    lent: Option<Rc<[u8]>>,
-    calls: Vec<u8>,
-    expected: Vec<u8>,
-    waiting: Vec<Waiting>,
 }
 
 /// A question that the box has not answered yet.
@@ -43,7 +42,6 @@ struct Waiting {
     table: Rc<[u8]>,
     question: Box<dyn Question>,
     held: u64,
-    reply_ends: usize,
 }
 
 const BATCH_BYTES: usize = 1 << 18;
@@ -54,12 +52,12 @@ pub const DIFFERENCES_SHOWN: u64 = 10;
 impl Ask for Comparison {
     fn ask(&mut self, table: &Rc<[u8]>, question: Box<dyn Question>) {
         self.totals.cases += 1;
-        let held = self.totals.cases.wrapping_mul(0x9E37_79B9_7F4A_7C15).rotate_left(32);
-        match question.reply(table, held, &mut self.expected) {
-            Ok(()) => self.call(table, question, held),
+        let held = held(self.totals.cases);
+        match self.batch.add(table, &*question, held) {
+            Ok(()) => self.waiting.push(Waiting { table: table.clone(), question, held }),
             Err(fault) => self.count_fault(table, &*question, held, fault),
         }
-        if self.calls.len() + self.expected.len() >= BATCH_BYTES {
+        if self.batch.bytes() >= BATCH_BYTES {
             self.compare_batch();
         }
     }
@@ -68,70 +66,36 @@ impl Ask for Comparison {
 impl Comparison {
     /// A comparison with this box, which shows the steps of cases that differ or does not.
     pub fn new(the_box: TheBox, progress: Progress, traces: bool) -> Self {
-        Comparison {
-            the_box,
-            progress,
-            traces,
-            totals: Totals::default(),
-            lent: None,
-            calls: Vec::new(),
-            expected: Vec::new(),
-            waiting: Vec::new(),
-        }
+        let batch = Batch::new(the_box);
+        Comparison { batch, waiting: Vec::new(), progress, traces, totals: Totals::default() }
     }
 
     /// Compares what is left and ends the box.
     pub fn finish(mut self) -> Totals {
         self.compare_batch();
-        match self.the_box.end() {
+        match self.batch.end() {
             Ok(true) => self.totals,
             Ok(false) => give_up("it did not end as it should"),
             Err(error) => give_up(error),
         }
     }
 
-    fn call(&mut self, table: &Rc<[u8]>, question: Box<dyn Question>, held: u64) {
-        if !self.lent.as_ref().map_or(false, |lent| Rc::ptr_eq(lent, table)) {
-            lend_table(table, &mut self.calls);
-            self.lent = Some(table.clone());
-        }
-        self.calls.push(question.entry() as u8);
-        question.arguments(held, &mut self.calls);
-        self.waiting.push(Waiting { table: table.clone(), question, held, reply_ends: self.expected.len() });
-    }
-
     fn compare_batch(&mut self) {
-        let replies = match self.the_box.exchange(&self.calls, self.expected.len()) {
-            Ok(replies) => replies,
-            Err(error) => {
-                let (last, cases) = (self.waiting.len(), self.totals.cases);
-                give_up(format!("it broke off in the last {} of {} cases: {}", last, cases, error))
-            }
-        };
-        if replies != self.expected {
-            self.count_differences(&replies);
-        }
-        self.calls.clear();
-        self.expected.clear();
-        self.waiting.clear();
-        self.progress.show(self.totals.cases);
-    }
-
-    fn count_differences(&mut self, replies: &[u8]) {
-        let mut begins = 0;
-        for asked in &self.waiting {
-            let (right, given) = (&self.expected[begins..asked.reply_ends], &replies[begins..asked.reply_ends]);
-            begins = asked.reply_ends;
-            if right == given {
-                continue;
-            }
+        let differences = self.batch.answer().unwrap_or_else(|error| {
+            let (last, cases) = (self.waiting.len(), self.totals.cases);
+            give_up(format!("it broke off in the last {} of {} cases: {}", last, cases, error))
+        });
+        for Difference { number, right, given } in differences {
+            let Waiting { table, question, held } = &self.waiting[number];
             self.totals.differences += 1;
             if self.totals.differences <= DIFFERENCES_SHOWN {
-                self.print_case(&asked.table, &*asked.question, asked.held);
-                println!("  right: {}", asked.question.describe_reply(right));
-                println!("  box:   {}", asked.question.describe_reply(given));
+                self.print_case(table, &**question, *held);
+                println!("  right: {}", question.describe_reply(&right));
+                println!("  box:   {}", question.describe_reply(&given));
             }
         }
+        self.waiting.clear();
+        self.progress.show(self.totals.cases);
     }
 
     fn count_fault(&mut self, table: &[u8], question: &dyn Question, held: u64, fault: Fault) {

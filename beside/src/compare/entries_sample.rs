@@ -5,6 +5,7 @@
 //! count in two, for all between them are 0; a call is the entry's number in one byte, what it is told and lent, and the reply
 //! that is right, these two with their lengths in two bytes.
 
+use crate::compare::batch::held;
 use crate::questions::{Ask, Question};
 use crate::reference::oracle::{Answer, LONGEST_TABLE};
 use crate::tables::random::Random;
@@ -73,11 +74,6 @@ impl Ask for EntriesSample {
         let most = if is_too_long { MOST_TOO_LONG } else { MOST_CASES };
         picked.take(&mut self.random, most, Case { table: table.clone(), call, reply });
     }
-}
-
-/// A number to lend that changes from question to question.
-fn held(asked: u64) -> u64 {
-    asked.wrapping_mul(0x9E37_79B9_7F4A_7C15).rotate_left(32)
 }
 
 impl Picked {

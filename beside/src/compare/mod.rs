@@ -1,5 +1,6 @@
 //! Runs the port beside the crate that it ports: the same questions to both, and every answer compared.
 
+mod batch;
 pub mod changed;
 mod comparison;
 mod entries_sample;

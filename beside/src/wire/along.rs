@@ -2,7 +2,7 @@
 
 use crate::reference::kerning::Kerned;
 use crate::reference::oracle::Answer;
-use crate::wire::reply::number;
+use crate::wire::reply::{describe, number};
 
 /// Adds the count of adjustments, and these.
 pub fn lend_along(along: &[i64], call: &mut Vec<u8>) {
@@ -15,13 +15,9 @@ pub fn add_along(along: &[i64], reply: &mut Vec<u8>) {
     reply.extend(along.iter().flat_map(|number| number.to_le_bytes()));
 }
 
-const NUMBERS_SHOWN: usize = 40;
-
 /// Adjustments in words.
 pub fn describe_along(along: &[i64]) -> String {
-    let shown: Vec<String> = along.iter().take(NUMBERS_SHOWN).map(i64::to_string).collect();
-    let more = if shown.len() < along.len() { " .." } else { "" };
-    format!("adjustments ({}) {}{}", along.len(), shown.join(" "), more)
+    format!("adjustments {}", describe(along))
 }
 
 /// The adjustments in these bytes of a reply.

@@ -3,7 +3,7 @@
 use crate::reference::line::Line;
 use crate::reference::oracle::Answer;
 use crate::wire::pipe::{add_numbers, lend_numbers};
-use crate::wire::reply::number;
+use crate::wire::reply::{describe, number};
 
 impl Line {
     /// Adds the slices and the used length, as a call has them.
@@ -47,14 +47,6 @@ impl Line {
 }
 
 fn describe_slices(slices: [&[u16]; 3]) -> String {
-    let [glyphs, tags, homes] = slices.map(describe_numbers);
+    let [glyphs, tags, homes] = slices.map(describe);
     format!("glyphs {}; tags {}; homes {}", glyphs, tags, homes)
-}
-
-const NUMBERS_SHOWN: usize = 40;
-
-fn describe_numbers(numbers: &[u16]) -> String {
-    let shown: Vec<String> = numbers.iter().take(NUMBERS_SHOWN).map(u16::to_string).collect();
-    let more = if shown.len() < numbers.len() { " .." } else { "" };
-    format!("({}) {}{}", numbers.len(), shown.join(" "), more)
 }

@@ -14,3 +14,12 @@ pub fn add(numbers: &[u64], bytes: &mut Vec<u8>) {
 pub fn numbers(bytes: &[u8]) -> Vec<u64> {
     bytes.chunks_exact(8).map(number).collect()
 }
+
+const NUMBERS_SHOWN: usize = 40;
+
+/// How many numbers there are, and the first of them.
+pub fn describe<T: ToString>(numbers: &[T]) -> String {
+    let shown: Vec<String> = numbers.iter().take(NUMBERS_SHOWN).map(T::to_string).collect();
+    let more = if shown.len() < numbers.len() { " .." } else { "" };
+    format!("({}) {}{}", numbers.len(), shown.join(" "), more)
+}
