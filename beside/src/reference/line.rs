@@ -80,6 +80,8 @@ impl Line {
     }
 
     /// Writes a ligature and deletes its other components, whose characters go to it; at a place not in the line, nothing.
+    // Inlined always, so that a pass's times do not hang on who else calls it.
+    #[inline(always)]
     pub fn ligate(&mut self, place: usize, ligature: u16, components: &[usize]) {
         if place >= self.length() {
             return;
