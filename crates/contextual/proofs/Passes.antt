@@ -17,10 +17,13 @@ use Rattle.state_tables.specs.declared.opened.Classes.{Classes}
 use Rattle.line.specs.Line.{Line, lineOf}
 use Rattle.line.specs.Changes.{Change, applyAll}
 use Rattle.machine.specs.Pass.{Passed, deleted, isDone, advanceOf, after, passFrom}
+use Rattle.machine.specs.Machine.{passedBy, passed}
+use Rattle.machine.specs.Work.{passedLeaves, glyphAt}
 use Rattle.machine.proofs.Passing.{turn-goes, turn-stops, turn-ends}
 use Rattle.contextual.specs.Substitutes.{Write, changesOf}
-use Rattle.contextual.specs.Contextual.{fresh, Ran, over, next, stepped, machine, passedBy, passed}
-use Rattle.contextual.specs.Work.{writtenAll, stepOf, glyphAt, afterWrites, ranAll, passedLeaves}
+use Rattle.contextual.specs.Contextual.{fresh, Ran, over, next, stepped}
+use Rattle.contextual.specs.Calls.{contextual}
+use Rattle.contextual.specs.Work.{writtenAll, stepOf, afterWrites, ranAll}
 use Rattle.contextual.specs.declared.ContextualState.{ContextualState}
 use Rattle.contextual.specs.declared.ContextualStep.{ContextualStep}
 use Rattle.contextual.proofs.Classes.{own-classes}
@@ -168,10 +171,9 @@ module _ (classes : ℕ → ℕ) (bytes : List ℕ) (states : States) (used : �
 
   -- a step at each place from here on, and the end call
   all-pass : (left : ℕ) (s : ContextualState) (glyphs tags homes : List ℕ) (i : ℕ) → i + left ≡ used
-      → passFrom (machine classes bytes states) (suc left) s (lineOf glyphs tags homes used) i ≡ passOf (from (suc left) s glyphs i)
-  unfolding machine
+      → passFrom (contextual .step classes bytes states) (suc left) s (lineOf glyphs tags homes used) i ≡ passOf (from (suc left) s glyphs i)
   all-pass zero s glyphs tags homes i e =
-      turn-ends (machine classes bytes states) 0 s (lineOf glyphs tags homes used) i (omega (arith, e))
+      turn-ends (contextual .step classes bytes states) 0 s (lineOf glyphs tags homes used) i (omega (arith, e))
       ∙ ap passOf (sym (from-end 1 s glyphs i (omega (arith, e)) ∙ alone s glyphs used deleted true))
   all-pass (suc left) s glyphs tags homes i e = go (all-pass left) (isDone (one .answer)) refl
     where
@@ -182,19 +184,19 @@ module _ (classes : ℕ → ℕ) (bytes : List ℕ) (states : States) (used : �
       inside = omega (arith, e)
 
       pass : (steps : ℕ) → ContextualState → Line → ℕ → Passed
-      pass steps s′ l i′ = passFrom (machine classes bytes states) steps s′ l i′
+      pass steps s′ l i′ = passFrom (contextual .step classes bytes states) steps s′ l i′
 
       go : ((s′ : ContextualState) (glyphs′ tags′ homes′ : List ℕ) (i′ : ℕ) → i′ + left ≡ used
           → pass (suc left) s′ (lineOf glyphs′ tags′ homes′ used) i′ ≡ passOf (from (suc left) s′ glyphs′ i′))
           → (b : Bool) → isDone (one .answer) ≡ b
           → pass (suc (suc left)) s (lineOf glyphs tags homes used) i ≡ passOf (from (suc (suc left)) s glyphs i)
       go later false f =
-          turn-stops (machine classes bytes states) (suc left) s (lineOf glyphs tags homes used) i inside f
+          turn-stops (contextual .step classes bytes states) (suc left) s (lineOf glyphs tags homes used) i inside f
           ∙ ap passOf (sym (from-inside (suc (suc left)) s glyphs i inside ∙ all-stops (suc left) s glyphs i (getD glyphs i 0) false f))
       go later true f =
           let ws = one .writes in
           let then = writtenAll used ws glyphs in
-          turn-goes (machine classes bytes states) (suc left) s (lineOf glyphs tags homes used) i inside f
+          turn-goes (contextual .step classes bytes states) (suc left) s (lineOf glyphs tags homes used) i inside f
           ∙ ap (λ (l : Line). after (changesOf ws) (pass (suc left) (one .state) l (i + advanceOf (one .answer)))) (sym (written-line used ws glyphs tags homes))
           ∙ ap (λ (n : ℕ). after (changesOf ws) (pass (suc left) (one .state) (lineOf then tags homes used) (i + n))) (advances (one .answer) f)
           ∙ ap (after (changesOf ws)) (later (one .state) then tags homes (i + 1) (omega (arith, e)))
@@ -213,8 +215,8 @@ own-ends bytes states used steps s glyphs₀ place glyph ends {step = step} {gly
 
 -- what a pass answers and leaves
 pub record PassEnds (bytes : List ℕ) (states : States) (l : Line) (answer : Answer) (glyphs : List ℕ) : Type 0 where
-  pub answers : answer ≡ passed bytes states l .answer
-  pub left : glyphs ≡ passedLeaves bytes states l .glyphs
+  pub answers : answer ≡ passed contextual bytes states l .answer
+  pub left : glyphs ≡ passedLeaves contextual bytes states l .glyphs
 
 at-start : (used : ℕ) → leb used 0 ≡ eqb used 0
 at-start zero = refl
@@ -227,13 +229,13 @@ module _ (bytes : List ℕ) (states : States) (glyphs tags homes : List ℕ) (us
   abbrev line : Line
   line = lineOf glyphs tags homes used
 
-  whole-pass : passed bytes states line ≡ passOf (steps fresh (glyphAt glyphs used 0))
+  whole-pass : passed contextual bytes states line ≡ passOf (steps fresh (glyphAt glyphs used 0))
   unfolding passed passedBy
   whole-pass =
       let n : (used - 0) + 1 ≡ suc used = omega arith in
       let m : suc used ≡ used + 1 = omega arith in
       let classes = classOf bytes states in
-      ap (λ (k : ℕ). passFrom (machine classes bytes states) k fresh line 0) n
+      ap (λ (k : ℕ). passFrom (contextual .step classes bytes states) k fresh line 0) n
       ∙ all-pass classes bytes states used used fresh glyphs tags homes 0 (omega arith)
       ∙ ap (λ (k : ℕ). passOf (ranAll classes bytes states used k fresh glyphs 0 (glyphAt glyphs used 0) (leb used 0))) m
       ∙ ap (λ (b : Bool). passOf (ranAll classes bytes states used (used + 1) fresh glyphs 0 (glyphAt glyphs used 0) b)) (at-start used)
@@ -242,7 +244,7 @@ module _ (bytes : List ℕ) (states : States) (glyphs tags homes : List ℕ) (us
       → step ≡ stepOf (stepped (steps s first)) → glyphs′ ≡ writtenAll used (steps s first .writes) glyphs → PassEnds bytes states line (step .answer) glyphs′
   unfolding passedLeaves
   pass-ends {s} {first} b f e p =
-      let is : passOf (steps s first) ≡ passed bytes states line =
+      let is : passOf (steps s first) ≡ passed contextual bytes states line =
       ap (λ (x : ContextualState). passOf (steps x first)) b ∙ ap (λ (x : ℕ). passOf (steps fresh x)) f ∙ sym whole-pass in
       record {
         answers = ap (λ (x : ContextualStep). x .answer) e ∙ ap (λ (w : Passed). w .answer) is;

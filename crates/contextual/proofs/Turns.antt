@@ -9,10 +9,12 @@ use Rattle.answers.specs.declared.Answer.{Answer}
 use Rattle.state_tables.specs.declared.States.{States}
 use Rattle.line.specs.Line.{Line}
 use Rattle.line.specs.Changes.{applyAll}
-use Rattle.machine.specs.Pass.{isDone, advanceOf, passFrom}
-use Rattle.machine.proofs.Turns.{Counts, enough-turns}
+use Rattle.machine.specs.Pass.{isDone, advanceOf}
+use Rattle.machine.specs.Machine.{Bounded}
+use Rattle.machine.proofs.Turns.{Counts, bounded}
 use Rattle.contextual.specs.Substitutes.{Write, changesOf}
-use Rattle.contextual.specs.Contextual.{fresh, next, machine, rest, passedBy}
+use Rattle.contextual.specs.Contextual.{next}
+use Rattle.contextual.specs.Calls.{contextual}
 use Rattle.contextual.specs.declared.ContextualState.{ContextualState}
 use Rattle.contextual.proofs.Writes.{written-line}
 
@@ -26,8 +28,7 @@ advances answer e = rw e
 used-kept : (ws : List Write) (l : Line) → applyAll (changesOf ws) l .used ≡ l .used
 used-kept ws l = ap (λ (x : Line). x .used) (sym (written-line (l .used) ws (l .glyphs) (l .tags) (l .homes)))
 
-counts : (classes : ℕ → ℕ) (bytes : List ℕ) (states : States) → Counts (machine classes bytes states) Sound rest
-unfolding machine
+counts : (classes : ℕ → ℕ) (bytes : List ℕ) (states : States) → Counts (contextual .step classes bytes states) Sound (contextual .rest)
 counts classes bytes states =
     record {
       some = λ s l i ok. omega arith;
@@ -37,8 +38,5 @@ counts classes bytes states =
           omega (arith, advances (r .answer) done, used-kept (r .writes) l);
     }
 
-pub contextual-turns : (classes : ℕ → ℕ) (bytes : List ℕ) (states : States) (l : Line) (more : ℕ)
-    → passFrom (machine classes bytes states) (more + rest fresh l 0) fresh l 0 ≡ passedBy classes bytes states l
-unfolding passedBy
-contextual-turns classes bytes states l more =
-    enough-turns (machine classes bytes states) Sound rest (counts classes bytes states) more (rest fresh l 0) fresh l 0 (omega arith) (omega arith)
+pub contextual-turns : (l : Line) → Bounded contextual l
+contextual-turns l = bounded contextual Sound counts l (omega arith)

@@ -1,5 +1,5 @@
--- The contextual machine, as the crate's `next`, and its pass.
-use Prim.Native.Nat.{ℕ, zero, suc, _+_, _-_}
+-- The contextual machine's step, as the crate's `next`.
+use Prim.Native.Nat.{ℕ, zero, suc, _+_}
 use mathlib.Core.Bool.{Bool, true, false, cond, not}
 use mathlib.Core.List.{List, [], _++_}
 use lib.Dec.{eqb}
@@ -10,12 +10,10 @@ use Rattle.answers.specs.declared.Answer.the-variants as Answer′
 use Rattle.parse.specs.Reads.{u16At}
 use Rattle.state_tables.specs.declared.States.{States}
 use Rattle.state_tables.specs.declared.entries.Entry.{Entry}
-use Rattle.state_tables.specs.Classes.{classOf}
 use Rattle.state_tables.specs.Entries.{entryOf, onEntry}
-use Rattle.line.specs.Line.{Line}
 use Rattle.laws.specs.Bits.{isSet}
 use Rattle.machine.specs.Entry.{classHere}
-use Rattle.machine.specs.Pass.{Stepped, Machine, Passed, advanceOf, passOf}
+use Rattle.machine.specs.Pass.{Stepped, advanceOf}
 use Rattle.contextual.specs.Substitutes.{Write, substituteOf, glyphAfter, writesOf, changesOf}
 use Rattle.contextual.specs.declared.Substitute.{Substitute}
 use Rattle.contextual.specs.declared.Acted.{Acted}
@@ -102,19 +100,3 @@ next classes bytes states s index glyph ends =
 
 abbrev pub stepped : Ran → Stepped ContextualState
 stepped r = record { answer = r .answer; state = r .state; advance = advanceOf (r .answer); changes = changesOf (r .writes) }
-
--- the machine that passes are made of
-unfoldable pub machine : (classes : ℕ → ℕ) → List ℕ → States → Machine ContextualState
-machine classes bytes states s l index glyph ends = stepped (next classes bytes states s index glyph ends)
-
--- as many steps as a pass may have left: one for each place, and the end call
-abbrev pub rest : ContextualState → Line → ℕ → ℕ
-rest s l i = (l .used - i) + 1
-
--- the pass over a line, by any classes
-unfoldable pub passedBy : (classes : ℕ → ℕ) → List ℕ → States → Line → Passed
-passedBy classes bytes states l = passOf (machine classes bytes states) (rest fresh l 0) fresh l
-
--- the pass over a line
-unfoldable pub passed : List ℕ → States → Line → Passed
-passed bytes states l = passedBy (classOf bytes states) bytes states l

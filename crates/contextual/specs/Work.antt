@@ -1,19 +1,16 @@
 -- For the code alone; no entry and no promise rests on it, and nobody has to believe it. What the parts of the code answer and leave: a step as it is
--- handed back, its writes, steps one after the other, and a pass without its tests.
+-- handed back, its writes, and steps one after the other.
 use Prim.Native.Nat.{ℕ, zero, suc, _+_}
 use mathlib.Core.Bool.{Bool, true, false}
 use mathlib.Core.List.{List, [], _∷_, _++_}
 use lib.Dec.{leb}
-use lib.ListN.{getD}
-use Rattle.laws.specs.Choose.{ifLt}
 use Rattle.answers.specs.declared.Answer.the-variants as Answer′
 use Rattle.state_tables.specs.declared.States.{States}
-use Rattle.line.specs.Line.{Line}
-use Rattle.line.specs.Changes.{applyAll, written}
-use Rattle.machine.specs.Pass.{Stepped, deleted, isDone}
+use Rattle.line.specs.Changes.{written}
+use Rattle.machine.specs.Pass.{Stepped, isDone}
+use Rattle.machine.specs.Work.{glyphAt}
 use Rattle.contextual.specs.Substitutes.{Write}
-use Rattle.contextual.specs.Contextual.{Ran, over, next, passed}
-use Rattle.contextual.specs.Calls.{worked}
+use Rattle.contextual.specs.Contextual.{Ran, over, next}
 use Rattle.contextual.specs.declared.ContextualState.{ContextualState}
 use Rattle.contextual.specs.declared.ContextualStep.{ContextualStep}
 
@@ -25,10 +22,6 @@ stepOf r = record { answer = r .answer; state = r .state; advance = r .advance }
 unfoldable pub writtenAll : (used : ℕ) → List Write → List ℕ → List ℕ
 writtenAll used [] glyphs = glyphs
 writtenAll used (w ∷ ws) glyphs = writtenAll used ws (written used (w .at) (w .glyph) glyphs)
-
--- the glyph that a step at a place is told: the place's own, or the end call's
-unfoldable pub glyphAt : (glyphs : List ℕ) → (used place : ℕ) → ℕ
-glyphAt glyphs used place = ifLt place used (getD glyphs place 0) deleted
 
 -- writes made before
 abbrev pub afterWrites : List Write → Ran → Ran
@@ -45,11 +38,3 @@ module _ (classes : ℕ → ℕ) (bytes : List ℕ) (states : States) (used : �
         | false ↦ here
         | true ↦ afterWrites (here .writes) (ranAll steps (here .state) after (place + 1) (glyphAt after used (place + 1)) (leb used (place + 1)))
       ]
-
--- the line that a pass leaves
-unfoldable pub passedLeaves : List ℕ → States → Line → Line
-passedLeaves bytes states l = applyAll (passed bytes states l .changes) l
-
--- the line that the pass by the subtable that the bytes begin with leaves
-unfoldable pub workLeaves : List ℕ → Line → Line
-workLeaves bytes l = applyAll (worked bytes l .changes) l

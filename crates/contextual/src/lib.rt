@@ -12,17 +12,22 @@ use state_tables::opened::Classes;
 use tables::lookup;
 use tables::lookup::Found;
 ghost use mathlib.Core.Path.{_≡_};
+ghost use mathlib.Core.List.{[], _∷_};
 ghost use Prim.Native.Nat.{_+_, _≤_};
 ghost use lib.ListN.{length};
 ghost use Rattle.answers.specs.Refuse.{refuse};
 ghost use Rattle.state_tables.specs.Classes.{classOf};
 ghost use Rattle.state_tables.specs.Opened.{classBy, LiesIn, Remembers};
 ghost use Rattle.machine.specs.Entry.{classHere};
+ghost use Rattle.machine.specs.Call.{stepTests};
+ghost use Rattle.machine.specs.Machine.{passed, subtableOf, passCall, callLeaves, stepCall, stepLeaves};
+ghost use Rattle.machine.specs.Work.{passedLeaves, workLeaves};
 ghost use Rattle.line.specs.Line.{lineOf};
+ghost use Rattle.line.specs.Test.{lineTest};
 ghost use Rattle.contextual.specs.Substitutes.{substituteOf, glyphAfter, writesOf};
-ghost use Rattle.contextual.specs.Contextual.{fresh, idle, begun, seenGlyph, entered, acted, next, stepped, passed};
-ghost use Rattle.contextual.specs.Calls.{opened, worked, passCall, callLeaves, stepTests, stepCall, stepLeaves};
-ghost use Rattle.contextual.specs.Work.{writtenAll, stepOf, glyphAt, ranAll, passedLeaves, workLeaves};
+ghost use Rattle.contextual.specs.Contextual.{fresh, idle, begun, seenGlyph, entered, acted, next, stepped};
+ghost use Rattle.contextual.specs.Calls.{opened, stateTests, contextual};
+ghost use Rattle.contextual.specs.Work.{writtenAll, stepOf, ranAll};
 
 // The state of a pass: the state table's state, whether a mark was set, its place, and the glyph that is remembered for it.
 pub struct ContextualState {
@@ -123,17 +128,6 @@ fn class_now(bytes: &[u8], table: Classes, memo: &mut [u32; 64], glyph: u16, end
     opened::class_in_words(bytes, base, first, count, glyph)
 }
 
-// The glyph that a step at this place is told: the place's own, or the end call's.
-fn glyph_at(glyphs: &[u16], used: usize, place: usize) -> u16
-    requires { ⌜ used ≤ length (now glyphs) ⌝ }
-    ensures { λ r. ⌜ r ≡ glyphAt (now (glyphs .entry)) used place ⌝ }
-{
-    if place < used {
-        return glyphs[place];
-    }
-    ContextualState::END
-}
-
 impl ContextualState {
     // The kind of a contextual subtable.
     pub const KIND: u32 = 1;
@@ -149,9 +143,6 @@ impl ContextualState {
 
     // The most entries of one step.
     pub const ENTRIES: u16 = 18;
-
-    // The glyph of the end call.
-    pub const END: u16 = 0xFFFF;
 
     // The state at the start of a pass.
     pub fn new() -> ContextualState
@@ -348,7 +339,7 @@ impl ContextualState {
                 };
             }
             place += 1;
-            glyph = glyph_at(glyphs, used, place);
+            glyph = machine::glyph_at(glyphs, used, place);
             ends = used <= place;
             left -= 1;
         }
@@ -370,7 +361,7 @@ impl ContextualState {
         index: usize,
         made: Made,
     ) -> Check
-        ensures { λ r. ⌜ r ≡ refuse (stepTests «table_length» (lineOf (now (glyphs .entry)) (now (tags .entry)) (now (homes .entry)) used) index self made) ⌝ }
+        ensures { λ r. ⌜ r ≡ refuse (stepTests «table_length» (lineTest (lineOf (now (glyphs .entry)) (now (tags .entry)) (now (homes .entry)) used) ∷ []) used index (stateTests self used) made) ⌝ }
     {
         if let Check::Refused(why) = answers::refuse_table(table_length) {
             return Check::Refused(why);
@@ -403,8 +394,8 @@ impl ContextualState {
         glyph: u16,
         ends: bool,
     ) -> ContextualStep
-        ensures step { λ r. ⌜ r ≡ stepOf (stepCall (now (table .entry)) start self (lineOf (now (glyphs .entry)) (now (tags .entry)) (now (homes .entry)) used) index glyph ends) ⌝ }
-        ensures glyphs { λ _. ⌜ now (glyphs .exit) ≡ stepLeaves (now (table .entry)) start self (lineOf (now (glyphs .entry)) (now (tags .entry)) (now (homes .entry)) used) index glyph ends .glyphs ⌝ }
+        ensures step { λ r. ⌜ r ≡ stepOf (stepCall contextual (now (table .entry)) start self (lineOf (now (glyphs .entry)) (now (tags .entry)) (now (homes .entry)) used) index glyph ends) ⌝ }
+        ensures glyphs { λ _. ⌜ now (glyphs .exit) ≡ stepLeaves contextual (now (table .entry)) start self (lineOf (now (glyphs .entry)) (now (tags .entry)) (now (homes .entry)) used) index glyph ends .glyphs ⌝ }
     {
         let bytes = parse::from(table, start);
         let made = open(bytes);
@@ -463,10 +454,10 @@ fn pass_line(
     used: usize,
 ) -> Answer
     requires { ⌜ used ≤ length (now glyphs) ⌝ }
-    ensures answer { λ r. ⌜ r ≡ passed (now (bytes .entry)) states (lineOf (now (glyphs .entry)) (now (tags .entry)) (now (homes .entry)) used) .answer ⌝ }
-    ensures glyphs { λ _. ⌜ now (glyphs .exit) ≡ passedLeaves (now (bytes .entry)) states (lineOf (now (glyphs .entry)) (now (tags .entry)) (now (homes .entry)) used) .glyphs ⌝ }
+    ensures answer { λ r. ⌜ r ≡ passed contextual (now (bytes .entry)) states (lineOf (now (glyphs .entry)) (now (tags .entry)) (now (homes .entry)) used) .answer ⌝ }
+    ensures glyphs { λ _. ⌜ now (glyphs .exit) ≡ passedLeaves contextual (now (bytes .entry)) states (lineOf (now (glyphs .entry)) (now (tags .entry)) (now (homes .entry)) used) .glyphs ⌝ }
 {
-    let first = glyph_at(glyphs, used, 0);
+    let first = machine::glyph_at(glyphs, used, 0);
     let step = ContextualState::new().run(
         bytes,
         states,
@@ -483,8 +474,8 @@ fn pass_line(
 // The pass over a line that LINE has taken, by the subtable that the bytes begin with; HEAD where it can't be opened.
 pub fn work(bytes: &[u8], glyphs: &mut [u16], tags: &[u16], homes: &[u16], used: usize) -> Answer
     requires { ⌜ used ≤ length (now glyphs) ⌝ }
-    ensures answer { λ r. ⌜ r ≡ worked (now (bytes .entry)) (lineOf (now (glyphs .entry)) (now (tags .entry)) (now (homes .entry)) used) .answer ⌝ }
-    ensures glyphs { λ _. ⌜ now (glyphs .exit) ≡ workLeaves (now (bytes .entry)) (lineOf (now (glyphs .entry)) (now (tags .entry)) (now (homes .entry)) used) .glyphs ⌝ }
+    ensures answer { λ r. ⌜ r ≡ subtableOf contextual .worked (now (bytes .entry)) (lineOf (now (glyphs .entry)) (now (tags .entry)) (now (homes .entry)) used) .answer ⌝ }
+    ensures glyphs { λ _. ⌜ now (glyphs .exit) ≡ workLeaves (subtableOf contextual) (now (bytes .entry)) (lineOf (now (glyphs .entry)) (now (tags .entry)) (now (homes .entry)) used) .glyphs ⌝ }
 {
     let Made::Ready(states) = open(bytes) else {
         return Answer::Refused(Refusal::Head);
@@ -501,8 +492,8 @@ pub fn pass(
     homes: &[u16],
     used: usize,
 ) -> Answer
-    ensures answer { λ r. ⌜ r ≡ passCall (now (table .entry)) start (lineOf (now (glyphs .entry)) (now (tags .entry)) (now (homes .entry)) used) .answer ⌝ }
-    ensures glyphs { λ _. ⌜ now (glyphs .exit) ≡ callLeaves (now (table .entry)) start (lineOf (now (glyphs .entry)) (now (tags .entry)) (now (homes .entry)) used) .glyphs ⌝ }
+    ensures answer { λ r. ⌜ r ≡ passCall (subtableOf contextual) (now (table .entry)) start (lineOf (now (glyphs .entry)) (now (tags .entry)) (now (homes .entry)) used) .answer ⌝ }
+    ensures glyphs { λ _. ⌜ now (glyphs .exit) ≡ callLeaves (subtableOf contextual) (now (table .entry)) start (lineOf (now (glyphs .entry)) (now (tags .entry)) (now (homes .entry)) used) .glyphs ⌝ }
 {
     let bytes = parse::from(table, start);
     let made = open(bytes);
@@ -512,7 +503,7 @@ pub fn pass(
         tags,
         homes,
         used,
-        made,
+        machine::is_ready(made),
     ) {
         return Answer::Refused(why);
     }

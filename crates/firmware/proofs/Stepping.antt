@@ -11,7 +11,7 @@ use Rattle.answers.specs.Numbers.{numberOf}
 use Rattle.firmware.specs.Steps.{isRefused, unlessRefused, isFlag, rearrangementFrom, rearrangementStepped, contextualFrom, contextualStepped, contextualLeaves, insertionFrom, insertionStepped, editSlots, ligatureFrom, ligatureSlots, ligatureStepped, ligatureLeaves}
 use Rattle.line.specs.Line.{Line}
 use Rattle.ligature.specs.Work as Ligature′
-use Rattle.ligature.specs.Calls as Ligature
+use Rattle.ligature.specs.Calls.{ligature}
 use Rattle.ligature.specs.declared.LigatureState.{LigatureState}
 use Rattle.ligature.specs.declared.LigatureStep.{LigatureStep}
 use Rattle.insertion.specs.Calls as Insertion
@@ -20,10 +20,11 @@ use Rattle.insertion.specs.declared.InsertionStep.{InsertionStep}
 use Rattle.insertion.specs.declared.Inserted.{Inserted}
 use Rattle.insertion.specs.declared.Inserted.the-variants as Inserted′
 use Rattle.contextual.specs.Work.{stepOf}
-use Rattle.contextual.specs.Calls as Contextual
+use Rattle.contextual.specs.Calls.{contextual}
+use Rattle.machine.specs.Machine.{stepCall, stepLeaves}
 use Rattle.contextual.specs.declared.ContextualState.{ContextualState}
 use Rattle.contextual.specs.declared.ContextualStep.{ContextualStep}
-use Rattle.rearrangement.specs.Rearrangement as Rearrangement
+use Rattle.rearrangement.specs.Calls as Rearrangement
 use Rattle.rearrangement.specs.declared.RearrangementState.{RearrangementState}
 use Rattle.rearrangement.specs.declared.RearrangementStep.{RearrangementStep}
 
@@ -46,15 +47,15 @@ rearrangement-is table start slots length index glyph ends g e =
     e ∙ ap (λ (s : RearrangementState). Rearrangement.stepCall table start s length index glyph (isFlag ends)) g
 
 module _ (table : List ℕ) (start : ℕ) (slots : List ℕ) (l : Line) (index glyph ends : ℕ) {given : ContextualState} (g : given ≡ contextualFrom slots) where
-  pub contextual-is : {step : ContextualStep} → step ≡ stepOf (Contextual.stepCall table start given l index glyph (isFlag ends))
+  pub contextual-is : {step : ContextualStep} → step ≡ stepOf (stepCall contextual table start given l index glyph (isFlag ends))
       → step ≡ stepOf (contextualStepped table start slots l index glyph ends)
   unfolding contextualStepped
-  contextual-is e = e ∙ ap (λ (s : ContextualState). stepOf (Contextual.stepCall table start s l index glyph (isFlag ends))) g
+  contextual-is e = e ∙ ap (λ (s : ContextualState). stepOf (stepCall contextual table start s l index glyph (isFlag ends))) g
 
-  pub contextual-left : {glyphs : List ℕ} → glyphs ≡ Contextual.stepLeaves table start given l index glyph (isFlag ends) .glyphs
+  pub contextual-left : {glyphs : List ℕ} → glyphs ≡ stepLeaves contextual table start given l index glyph (isFlag ends) .glyphs
       → glyphs ≡ contextualLeaves table start slots l index glyph ends .glyphs
   unfolding contextualLeaves
-  contextual-left e = e ∙ ap (λ (s : ContextualState). Contextual.stepLeaves table start s l index glyph (isFlag ends) .glyphs) g
+  contextual-left e = e ∙ ap (λ (s : ContextualState). stepLeaves contextual table start s l index glyph (isFlag ends) .glyphs) g
 
 pub insertion-is : (table : List ℕ) (start : ℕ) (slots : List ℕ) (length room index glyph ends : ℕ) {given : InsertionState} {step : InsertionStep}
     → given ≡ insertionFrom slots → step ≡ Insertion.stepCall table start given length room index glyph (isFlag ends)
@@ -73,15 +74,15 @@ pub marked-alone : {marked at : Inserted} (current : Inserted) → marked ≡ at
 marked-alone current m e = ap (λ (x : Inserted). editSlots x Inserted′.None) (sym m) ∙ ap (editSlots _) (sym e)
 
 module _ (table : List ℕ) (start : ℕ) (slots : List ℕ) (l : Line) (index glyph ends : ℕ) {given : LigatureState} (g : given ≡ ligatureFrom slots) where
-  pub ligature-is : {step : LigatureStep} → step ≡ Ligature′.stepOf (Ligature.stepCall table start given l index glyph (isFlag ends))
+  pub ligature-is : {step : LigatureStep} → step ≡ Ligature′.stepOf (stepCall ligature table start given l index glyph (isFlag ends))
       → step ≡ Ligature′.stepOf (ligatureStepped table start slots l index glyph ends)
   unfolding ligatureStepped
-  ligature-is e = e ∙ ap (λ (s : LigatureState). Ligature′.stepOf (Ligature.stepCall table start s l index glyph (isFlag ends))) g
+  ligature-is e = e ∙ ap (λ (s : LigatureState). Ligature′.stepOf (stepCall ligature table start s l index glyph (isFlag ends))) g
 
-  pub ligature-left : {A : Type 0} (of : Line → A) {left : A} → left ≡ of (Ligature.stepLeaves table start given l index glyph (isFlag ends))
+  pub ligature-left : {A : Type 0} (of : Line → A) {left : A} → left ≡ of (stepLeaves ligature table start given l index glyph (isFlag ends))
       → left ≡ of (ligatureLeaves table start slots l index glyph ends)
   unfolding ligatureLeaves
-  ligature-left of e = e ∙ ap (λ (s : LigatureState). of (Ligature.stepLeaves table start s l index glyph (isFlag ends))) g
+  ligature-left of e = e ∙ ap (λ (s : LigatureState). of (stepLeaves ligature table start s l index glyph (isFlag ends))) g
 
 -- a state of many numbers is written over the one that was lent
 module _ {step whole : LigatureStep} (e : step ≡ whole) {flag : Bool} (f : flag ≡ isRefused (step .answer)) (was : List ℕ) where

@@ -9,7 +9,7 @@ use Rattle.laws.specs.Choose.{ifLt}
 use Rattle.laws.specs.Lists.{tab, every}
 use Rattle.answers.specs.declared.Answer.{Answer}
 use Rattle.answers.specs.declared.Answer.the-variants as Answer′
-use Rattle.rearrangement.specs.Rearrangement as Rearrangement
+use Rattle.rearrangement.specs.Calls as Rearrangement
 use Rattle.rearrangement.specs.declared.RearrangementState.{RearrangementState}
 use Rattle.rearrangement.specs.declared.RearrangementStep.{RearrangementStep}
 use Rattle.rearrangement.specs.declared.Window.{Window}
@@ -19,11 +19,12 @@ use Rattle.insertion.specs.declared.InsertionState.{InsertionState}
 use Rattle.insertion.specs.declared.InsertionStep.{InsertionStep}
 use Rattle.insertion.specs.declared.Inserted.{Inserted}
 use Rattle.insertion.specs.declared.Inserted.the-variants as Inserted′
-use Rattle.ligature.specs.Calls as Ligature
+use Rattle.ligature.specs.Calls.{ligature}
 use Rattle.ligature.specs.declared.LigatureState.{LigatureState}
 use Rattle.line.specs.Line.{Line}
 use Rattle.machine.specs.Pass.{Stepped}
-use Rattle.contextual.specs.Calls as Contextual
+use Rattle.machine.specs.Machine.{stepCall, stepLeaves}
+use Rattle.contextual.specs.Calls.{contextual}
 use Rattle.contextual.specs.declared.ContextualState.{ContextualState}
 
 abbrev pub isRefused : Answer → Bool
@@ -85,10 +86,10 @@ contextualSlots s = s .state ∷ flagNumber (s .«mark_set») ∷ s .«mark_inde
 
 -- the step from the state that the numbers say, and the line that it leaves
 unfoldable pub contextualStepped : List ℕ → (start : ℕ) → (slots : List ℕ) → Line → (index glyph ends : ℕ) → Stepped ContextualState
-contextualStepped table start slots l index glyph ends = Contextual.stepCall table start (contextualFrom slots) l index glyph (isFlag ends)
+contextualStepped table start slots l index glyph ends = stepCall contextual table start (contextualFrom slots) l index glyph (isFlag ends)
 
 unfoldable pub contextualLeaves : List ℕ → (start : ℕ) → (slots : List ℕ) → Line → (index glyph ends : ℕ) → Line
-contextualLeaves table start slots l index glyph ends = Contextual.stepLeaves table start (contextualFrom slots) l index glyph (isFlag ends)
+contextualLeaves table start slots l index glyph ends = stepLeaves contextual table start (contextualFrom slots) l index glyph (isFlag ends)
 
 abbrev pub noInsertion : InsertionState
 noInsertion = record { state = 0; mark = 0; cycles = 0xFFFF }
@@ -141,7 +142,7 @@ ligatureSlots was s = paste (paste (set (set was 0 (s .state)) 1 (s .depth)) 2 (
 
 -- the step from the state that the numbers say, and the line that it leaves
 unfoldable pub ligatureStepped : List ℕ → (start : ℕ) → (slots : List ℕ) → Line → (index glyph ends : ℕ) → Stepped LigatureState
-ligatureStepped table start slots l index glyph ends = Ligature.stepCall table start (ligatureFrom slots) l index glyph (isFlag ends)
+ligatureStepped table start slots l index glyph ends = stepCall ligature table start (ligatureFrom slots) l index glyph (isFlag ends)
 
 unfoldable pub ligatureLeaves : List ℕ → (start : ℕ) → (slots : List ℕ) → Line → (index glyph ends : ℕ) → Line
-ligatureLeaves table start slots l index glyph ends = Ligature.stepLeaves table start (ligatureFrom slots) l index glyph (isFlag ends)
+ligatureLeaves table start slots l index glyph ends = stepLeaves ligature table start (ligatureFrom slots) l index glyph (isFlag ends)

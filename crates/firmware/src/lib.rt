@@ -10,11 +10,12 @@ ghost use Rattle.state_tables.specs.Classes.{classExtended, classClassic};
 ghost use Rattle.ltag.specs.Ltag.{languageIndex};
 ghost use Rattle.line.specs.Line.{lineOf};
 ghost use Rattle.line.specs.Entries.{freshCall, freshAnswer, freshUsed, verbCall};
-ghost use Rattle.rearrangement.specs.Rearrangement as Rearrangement;
-ghost use Rattle.noncontextual.specs.NonContextual as NonContextual;
-ghost use Rattle.contextual.specs.Calls as Contextual;
-ghost use Rattle.insertion.specs.Calls as Insertion;
-ghost use Rattle.ligature.specs.Calls as Ligature;
+ghost use Rattle.machine.specs.Machine.{subtableOf, passCall, callLeaves};
+ghost use Rattle.rearrangement.specs.Calls.{rearrangement};
+ghost use Rattle.noncontextual.specs.NonContextual.{noncontextual};
+ghost use Rattle.contextual.specs.Calls.{contextual};
+ghost use Rattle.insertion.specs.Calls.{insertion};
+ghost use Rattle.ligature.specs.Calls.{ligature};
 ghost use Rattle.firmware.specs.Survey.{surveyAnswer, verdictOf, badRecord};
 
 mod cursors;
@@ -164,9 +165,9 @@ pub extern "C" fn aat_rearrangement_pass(
     homes: &[u16],
     used: usize,
 ) -> u32
-    ensures answer { λ r. ⌜ r ≡ numberOf (Rearrangement.passCall (now (table .entry)) start (lineOf (now (glyphs .entry)) (now (tags .entry)) (now (homes .entry)) used) .answer) ⌝ }
-    ensures glyphs { λ _. ⌜ now (glyphs .exit) ≡ Rearrangement.callLeaves (now (table .entry)) start (lineOf (now (glyphs .entry)) (now (tags .entry)) (now (homes .entry)) used) .glyphs ⌝ }
-    ensures tags { λ _. ⌜ now (tags .exit) ≡ Rearrangement.callLeaves (now (table .entry)) start (lineOf (now (glyphs .entry)) (now (tags .entry)) (now (homes .entry)) used) .tags ⌝ }
+    ensures answer { λ r. ⌜ r ≡ numberOf (passCall (subtableOf rearrangement) (now (table .entry)) start (lineOf (now (glyphs .entry)) (now (tags .entry)) (now (homes .entry)) used) .answer) ⌝ }
+    ensures glyphs { λ _. ⌜ now (glyphs .exit) ≡ callLeaves (subtableOf rearrangement) (now (table .entry)) start (lineOf (now (glyphs .entry)) (now (tags .entry)) (now (homes .entry)) used) .glyphs ⌝ }
+    ensures tags { λ _. ⌜ now (tags .exit) ≡ callLeaves (subtableOf rearrangement) (now (table .entry)) start (lineOf (now (glyphs .entry)) (now (tags .entry)) (now (homes .entry)) used) .tags ⌝ }
 {
     answers::number(rearrangement::pass(table, start, glyphs, tags, homes, used))
 }
@@ -181,8 +182,8 @@ pub extern "C" fn aat_noncontextual_pass(
     homes: &[u16],
     used: usize,
 ) -> u32
-    ensures answer { λ r. ⌜ r ≡ numberOf (NonContextual.passCall (now (table .entry)) start (lineOf (now (glyphs .entry)) (now (tags .entry)) (now (homes .entry)) used) .answer) ⌝ }
-    ensures glyphs { λ _. ⌜ now (glyphs .exit) ≡ NonContextual.callLeaves (now (table .entry)) start (lineOf (now (glyphs .entry)) (now (tags .entry)) (now (homes .entry)) used) .glyphs ⌝ }
+    ensures answer { λ r. ⌜ r ≡ numberOf (passCall noncontextual (now (table .entry)) start (lineOf (now (glyphs .entry)) (now (tags .entry)) (now (homes .entry)) used) .answer) ⌝ }
+    ensures glyphs { λ _. ⌜ now (glyphs .exit) ≡ callLeaves noncontextual (now (table .entry)) start (lineOf (now (glyphs .entry)) (now (tags .entry)) (now (homes .entry)) used) .glyphs ⌝ }
 {
     answers::number(noncontextual::pass(table, start, glyphs, tags, homes, used))
 }
@@ -197,8 +198,8 @@ pub extern "C" fn aat_contextual_pass(
     homes: &[u16],
     used: usize,
 ) -> u32
-    ensures answer { λ r. ⌜ r ≡ numberOf (Contextual.passCall (now (table .entry)) start (lineOf (now (glyphs .entry)) (now (tags .entry)) (now (homes .entry)) used) .answer) ⌝ }
-    ensures glyphs { λ _. ⌜ now (glyphs .exit) ≡ Contextual.callLeaves (now (table .entry)) start (lineOf (now (glyphs .entry)) (now (tags .entry)) (now (homes .entry)) used) .glyphs ⌝ }
+    ensures answer { λ r. ⌜ r ≡ numberOf (passCall (subtableOf contextual) (now (table .entry)) start (lineOf (now (glyphs .entry)) (now (tags .entry)) (now (homes .entry)) used) .answer) ⌝ }
+    ensures glyphs { λ _. ⌜ now (glyphs .exit) ≡ callLeaves (subtableOf contextual) (now (table .entry)) start (lineOf (now (glyphs .entry)) (now (tags .entry)) (now (homes .entry)) used) .glyphs ⌝ }
 {
     answers::number(contextual::pass(table, start, glyphs, tags, homes, used))
 }
@@ -213,10 +214,10 @@ pub extern "C" fn aat_insertion_pass(
     homes: &[u16],
     used: &mut usize,
 ) -> u32
-    ensures answer { λ r. ⌜ r ≡ numberOf (Insertion.passCall (now (table .entry)) start (lineOf (now (glyphs .entry)) (now (tags .entry)) (now (homes .entry)) (now (used .entry))) .answer) ⌝ }
-    ensures glyphs { λ _. ⌜ now (glyphs .exit) ≡ Insertion.callLeaves (now (table .entry)) start (lineOf (now (glyphs .entry)) (now (tags .entry)) (now (homes .entry)) (now (used .entry))) .glyphs ⌝ }
-    ensures tags { λ _. ⌜ now (tags .exit) ≡ Insertion.callLeaves (now (table .entry)) start (lineOf (now (glyphs .entry)) (now (tags .entry)) (now (homes .entry)) (now (used .entry))) .tags ⌝ }
-    ensures used { λ _. ⌜ now (used .exit) ≡ Insertion.callLeaves (now (table .entry)) start (lineOf (now (glyphs .entry)) (now (tags .entry)) (now (homes .entry)) (now (used .entry))) .used ⌝ }
+    ensures answer { λ r. ⌜ r ≡ numberOf (passCall (subtableOf insertion) (now (table .entry)) start (lineOf (now (glyphs .entry)) (now (tags .entry)) (now (homes .entry)) (now (used .entry))) .answer) ⌝ }
+    ensures glyphs { λ _. ⌜ now (glyphs .exit) ≡ callLeaves (subtableOf insertion) (now (table .entry)) start (lineOf (now (glyphs .entry)) (now (tags .entry)) (now (homes .entry)) (now (used .entry))) .glyphs ⌝ }
+    ensures tags { λ _. ⌜ now (tags .exit) ≡ callLeaves (subtableOf insertion) (now (table .entry)) start (lineOf (now (glyphs .entry)) (now (tags .entry)) (now (homes .entry)) (now (used .entry))) .tags ⌝ }
+    ensures used { λ _. ⌜ now (used .exit) ≡ callLeaves (subtableOf insertion) (now (table .entry)) start (lineOf (now (glyphs .entry)) (now (tags .entry)) (now (homes .entry)) (now (used .entry))) .used ⌝ }
 {
     let passed = insertion::pass(table, start, glyphs, tags, homes, *used);
     *used = passed.used;
@@ -234,9 +235,9 @@ pub extern "C" fn aat_ligature_pass(
     homes: &mut [u16],
     used: usize,
 ) -> u32
-    ensures answer { λ r. ⌜ r ≡ numberOf (Ligature.passCall (now (table .entry)) start (lineOf (now (glyphs .entry)) (now (tags .entry)) (now (homes .entry)) used) .answer) ⌝ }
-    ensures glyphs { λ _. ⌜ now (glyphs .exit) ≡ Ligature.callLeaves (now (table .entry)) start (lineOf (now (glyphs .entry)) (now (tags .entry)) (now (homes .entry)) used) .glyphs ⌝ }
-    ensures homes { λ _. ⌜ now (homes .exit) ≡ Ligature.callLeaves (now (table .entry)) start (lineOf (now (glyphs .entry)) (now (tags .entry)) (now (homes .entry)) used) .homes ⌝ }
+    ensures answer { λ r. ⌜ r ≡ numberOf (passCall (subtableOf ligature) (now (table .entry)) start (lineOf (now (glyphs .entry)) (now (tags .entry)) (now (homes .entry)) used) .answer) ⌝ }
+    ensures glyphs { λ _. ⌜ now (glyphs .exit) ≡ callLeaves (subtableOf ligature) (now (table .entry)) start (lineOf (now (glyphs .entry)) (now (tags .entry)) (now (homes .entry)) used) .glyphs ⌝ }
+    ensures homes { λ _. ⌜ now (homes .exit) ≡ callLeaves (subtableOf ligature) (now (table .entry)) start (lineOf (now (glyphs .entry)) (now (tags .entry)) (now (homes .entry)) used) .homes ⌝ }
 {
     answers::number(ligature::pass(table, start, glyphs, tags, homes, used))
 }

@@ -3,7 +3,8 @@ use morx::Choices;
 ghost use mathlib.Core.Path.{_≡_};
 ghost use Rattle.answers.specs.Numbers.{numberOf};
 ghost use Rattle.line.specs.Line.{lineOf};
-ghost use Rattle.morx.specs.Calls.{passCall, passLeaves};
+ghost use Rattle.machine.specs.Machine.{passCall, callLeaves};
+ghost use Rattle.morx.specs.Kinds.{anySubtable};
 ghost use Rattle.firmware.specs.Steps.{unlessRefused};
 ghost use Rattle.firmware.specs.Runs.{morxRun, morxLeaves};
 
@@ -17,11 +18,11 @@ pub extern "C" fn aat_morx_pass(
     homes: &mut [u16],
     used: &mut usize,
 ) -> u32
-    ensures answer { λ r. ⌜ r ≡ numberOf (passCall (now (table .entry)) start (lineOf (now (glyphs .entry)) (now (tags .entry)) (now (homes .entry)) (now (used .entry))) .answer) ⌝ }
-    ensures glyphs { λ _. ⌜ now (glyphs .exit) ≡ passLeaves (now (table .entry)) start (lineOf (now (glyphs .entry)) (now (tags .entry)) (now (homes .entry)) (now (used .entry))) .glyphs ⌝ }
-    ensures tags { λ _. ⌜ now (tags .exit) ≡ passLeaves (now (table .entry)) start (lineOf (now (glyphs .entry)) (now (tags .entry)) (now (homes .entry)) (now (used .entry))) .tags ⌝ }
-    ensures homes { λ _. ⌜ now (homes .exit) ≡ passLeaves (now (table .entry)) start (lineOf (now (glyphs .entry)) (now (tags .entry)) (now (homes .entry)) (now (used .entry))) .homes ⌝ }
-    ensures used { λ _. ⌜ now (used .exit) ≡ passLeaves (now (table .entry)) start (lineOf (now (glyphs .entry)) (now (tags .entry)) (now (homes .entry)) (now (used .entry))) .used ⌝ }
+    ensures answer { λ r. ⌜ r ≡ numberOf (passCall anySubtable (now (table .entry)) start (lineOf (now (glyphs .entry)) (now (tags .entry)) (now (homes .entry)) (now (used .entry))) .answer) ⌝ }
+    ensures glyphs { λ _. ⌜ now (glyphs .exit) ≡ callLeaves anySubtable (now (table .entry)) start (lineOf (now (glyphs .entry)) (now (tags .entry)) (now (homes .entry)) (now (used .entry))) .glyphs ⌝ }
+    ensures tags { λ _. ⌜ now (tags .exit) ≡ callLeaves anySubtable (now (table .entry)) start (lineOf (now (glyphs .entry)) (now (tags .entry)) (now (homes .entry)) (now (used .entry))) .tags ⌝ }
+    ensures homes { λ _. ⌜ now (homes .exit) ≡ callLeaves anySubtable (now (table .entry)) start (lineOf (now (glyphs .entry)) (now (tags .entry)) (now (homes .entry)) (now (used .entry))) .homes ⌝ }
+    ensures used { λ _. ⌜ now (used .exit) ≡ callLeaves anySubtable (now (table .entry)) start (lineOf (now (glyphs .entry)) (now (tags .entry)) (now (homes .entry)) (now (used .entry))) .used ⌝ }
 {
     let reply = morx::pass(table, start, glyphs, tags, homes, *used);
     *used = reply.used;

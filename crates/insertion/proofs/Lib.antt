@@ -5,7 +5,6 @@ mod Edits
 mod Entries
 pub mod Passes
 mod Steps
-mod Calls
 pub mod Honesty
 pub mod Manual
 pub mod Turns

@@ -25,10 +25,13 @@ use Rattle.line.specs.Line.{Line, lineOf}
 use Rattle.line.specs.Changes.{applyAll}
 use Rattle.machine.specs.Entry.{classHere}
 use Rattle.machine.specs.Pass.{deleted, isDone}
+use Rattle.machine.specs.Machine.{passedBy, passed}
+use Rattle.machine.specs.Work.{passedLeaves}
 use Rattle.machine.proofs.Passing.{Passing, Over, passing-start, passing-step, passing-stop, passing-end}
 use Rattle.insertion.specs.Lists.{bothChanges}
-use Rattle.insertion.specs.Insertion.{fresh, acted, next, machine, rest, passedBy, passed}
-use Rattle.insertion.specs.Work.{isQuiet, ledBy, passedLeaves}
+use Rattle.insertion.specs.Insertion.{fresh, acted, next}
+use Rattle.insertion.specs.Calls.{insertion}
+use Rattle.insertion.specs.Work.{isQuiet, ledBy}
 use Rattle.insertion.specs.declared.InsertionState.{InsertionState}
 use Rattle.insertion.specs.declared.InsertionStep.{InsertionStep}
 use Rattle.insertion.proofs.Edits.{Left, put-none, both-grow, both-line}
@@ -47,7 +50,7 @@ module _ (bytes : List ℕ) (states : States) (l₀ : Line) where
   pub record Going (opened : Classes) (memo glyphs tags homes : List ℕ) (used : ℕ) (s : InsertionState) (i : ℕ) : Type 0 where
     pub table : opened ≡ openedClasses bytes (states .edition)
     pub remembers : Remembers (classBy bytes opened) memo
-    pub passing : Passing (machine classes bytes states) rest l₀ (passed bytes states l₀) s (lineOf glyphs tags homes used) i
+    pub passing : Passing (insertion .step classes bytes states) (insertion .rest) l₀ (passed insertion bytes states l₀) s (lineOf glyphs tags homes used) i
     pub cycles : s .cycles ≤ 17
     pub within : i ≤ used
     pub fits : used ≤ length glyphs
@@ -58,20 +61,20 @@ module _ (bytes : List ℕ) (states : States) (l₀ : Line) where
 
   -- what a pass that ends here answers and leaves
   pub record Ends (answer : Answer) (glyphs tags : List ℕ) (used : ℕ) : Type 0 where
-    pub answers : answer ≡ passed bytes states l₀ .answer
-    pub used-left : used ≡ passedLeaves bytes states l₀ .used
-    pub glyphs-left : glyphs ≡ passedLeaves bytes states l₀ .glyphs
-    pub tags-left : tags ≡ passedLeaves bytes states l₀ .tags
+    pub answers : answer ≡ passed insertion bytes states l₀ .answer
+    pub used-left : used ≡ passedLeaves insertion bytes states l₀ .used
+    pub glyphs-left : glyphs ≡ passedLeaves insertion bytes states l₀ .glyphs
+    pub tags-left : tags ≡ passedLeaves insertion bytes states l₀ .tags
 
   module _ {opened : Classes} {memo glyphs tags homes : List ℕ} {used : ℕ} {s : InsertionState} {i : ℕ} (g : Going opened memo glyphs tags homes used s i) where
     abbrev here : Line
     here = lineOf glyphs tags homes used
 
-    some : 0 < rest s here i
+    some : 0 < insertion .rest s here i
     some = omega (arith, g .cycles)
 
     ends : {answer : Answer} {glyphs′ tags′ : List ℕ} {used′ : ℕ} (step : InsertionStep)
-        → Over (machine classes bytes states) rest l₀ (passed bytes states l₀) answer (applyAll (bothChanges bytes (step .marked) (step .current)) here)
+        → Over (insertion .step classes bytes states) (insertion .rest) l₀ (passed insertion bytes states l₀) answer (applyAll (bothChanges bytes (step .marked) (step .current)) here)
         → LeftBy bytes here step glyphs′ tags′ used′ → Ends answer glyphs′ tags′ used′
     unfolding passedLeaves
     ends step o p =
@@ -94,7 +97,6 @@ module _ (bytes : List ℕ) (states : States) (l₀ : Line) where
     at-goes : {memo′ glyphs′ tags′ : List ℕ} {used′ : ℕ} → Remembers (classBy bytes opened) memo′ → i < used → isDone (at .answer) ≡ true
         → LeftBy bytes here at glyphs′ tags′ used′ → length glyphs′ ≡ length glyphs → length tags′ ≡ length tags
         → Going opened memo′ glyphs′ tags′ homes used′ (at .state) (i + at .advance)
-    unfolding machine
     at-goes m h done p lg lt =
         let a = at-advances h done in
         let line = both-line bytes glyphs tags homes used (at .marked) (at .current) p in
@@ -104,9 +106,9 @@ module _ (bytes : List ℕ) (states : States) (l₀ : Line) where
           table = g .table;
           remembers = m;
           passing =
-              subst⁻¹ (λ (l : Line). Passing (machine classes bytes states) rest l₀ (passed bytes states l₀) (at .state) l (i + at .advance)) line
-              (passing-step (machine classes bytes states) rest l₀ (passed bytes states l₀) (g .passing) some h done
-              (subst⁻¹ (λ (n : ℕ). (n - (i + at .advance)) * 18 + (18 - at .state .cycles) < rest s here i) room (a .less)));
+              subst⁻¹ (λ (l : Line). Passing (insertion .step classes bytes states) (insertion .rest) l₀ (passed insertion bytes states l₀) (at .state) l (i + at .advance)) line
+              (passing-step (insertion .step classes bytes states) (insertion .rest) l₀ (passed insertion bytes states l₀) (g .passing) some h done
+              (subst⁻¹ (λ (n : ℕ). (n - (i + at .advance)) * 18 + (18 - at .state .cycles) < insertion .rest s here i) room (a .less)));
           cycles = a .sound;
           within = omega (arith, a .within, grown);
           fits = omega (arith, next-fits classes bytes states s used (length glyphs) i (getD glyphs i 0) false (g .fits) refl .within, grown, lg);
@@ -160,24 +162,22 @@ module _ (bytes : List ℕ) (states : States) (l₀ : Line) where
 
         abbrev OverBy : InsertionStep → Type 0
         OverBy r =
-            Over (machine classes bytes states) rest l₀ (passed bytes states l₀) (r .answer) (applyAll (bothChanges bytes (r .marked) (r .current)) here)
+            Over (insertion .step classes bytes states) (insertion .rest) l₀ (passed insertion bytes states l₀) (r .answer) (applyAll (bothChanges bytes (r .marked) (r .current)) here)
 
         due-ends : used ≤ i → Ends (step .answer) glyphs′ tags′ used′
-        unfolding machine
         due-ends h =
             ends step
-            (subst⁻¹ OverBy (e ∙ due-last h) (passing-end (machine classes bytes states) rest l₀ (passed bytes states l₀) (g .passing) some h))
+            (subst⁻¹ OverBy (e ∙ due-last h) (passing-end (insertion .step classes bytes states) (insertion .rest) l₀ (passed insertion bytes states l₀) (g .passing) some h))
             p
 
         due-stops : isDone (step .answer) ≡ false → Ends (step .answer) glyphs′ tags′ used′
-        unfolding machine
         due-stops done =
             ⊎-elim
             (λ (h : i < used).
             let is = e ∙ due-at h in
             ends step
             (subst⁻¹ OverBy is
-            (passing-stop (machine classes bytes states) rest l₀ (passed bytes states l₀) (g .passing) some h
+            (passing-stop (insertion .step classes bytes states) (insertion .rest) l₀ (passed insertion bytes states l₀) (g .passing) some h
             (subst (λ (r : InsertionStep). isDone (r .answer) ≡ false) is done)))
             p)
             due-ends
@@ -248,7 +248,7 @@ going-start bytes states glyphs tags homes used {opened} {memo} h p n o m e =
     (record {
       table = o;
       remembers = subst⁻¹ (Remembers (classBy bytes opened)) m (nothing-remembered (deleted-class bytes opened));
-      passing = passing-start (machine (classOf bytes states) bytes states) rest _ fresh (lineOf glyphs tags homes used) (omega arith);
+      passing = passing-start (insertion .step (classOf bytes states) bytes states) (insertion .rest) _ fresh (lineOf glyphs tags homes used) (omega arith);
       cycles = omega arith;
       within = omega arith;
       fits = h;

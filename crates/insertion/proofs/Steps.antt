@@ -1,13 +1,13 @@
 -- The tests of a lone step, once TABLE has passed; and what a step that they pass has.
 use Prim.Native.Nat.{ℕ, _+_, _^_, _<_, _≤_}
 use mathlib.Core.Path.{_≡_, refl, sym, _∙_, ap}
-use mathlib.Core.Bool.{Bool, true, false, cond}
+use mathlib.Core.Bool.{Bool, true, false, not, cond}
 use mathlib.Core.List.{List, [], _∷_}
 use native.Mathlib.Omega.{arith}
 use lib.Dec.{ltb}
 use lib.ListN.{length, drop, length-drop}
 use borrow.Author.Tests.{ltb-false}
-use Rattle.answers.proofs.Refusals.{alone-refused, alone-passed, passed-here, passed-later}
+use Rattle.answers.proofs.Refusals.{passed-here, passed-later}
 use Rattle.answers.specs.Limits as Limits
 use Rattle.answers.specs.Refuse.{refuse, tableTest}
 use Rattle.answers.specs.declared.Refusal.{Refusal}
@@ -26,31 +26,29 @@ use Rattle.state_tables.specs.Classes.{classOf}
 use Rattle.state_tables.specs.States.{extendedAt}
 use Rattle.machine.specs.Head.{hasKind, bodyOf}
 use Rattle.machine.specs.Call as Call′
-use Rattle.machine.specs.Call.{isShort, headTest}
+use Rattle.machine.specs.Call.{isReady, headTest, placeTest, stepTests}
+use Rattle.machine.proofs.Calls as Machine′
+use Rattle.machine.proofs.Calls.{table-passed}
 use Rattle.answers.specs.declared.Answer.the-variants as Answer′
 use Rattle.insertion.specs.Lists.{movedBy}
 use Rattle.insertion.specs.Insertion.{stopped, next}
-use Rattle.insertion.specs.Calls.{opened, laterTests, stepTests, fromTable, stepCall}
+use Rattle.insertion.specs.Calls.{opened, stateTests, roomTests, fromTable, stepCall}
 use Rattle.insertion.specs.declared.Inserted.{Inserted}
 use Rattle.insertion.specs.declared.Inserted.the-variants as Inserted′
 use Rattle.insertion.specs.declared.InsertionStep.{InsertionStep}
 use Rattle.insertion.specs.declared.InsertionState.{InsertionState}
 
-module _ (n len room index : ℕ) (s : InsertionState) (made : Made) {r : Check} (e : r ≡ refuse (tableTest n ∷ [])) where
-  pub step-table : {why : Refusal} → r ≡ Refused why → Refused why ≡ refuse (stepTests n len room index s made)
-  unfolding stepTests
-  step-table {why} f = sym (alone-refused (tableTest n) (laterTests len room index s made) why (sym e ∙ f))
-
-  -- the tests that are left, one after the other
-  pub past-table : r ≡ Passed → refuse (stepTests n len room index s made)
-      ≡ cond (ltb Limits.roomLimit room) (Refused Refusal′.Line)
-      (cond (ltb room len) (Refused Refusal′.Line)
-      (cond (ltb len index) (Refused Refusal′.Place)
-      (cond (ltb len (s .mark)) (Refused Refusal′.State)
-      (cond (ltb 17 (s .cycles)) (Refused Refusal′.State)
-      (cond (isShort made) (Refused Refusal′.Head) Passed)))))
-  unfolding stepTests laterTests headTest refuse
-  past-table f = alone-passed (tableTest n) (laterTests len room index s made) (sym e ∙ f)
+-- the tests that are left behind TABLE, one after the other
+pub past-table : (n len room index : ℕ) (s : InsertionState) (made : Made) {r : Check} → r ≡ refuse (tableTest n ∷ []) → r ≡ Passed
+    → refuse (stepTests n (roomTests len room) len index (stateTests s len) made)
+    ≡ cond (ltb Limits.roomLimit room) (Refused Refusal′.Line)
+    (cond (ltb room len) (Refused Refusal′.Line)
+    (cond (ltb len index) (Refused Refusal′.Place)
+    (cond (ltb len (s .mark)) (Refused Refusal′.State)
+    (cond (ltb 17 (s .cycles)) (Refused Refusal′.State)
+    (cond (not (isReady made)) (Refused Refusal′.Head) Passed)))))
+unfolding roomTests placeTest stateTests headTest refuse
+past-table n len room index s made e f = table-passed n (roomTests len room) len index (stateTests s len) made e f
 
 -- what a step that is not refused has of its length, room and index
 pub record Told (n len room index : ℕ) : Type 0 where
@@ -59,9 +57,9 @@ pub record Told (n len room index : ℕ) : Type 0 where
   pub within : len ≤ room
   pub at : index ≤ len
 
-pub step-told : (n len room index : ℕ) (s : InsertionState) (made : Made) {r : Check} → r ≡ refuse (stepTests n len room index s made) → r ≡ Passed
+pub step-told : (n len room index : ℕ) (s : InsertionState) (made : Made) {r : Check} → r ≡ refuse (stepTests n (roomTests len room) len index (stateTests s len) made) → r ≡ Passed
     → Told n len room index
-unfolding stepTests laterTests tableTest
+unfolding stepTests roomTests placeTest tableTest
 step-told n len room index s made e f =
     let first = passed-later (tableTest n) _ (sym e ∙ f) in
     let second = passed-later _ _ first in
@@ -103,22 +101,17 @@ module _ (table : List ℕ) (start : ℕ) {bytes body : List ℕ} {made : Made} 
 
 -- what a call of the step answers, by the tests and the state table that its code has
 module _ (table : List ℕ) (start : ℕ) (s : InsertionState) (len room index glyph : ℕ) (ends : Bool) {bytes : List ℕ} {made : Made} {check : Check}
-    (b : bytes ≡ drop start table) (m : made ≡ opened bytes) (k : check ≡ refuse (stepTests (length table) len room index s made)) where
-  head : made ≡ opened (drop start table)
-  head = m ∙ ap opened b
-
-  tested : check ≡ refuse (stepTests (length table) len room index s (opened (drop start table)))
-  tested = k ∙ ap (λ (h : Made). refuse (stepTests (length table) len room index s h)) head
-
+    (b : bytes ≡ drop start table) (m : made ≡ opened bytes)
+    (k : check ≡ refuse (stepTests (length table) (roomTests len room) len index (stateTests s len) made)) where
   pub step-refused : {why : Refusal} {step : InsertionStep} → check ≡ Refused why → step ≡ stopped (Answer′.Refused why) s Inserted′.None
       → step ≡ stepCall table start s len room index glyph ends
   unfolding stepCall
-  step-refused e r = r ∙ sym (rw (sym tested ∙ e, stepCall))
+  step-refused e r = r ∙ sym (Machine′.step-refused _ _ table start _ _ _ _ _ b m k e)
 
   pub step-headless : {step : InsertionStep} → check ≡ Passed → made ≡ Made′.Short → step ≡ stopped (Answer′.Refused Refusal′.Head) s Inserted′.None
       → step ≡ stepCall table start s len room index glyph ends
   unfolding stepCall
-  step-headless e h r = r ∙ sym (rw (sym tested ∙ e, stepCall) (rw (sym head ∙ h)))
+  step-headless e h r = r ∙ sym (Machine′.step-headless _ _ table start _ _ _ _ _ b m k e h)
 
   pub step-worked : {states : States} {body : List ℕ} {step : InsertionStep} {marked current : Inserted} → check ≡ Passed → made ≡ Made′.Ready states
       → body ≡ drop 12 bytes → step ≡ next (classOf body states) body states s len room index glyph ends → marked ≡ movedBy (start + 12) (step .marked)
@@ -126,8 +119,4 @@ module _ (table : List ℕ) (start : ℕ) (s : InsertionState) (len room index g
       → record { answer = step .answer; state = step .state; advance = step .advance; marked = marked; current = current }
       ≡ stepCall table start s len room index glyph ends
   unfolding stepCall
-  step-worked {states} {body} {step} e r d w p q =
-      let is : stepCall table start s len room index glyph ends ≡ fromTable (start + 12) (next (classOf body states) body states s len room index glyph ends) =
-      rw (sym tested ∙ e, stepCall)
-      (rw (sym head ∙ r) (ap (λ (x : List ℕ). fromTable (start + 12) (next (classOf x states) x states s len room index glyph ends)) (sym (d ∙ ap (drop 12) b)))) in
-      rw (p, q) (ap (fromTable (start + 12)) w ∙ sym is)
+  step-worked e r d w p q = rw (p, q) (ap (fromTable (start + 12)) w ∙ sym (Machine′.step-made _ _ table start _ _ _ _ _ b m k e r d))

@@ -9,10 +9,12 @@ use Rattle.state_tables.specs.declared.States.{States}
 use Rattle.line.specs.Line.{Line, Valid}
 use Rattle.line.specs.Changes.{applyAll, historyOf}
 use Rattle.line.proofs.Histories.{By, by-changes}
-use Rattle.machine.specs.Pass.{isDone, passFrom}
-use Rattle.machine.proofs.Turns.{Counts, enough-turns}
+use Rattle.machine.specs.Pass.{isDone}
+use Rattle.machine.specs.Machine.{Bounded}
+use Rattle.machine.proofs.Turns.{Counts, bounded}
 use Rattle.insertion.specs.Lists.{bothChanges}
-use Rattle.insertion.specs.Insertion.{fresh, next, machine, rest, passedBy}
+use Rattle.insertion.specs.Insertion.{next}
+use Rattle.insertion.specs.Calls.{insertion}
 use Rattle.insertion.specs.declared.InsertionState.{InsertionState}
 use Rattle.insertion.specs.declared.InsertionStep.{InsertionStep}
 use Rattle.insertion.proofs.Shapes.{Advances, next-shape, shape-advances}
@@ -32,11 +34,9 @@ module _ (classes : ℕ → ℕ) (bytes : List ℕ) (states : States) (s : Inser
       (next-shape classes bytes states s (l .used) (length (l .glyphs)) i (getD (l .glyphs) i 0) false (ok .1 .within)) done (ok .0)
 
   left : By l (historyOf (bothChanges bytes (step .marked) (step .current))) (applyAll (bothChanges bytes (step .marked) (step .current)) l)
-  unfolding machine
   left = by-changes (bothChanges bytes (step .marked) (step .current)) l (ok .1) (step-fits classes bytes states s l i (getD (l .glyphs) i 0) false (ok .1))
 
-counts : (classes : ℕ → ℕ) (bytes : List ℕ) (states : States) → Counts (machine classes bytes states) Sound rest
-unfolding machine
+counts : (classes : ℕ → ℕ) (bytes : List ℕ) (states : States) → Counts (insertion .step classes bytes states) Sound (insertion .rest)
 counts classes bytes states =
     record {
       some = λ s l i ok. omega (arith, ok .0);
@@ -44,8 +44,5 @@ counts classes bytes states =
       fewer = λ s l i ok h done. omega (arith, advances classes bytes states s l i ok h done .less, left classes bytes states s l i ok .same);
     }
 
-pub insertion-turns : (classes : ℕ → ℕ) (bytes : List ℕ) (states : States) (l : Line) (more : ℕ) → Valid l
-    → passFrom (machine classes bytes states) (more + rest fresh l 0) fresh l 0 ≡ passedBy classes bytes states l
-unfolding passedBy
-insertion-turns classes bytes states l more v =
-    enough-turns (machine classes bytes states) Sound rest (counts classes bytes states) more (rest fresh l 0) fresh l 0 (omega arith, v) (omega arith)
+pub insertion-turns : (l : Line) → Valid l → Bounded insertion l
+insertion-turns l v = bounded insertion Sound counts l (omega arith, v)

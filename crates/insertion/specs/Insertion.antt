@@ -1,8 +1,7 @@
--- The insertion machine, as the crate's `next`, and its pass.
-use Prim.Native.Nat.{ℕ, _+_, _*_, _-_, _/_, _%_, min}
+-- The insertion machine's step, as the crate's `next`.
+use Prim.Native.Nat.{ℕ, _+_, _/_, _%_, min}
 use mathlib.Core.Bool.{Bool, cond}
 use mathlib.Core.List.{List}
-use lib.ListN.{length}
 use Rattle.laws.specs.Choose.{ifEq}
 use Rattle.answers.specs.declared.Answer.{Answer}
 use Rattle.answers.specs.declared.Answer.the-variants as Answer′
@@ -10,13 +9,11 @@ use Rattle.parse.specs.Reads.{u16At}
 use Rattle.state_tables.specs.declared.States.{States}
 use Rattle.state_tables.specs.declared.entries.Entry.{Entry}
 use Rattle.state_tables.specs.Entries.{entryOf, onEntry}
-use Rattle.line.specs.Line.{Line}
 use Rattle.laws.specs.Bits.{isSet}
-use Rattle.state_tables.specs.Classes.{classOf}
 use Rattle.machine.specs.Entry.{classHere}
 use Rattle.machine.specs.Stall.{stalled}
 use Rattle.machine.specs.declared.Stalled.{Stalled}
-use Rattle.machine.specs.Pass.{Machine, Passed, passOf}
+use Rattle.machine.specs.Pass.{Stepped}
 use Rattle.insertion.specs.Lists.{insertionOf, onTried, countOf, bothChanges}
 use Rattle.insertion.specs.declared.Inserted.{Inserted}
 use Rattle.insertion.specs.declared.Inserted.the-variants as Inserted′
@@ -96,26 +93,12 @@ next classes bytes states s used room index glyph ends =
     (λ entry. acted bytes s entry index used room)
     (stopped Answer′.Ended s Inserted′.None)
 
--- the machine that passes are made of: its room is the line's
-unfoldable pub machine : (classes : ℕ → ℕ) → List ℕ → States → Machine InsertionState
-machine classes bytes states s l index glyph ends =
-    let step : InsertionStep = next classes bytes states s (l .used) (length (l .glyphs)) index glyph ends in
+-- as a step that changes a line
+abbrev pub stepped : List ℕ → InsertionStep → Stepped InsertionState
+stepped bytes step =
     record {
       answer = step .answer;
       state = step .state;
       advance = step .advance;
       changes = bothChanges bytes (step .marked) (step .current);
     }
-
--- as many steps as a pass may have left: 18 for each place of the room that it has not passed, less those that did not advance, and the
--- end call. Glyphs that are inserted take up room, so that the line's growth does not add any
-abbrev pub rest : InsertionState → Line → ℕ → ℕ
-rest s l i = (length (l .glyphs) - i) * 18 + (18 - s .cycles)
-
--- the pass over a line, by any classes
-unfoldable pub passedBy : (classes : ℕ → ℕ) → List ℕ → States → Line → Passed
-passedBy classes bytes states l = passOf (machine classes bytes states) (rest fresh l 0) fresh l
-
--- the pass over a line
-unfoldable pub passed : List ℕ → States → Line → Passed
-passed bytes states l = passedBy (classOf bytes states) bytes states l

@@ -1,5 +1,5 @@
--- For the code alone; no entry and no promise rests on it, and nobody has to believe it. What the parts of the code leave: where an insertion's
--- glyphs end, an entry that inserts nothing, and a pass without its tests.
+-- For the code alone; no entry and no promise rests on it, and nobody has to believe it. What the parts of the code know: where an insertion's
+-- glyphs end, and an entry that inserts nothing.
 use Prim.Native.Nat.{ℕ, _+_, _*_}
 use mathlib.Core.Bool.{Bool, cond, not}
 use mathlib.Core.List.{List}
@@ -7,12 +7,7 @@ use lib.Dec.{eqb}
 use Rattle.laws.specs.Bits.{isSet}
 use Rattle.laws.specs.Lists.{both}
 use Rattle.parse.specs.Reads.{u16At}
-use Rattle.state_tables.specs.declared.States.{States}
 use Rattle.state_tables.specs.declared.entries.Entry.{Entry}
-use Rattle.line.specs.Line.{Line}
-use Rattle.line.specs.Changes.{applyAll}
-use Rattle.insertion.specs.Insertion.{passed}
-use Rattle.insertion.specs.Calls.{worked}
 use Rattle.insertion.specs.declared.Inserted.{Inserted}
 use Rattle.insertion.specs.declared.Inserted.the-variants as Inserted′
 use Rattle.insertion.specs.declared.InsertionState.{InsertionState}
@@ -30,11 +25,3 @@ isQuiet bytes entry =
 -- the state that such an entry leads to
 abbrev pub ledBy : InsertionState → Entry → (place : ℕ) → InsertionState
 ledBy s entry place = record { state = entry .state; mark = cond (isSet (entry .flags) 0x8000) place (s .mark); cycles = 0 }
-
--- the line that a pass leaves
-unfoldable pub passedLeaves : List ℕ → States → Line → Line
-passedLeaves bytes states l = applyAll (passed bytes states l .changes) l
-
--- the line that the pass by the subtable that the bytes begin with leaves
-unfoldable pub workLeaves : List ℕ → Line → Line
-workLeaves bytes l = applyAll (worked bytes l .changes) l

@@ -18,12 +18,15 @@ ghost use Rattle.answers.specs.Refuse.{refuse};
 ghost use Rattle.state_tables.specs.Classes.{classOf};
 ghost use Rattle.state_tables.specs.Opened.{classBy, LiesIn, Remembers};
 ghost use Rattle.machine.specs.Entry.{classHere};
+ghost use Rattle.machine.specs.Call.{stepTests};
+ghost use Rattle.machine.specs.Machine.{passed, subtableOf, passCall, callLeaves};
+ghost use Rattle.machine.specs.Work.{passedLeaves, workLeaves};
 ghost use Rattle.line.specs.Line.{lineOf};
 ghost use Rattle.line.specs.Changes.{applyAll};
 ghost use Rattle.insertion.specs.Lists.{glyphList, insertionOf, countOf, changesOf, bothChanges, movedBy};
-ghost use Rattle.insertion.specs.Insertion.{fresh, insertionPlace, advanceOf, withState, withMark, stopped, finished, afterMarked, acted, next, passed};
-ghost use Rattle.insertion.specs.Calls.{opened, worked, passCall, callLeaves, stepTests, fromTable, stepCall};
-ghost use Rattle.insertion.specs.Work.{endOf, isQuiet, ledBy, passedLeaves, workLeaves};
+ghost use Rattle.insertion.specs.Insertion.{fresh, insertionPlace, advanceOf, withState, withMark, stopped, finished, afterMarked, acted, next};
+ghost use Rattle.insertion.specs.Calls.{opened, stateTests, insertion, roomTests, fromTable, stepCall};
+ghost use Rattle.insertion.specs.Work.{endOf, isQuiet, ledBy};
 
 // The state of a pass: the state table's state, the marked place, and how many steps in a row did not advance.
 pub struct InsertionState {
@@ -378,7 +381,7 @@ impl InsertionState {
         index: usize,
         made: Made,
     ) -> Check
-        ensures { λ r. ⌜ r ≡ refuse (stepTests «table_length» used room index self made) ⌝ }
+        ensures { λ r. ⌜ r ≡ refuse (stepTests «table_length» (roomTests used room) used index (stateTests self used) made) ⌝ }
     {
         if let Check::Refused(why) = answers::refuse_table(table_length) {
             return Check::Refused(why);
@@ -578,10 +581,10 @@ fn pass_line(
     used: usize,
 ) -> InsertionPass
     requires { ⌜ (used ≤ length (now glyphs)) × (length (now tags) ≡ length (now glyphs)) × (length (now glyphs) ≤ Limits.roomLimit) ⌝ }
-    ensures answer { λ r. ⌜ r .answer ≡ passed (now (bytes .entry)) states (lineOf (now (glyphs .entry)) (now (tags .entry)) (now (homes .entry)) used) .answer ⌝ }
-    ensures used { λ r. ⌜ r .used ≡ passedLeaves (now (bytes .entry)) states (lineOf (now (glyphs .entry)) (now (tags .entry)) (now (homes .entry)) used) .used ⌝ }
-    ensures glyphs { λ _. ⌜ now (glyphs .exit) ≡ passedLeaves (now (bytes .entry)) states (lineOf (now (glyphs .entry)) (now (tags .entry)) (now (homes .entry)) used) .glyphs ⌝ }
-    ensures tags { λ _. ⌜ now (tags .exit) ≡ passedLeaves (now (bytes .entry)) states (lineOf (now (glyphs .entry)) (now (tags .entry)) (now (homes .entry)) used) .tags ⌝ }
+    ensures answer { λ r. ⌜ r .answer ≡ passed insertion (now (bytes .entry)) states (lineOf (now (glyphs .entry)) (now (tags .entry)) (now (homes .entry)) used) .answer ⌝ }
+    ensures used { λ r. ⌜ r .used ≡ passedLeaves insertion (now (bytes .entry)) states (lineOf (now (glyphs .entry)) (now (tags .entry)) (now (homes .entry)) used) .used ⌝ }
+    ensures glyphs { λ _. ⌜ now (glyphs .exit) ≡ passedLeaves insertion (now (bytes .entry)) states (lineOf (now (glyphs .entry)) (now (tags .entry)) (now (homes .entry)) used) .glyphs ⌝ }
+    ensures tags { λ _. ⌜ now (tags .exit) ≡ passedLeaves insertion (now (bytes .entry)) states (lineOf (now (glyphs .entry)) (now (tags .entry)) (now (homes .entry)) used) .tags ⌝ }
 {
     let opened = opened::open(bytes, states);
     let mut memo = opened::nothing_found();
@@ -645,10 +648,10 @@ pub fn work(
     used: usize,
 ) -> InsertionPass
     requires { ⌜ (used ≤ length (now glyphs)) × (length (now tags) ≡ length (now glyphs)) × (length (now glyphs) ≤ Limits.roomLimit) ⌝ }
-    ensures answer { λ r. ⌜ r .answer ≡ worked (now (bytes .entry)) (lineOf (now (glyphs .entry)) (now (tags .entry)) (now (homes .entry)) used) .answer ⌝ }
-    ensures used { λ r. ⌜ r .used ≡ workLeaves (now (bytes .entry)) (lineOf (now (glyphs .entry)) (now (tags .entry)) (now (homes .entry)) used) .used ⌝ }
-    ensures glyphs { λ _. ⌜ now (glyphs .exit) ≡ workLeaves (now (bytes .entry)) (lineOf (now (glyphs .entry)) (now (tags .entry)) (now (homes .entry)) used) .glyphs ⌝ }
-    ensures tags { λ _. ⌜ now (tags .exit) ≡ workLeaves (now (bytes .entry)) (lineOf (now (glyphs .entry)) (now (tags .entry)) (now (homes .entry)) used) .tags ⌝ }
+    ensures answer { λ r. ⌜ r .answer ≡ subtableOf insertion .worked (now (bytes .entry)) (lineOf (now (glyphs .entry)) (now (tags .entry)) (now (homes .entry)) used) .answer ⌝ }
+    ensures used { λ r. ⌜ r .used ≡ workLeaves (subtableOf insertion) (now (bytes .entry)) (lineOf (now (glyphs .entry)) (now (tags .entry)) (now (homes .entry)) used) .used ⌝ }
+    ensures glyphs { λ _. ⌜ now (glyphs .exit) ≡ workLeaves (subtableOf insertion) (now (bytes .entry)) (lineOf (now (glyphs .entry)) (now (tags .entry)) (now (homes .entry)) used) .glyphs ⌝ }
+    ensures tags { λ _. ⌜ now (tags .exit) ≡ workLeaves (subtableOf insertion) (now (bytes .entry)) (lineOf (now (glyphs .entry)) (now (tags .entry)) (now (homes .entry)) used) .tags ⌝ }
 {
     let Made::Ready(states) = open(bytes) else {
         return InsertionPass {
@@ -668,10 +671,10 @@ pub fn pass(
     homes: &[u16],
     used: usize,
 ) -> InsertionPass
-    ensures answer { λ r. ⌜ r .answer ≡ passCall (now (table .entry)) start (lineOf (now (glyphs .entry)) (now (tags .entry)) (now (homes .entry)) used) .answer ⌝ }
-    ensures used { λ r. ⌜ r .used ≡ callLeaves (now (table .entry)) start (lineOf (now (glyphs .entry)) (now (tags .entry)) (now (homes .entry)) used) .used ⌝ }
-    ensures glyphs { λ _. ⌜ now (glyphs .exit) ≡ callLeaves (now (table .entry)) start (lineOf (now (glyphs .entry)) (now (tags .entry)) (now (homes .entry)) used) .glyphs ⌝ }
-    ensures tags { λ _. ⌜ now (tags .exit) ≡ callLeaves (now (table .entry)) start (lineOf (now (glyphs .entry)) (now (tags .entry)) (now (homes .entry)) used) .tags ⌝ }
+    ensures answer { λ r. ⌜ r .answer ≡ passCall (subtableOf insertion) (now (table .entry)) start (lineOf (now (glyphs .entry)) (now (tags .entry)) (now (homes .entry)) used) .answer ⌝ }
+    ensures used { λ r. ⌜ r .used ≡ callLeaves (subtableOf insertion) (now (table .entry)) start (lineOf (now (glyphs .entry)) (now (tags .entry)) (now (homes .entry)) used) .used ⌝ }
+    ensures glyphs { λ _. ⌜ now (glyphs .exit) ≡ callLeaves (subtableOf insertion) (now (table .entry)) start (lineOf (now (glyphs .entry)) (now (tags .entry)) (now (homes .entry)) used) .glyphs ⌝ }
+    ensures tags { λ _. ⌜ now (tags .exit) ≡ callLeaves (subtableOf insertion) (now (table .entry)) start (lineOf (now (glyphs .entry)) (now (tags .entry)) (now (homes .entry)) used) .tags ⌝ }
 {
     let bytes = parse::from(table, start);
     if let Check::Refused(why) = machine::refuse_pass(
@@ -680,7 +683,7 @@ pub fn pass(
         tags,
         homes,
         used,
-        open(bytes),
+        machine::is_ready(open(bytes)),
     ) {
         return InsertionPass {
             answer: Answer::Refused(why),

@@ -14,9 +14,12 @@ use Rattle.state_tables.specs.declared.States.{States}
 use Rattle.line.specs.Line.{Line}
 use Rattle.line.specs.Changes.{Change, applyAll}
 use Rattle.machine.specs.Pass.{Passed, after, deleted, isDone, advanceOf, passFrom}
+use Rattle.machine.specs.Machine.{passedBy, passed}
+use Rattle.machine.specs.Work.{glyphAt}
 use Rattle.machine.proofs.Passing.{turn-goes, turn-stops, turn-ends}
-use Rattle.ligature.specs.Ligature.{Stack, stackIn, fresh, Ligation, changesOf, Ran, next, stateOf, machine, rest, passedBy, passed}
-use Rattle.ligature.specs.Work.{ligated, glyphAt, isLast, runFrom, run}
+use Rattle.ligature.specs.Ligature.{Stack, stackIn, fresh, Ligation, changesOf, Ran, next, stateOf}
+use Rattle.ligature.specs.Calls.{ligature}
+use Rattle.ligature.specs.Work.{ligated, isLast, runFrom, run}
 use Rattle.ligature.specs.declared.LigatureState.{LigatureState}
 use Rattle.ligature.specs.declared.Reached.{Reached}
 use Rattle.ligature.proofs.Ligations.{used-kept}
@@ -72,12 +75,12 @@ module _ (classes : ℕ → ℕ) (bytes : List ℕ) (states : States) where
         ∙ ap (λ (cs : List Change). record { answer = here s i glyph ends .answer; changes = cs }) (changes-append made (here s i glyph ends .made))
 
     -- the end call
-    at-end : l .used ≡ i → asPass (steps (suc turns) s l i deleted true made) ≡ after (changesOf made) (passFrom (machine classes bytes states) (suc turns) s l i)
-    unfolding machine isLast
+    at-end : l .used ≡ i → asPass (steps (suc turns) s l i deleted true made) ≡ after (changesOf made) (passFrom (ligature .step classes bytes states) (suc turns) s l i)
+    unfolding isLast
     at-end e =
         ended deleted true (rw (le-leb (l .used) i (omega (arith, e))))
         ∙ ap (λ (k : ℕ). after (changesOf made) (asPass (here s k deleted true))) (sym e)
-        ∙ ap (after (changesOf made)) (sym (turn-ends (machine classes bytes states) turns s l i (omega (arith, e))))
+        ∙ ap (after (changesOf made)) (sym (turn-ends (ligature .step classes bytes states) turns s l i (omega (arith, e))))
 
     module _ (h : i < l .used) where
       abbrev step : Ran
@@ -85,29 +88,29 @@ module _ (classes : ℕ → ℕ) (bytes : List ℕ) (states : States) where
 
       -- a step that is not DONE
       at-stop : isDone (step .answer) ≡ false
-          → asPass (steps (suc turns) s l i (getD (l .glyphs) i 0) false made) ≡ after (changesOf made) (passFrom (machine classes bytes states) (suc turns) s l i)
-      unfolding machine isLast
+          → asPass (steps (suc turns) s l i (getD (l .glyphs) i 0) false made) ≡ after (changesOf made) (passFrom (ligature .step classes bytes states) (suc turns) s l i)
+      unfolding isLast
       at-stop d =
           ended (getD (l .glyphs) i 0) false (rw (lt-leb (l .used) i h, d))
-          ∙ ap (after (changesOf made)) (sym (turn-stops (machine classes bytes states) turns s l i h d))
+          ∙ ap (after (changesOf made)) (sym (turn-stops (ligature .step classes bytes states) turns s l i h d))
 
       -- any other, with what the rest gives
       at-step : isDone (step .answer) ≡ true
           → asPass (steps turns (stateOf step) (ligated (step .made) l) (i + 1) (glyphAt (ligated (step .made) l .glyphs) (ligated (step .made) l .used) (i + 1))
           (leb (ligated (step .made) l .used) (i + 1)) (made ++ step .made))
-          ≡ after (changesOf (made ++ step .made)) (passFrom (machine classes bytes states) turns (stateOf step) (ligated (step .made) l) (i + 1))
-          → asPass (steps (suc turns) s l i (getD (l .glyphs) i 0) false made) ≡ after (changesOf made) (passFrom (machine classes bytes states) (suc turns) s l i)
-      unfolding machine isLast
+          ≡ after (changesOf (made ++ step .made)) (passFrom (ligature .step classes bytes states) turns (stateOf step) (ligated (step .made) l) (i + 1))
+          → asPass (steps (suc turns) s l i (getD (l .glyphs) i 0) false made) ≡ after (changesOf made) (passFrom (ligature .step classes bytes states) (suc turns) s l i)
+      unfolding isLast
       at-step d later =
           ap asPass (more-steps classes bytes states false turns (s .state) (stackIn s) l i (getD (l .glyphs) i 0) false made (rw (lt-leb (l .used) i h, d)))
           ∙ later
           ∙ ap (λ (cs : List Change). record { answer = whole .answer; changes = cs ++ whole .changes }) (changes-append made (step .made))
           ∙ ap (λ (cs : List Change). record { answer = whole .answer; changes = cs }) (append-assoc (changesOf made) (changesOf (step .made)) (whole .changes))
-          ∙ ap (λ (k : ℕ). after (changesOf made) (after (changesOf (step .made)) (passFrom (machine classes bytes states) turns (stateOf step) (ligated (step .made) l) (i + k)))) (sym one)
-          ∙ ap (after (changesOf made)) (sym (turn-goes (machine classes bytes states) turns s l i h d))
+          ∙ ap (λ (k : ℕ). after (changesOf made) (after (changesOf (step .made)) (passFrom (ligature .step classes bytes states) turns (stateOf step) (ligated (step .made) l) (i + k)))) (sym one)
+          ∙ ap (after (changesOf made)) (sym (turn-goes (ligature .step classes bytes states) turns s l i h d))
         where
           whole : Passed
-          whole = passFrom (machine classes bytes states) turns (stateOf step) (ligated (step .made) l) (i + 1)
+          whole = passFrom (ligature .step classes bytes states) turns (stateOf step) (ligated (step .made) l) (i + 1)
 
           one : advanceOf (step .answer) ≡ 1
           one = rw d
@@ -115,7 +118,7 @@ module _ (classes : ℕ → ℕ) (bytes : List ℕ) (states : States) where
   abbrev Alike : (turns : ℕ) → LigatureState → Line → (i : ℕ) → List Ligation → Type 0
   Alike turns s l i made =
       asPass (steps turns s l i (glyphAt (l .glyphs) (l .used) i) (leb (l .used) i) made)
-      ≡ after (changesOf made) (passFrom (machine classes bytes states) turns s l i)
+      ≡ after (changesOf made) (passFrom (ligature .step classes bytes states) turns s l i)
 
   none-left : (s : LigatureState) (l : Line) (i : ℕ) (made : List Ligation) → Alike zero s l i made
   unfolding runFrom passFrom
@@ -126,7 +129,7 @@ module _ (classes : ℕ → ℕ) (bytes : List ℕ) (states : States) where
   run-passes (suc turns) s l i made h = place (λ t k made′ g. run-passes turns t k (i + 1) made′ g) (ltb i (l .used)) refl
     where
       begins : {glyph : ℕ} {ends : Bool} → glyphAt (l .glyphs) (l .used) i ≡ glyph → leb (l .used) i ≡ ends
-          → asPass (steps (suc turns) s l i glyph ends made) ≡ after (changesOf made) (passFrom (machine classes bytes states) (suc turns) s l i)
+          → asPass (steps (suc turns) s l i glyph ends made) ≡ after (changesOf made) (passFrom (ligature .step classes bytes states) (suc turns) s l i)
           → Alike (suc turns) s l i made
       begins g e same = ap₂ (λ (x : ℕ) (y : Bool). asPass (steps (suc turns) s l i x y made)) g e ∙ same
 
@@ -141,7 +144,7 @@ module _ (classes : ℕ → ℕ) (bytes : List ℕ) (states : States) where
           p = ltb-true i (l .used) e
 
           answered : (d : Bool) → isDone (step turns s l i made p .answer) ≡ d
-              → asPass (steps (suc turns) s l i (getD (l .glyphs) i 0) false made) ≡ after (changesOf made) (passFrom (machine classes bytes states) (suc turns) s l i)
+              → asPass (steps (suc turns) s l i (getD (l .glyphs) i 0) false made) ≡ after (changesOf made) (passFrom (ligature .step classes bytes states) (suc turns) s l i)
           answered false d = at-stop turns s l i made p d
           answered true d =
               let r : Ran = step turns s l i made p in
@@ -157,15 +160,15 @@ module _ (bytes : List ℕ) (states : States) (l : Line) where
   from-fresh : LigatureState → (glyph : ℕ) → (ends : Bool) → Ran
   from-fresh s glyph ends = run bytes states false (s .state) (stackIn s) l 0 glyph ends
 
-  whole-pass : asPass (classOf bytes states) bytes states (from-fresh fresh (glyphAt (l .glyphs) (l .used) 0) (leb (l .used) 0)) ≡ passed bytes states l
+  whole-pass : asPass (classOf bytes states) bytes states (from-fresh fresh (glyphAt (l .glyphs) (l .used) 0) (leb (l .used) 0)) ≡ passed ligature bytes states l
   unfolding from-fresh run passed passedBy changesOf
   whole-pass =
-      let n : suc (l .used - 0) ≡ rest fresh l 0 = omega arith in
+      let n : suc (l .used - 0) ≡ ligature .rest fresh l 0 = omega arith in
       run-passes (classOf bytes states) bytes states (suc (l .used - 0)) fresh l 0 [] (omega arith)
-      ∙ ap (λ (turns : ℕ). passFrom (machine (classOf bytes states) bytes states) turns fresh l 0) n
+      ∙ ap (λ (turns : ℕ). passFrom (ligature .step (classOf bytes states) bytes states) turns fresh l 0) n
 
   pub pass-ends : {s : LigatureState} {glyph : ℕ} {r : Reached} {places stack glyphs′ homes′ : List ℕ} → s ≡ fresh → glyph ≡ glyphAt (l .glyphs) (l .used) 0
-      → Reaches l (run bytes states false (s .state) (stackIn s) l 0 glyph (eqb (l .used) 0)) r places stack glyphs′ homes′ → Ends (passed bytes states l) l (r .answer) glyphs′ homes′
+      → Reaches l (run bytes states false (s .state) (stackIn s) l 0 glyph (eqb (l .used) 0)) r places stack glyphs′ homes′ → Ends (passed ligature bytes states l) l (r .answer) glyphs′ homes′
   unfolding from-fresh
   pass-ends {s} {glyph} {r} f g reaches =
       let same : from-fresh s glyph (eqb (l .used) 0) ≡ from-fresh fresh (glyphAt (l .glyphs) (l .used) 0) (leb (l .used) 0) =

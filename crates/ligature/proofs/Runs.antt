@@ -17,7 +17,8 @@ use Rattle.state_tables.proofs.Openings.{classes-same, classes-lie, deleted-cla
 use Rattle.line.specs.Line.{Line, lineOf}
 use Rattle.machine.specs.Entry.{classHere}
 use Rattle.ligature.specs.Ligature.{Stack, stackOf, Ligation, Ran, over, ran, next, stateOf, stackIn}
-use Rattle.ligature.specs.Work.{ligated, reached, glyphAt, isLast, runFrom, run}
+use Rattle.ligature.specs.Work.{ligated, reached, isLast, runFrom, run}
+use Rattle.machine.specs.Work.{glyphAt}
 use Rattle.ligature.specs.declared.LigatureState.{LigatureState}
 use Rattle.ligature.specs.declared.Reached.{Reached}
 use Rattle.ligature.proofs.Ligations.{ligated-append, ligated-none, ligated-line}

@@ -8,9 +8,11 @@ use lib.ListN.{getD}
 use Rattle.answers.specs.declared.Answer.{Answer}
 use Rattle.state_tables.specs.declared.States.{States}
 use Rattle.line.specs.Line.{Line}
-use Rattle.machine.specs.Pass.{isDone, advanceOf, passFrom}
-use Rattle.machine.proofs.Turns.{Counts, enough-turns}
-use Rattle.ligature.specs.Ligature.{stackIn, fresh, next, machine, rest, passedBy}
+use Rattle.machine.specs.Pass.{isDone, advanceOf}
+use Rattle.machine.specs.Machine.{Bounded}
+use Rattle.machine.proofs.Turns.{Counts, bounded}
+use Rattle.ligature.specs.Ligature.{stackIn, next}
+use Rattle.ligature.specs.Calls.{ligature}
 use Rattle.ligature.specs.declared.LigatureState.{LigatureState}
 use Rattle.ligature.proofs.Ligations.{used-kept}
 
@@ -21,8 +23,7 @@ Sound s l i = 0 ≤ 0
 advances : (answer : Answer) → isDone answer ≡ true → advanceOf answer ≡ 1
 advances answer e = rw e
 
-counts : (classes : ℕ → ℕ) (bytes : List ℕ) (states : States) → Counts (machine classes bytes states) Sound rest
-unfolding machine
+counts : (classes : ℕ → ℕ) (bytes : List ℕ) (states : States) → Counts (ligature .step classes bytes states) Sound (ligature .rest)
 counts classes bytes states =
     record {
       some = λ s l i ok. omega arith;
@@ -32,8 +33,5 @@ counts classes bytes states =
           omega (arith, advances (r .answer) done, used-kept (r .made) l);
     }
 
-pub ligature-turns : (classes : ℕ → ℕ) (bytes : List ℕ) (states : States) (l : Line) (more : ℕ)
-    → passFrom (machine classes bytes states) (more + rest fresh l 0) fresh l 0 ≡ passedBy classes bytes states l
-unfolding passedBy
-ligature-turns classes bytes states l more =
-    enough-turns (machine classes bytes states) Sound rest (counts classes bytes states) more (rest fresh l 0) fresh l 0 (omega arith) (omega arith)
+pub ligature-turns : (l : Line) → Bounded ligature l
+ligature-turns l = bounded ligature Sound counts l (omega arith)

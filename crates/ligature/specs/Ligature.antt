@@ -1,4 +1,4 @@
--- The ligature machine, as the crate's `next`, and its pass.
+-- The ligature machine's step, as the crate's `next`.
 use Prim.Native.Nat.{ℕ, zero, suc, _+_, _-_}
 use mathlib.Core.Bool.{Bool, true, false, not}
 use mathlib.Core.List.{List, [], _∷_, _++_}
@@ -11,12 +11,10 @@ use Rattle.parse.specs.Reads.{u16At}
 use Rattle.state_tables.specs.declared.States.{States}
 use Rattle.state_tables.specs.declared.entries.Entry.{Entry}
 use Rattle.state_tables.specs.Entries.{entryOf, onEntry}
-use Rattle.line.specs.Line.{Line}
 use Rattle.line.specs.Changes.{Change}
 use Rattle.laws.specs.Bits.{isSet}
-use Rattle.state_tables.specs.Classes.{classOf}
 use Rattle.machine.specs.Entry.{classHere}
-use Rattle.machine.specs.Pass.{Stepped, Machine, Passed, advanceOf, passOf}
+use Rattle.machine.specs.Pass.{Stepped, advanceOf}
 use Rattle.ligature.specs.Actions.{actionOf}
 use Rattle.ligature.specs.declared.actions.Action.{Action}
 use Rattle.ligature.specs.declared.actions.Action.the-variants as Action′
@@ -195,19 +193,3 @@ stepped r = record { answer = r .answer; state = stateOf r; advance = advanceOf 
 -- a state's stack
 abbrev pub stackIn : LigatureState → Stack
 stackIn s = stackOf (s .places) (s .glyphs) (s .depth)
-
--- the machine that passes are made of
-unfoldable pub machine : (classes : ℕ → ℕ) → List ℕ → States → Machine LigatureState
-machine classes bytes states s l index glyph ends = stepped (next classes bytes states (s .state) (stackIn s) index glyph ends)
-
--- as many steps as a pass may have left: one for each place, and the end call
-abbrev pub rest : LigatureState → Line → ℕ → ℕ
-rest s l i = (l .used - i) + 1
-
--- the pass over a line, with any classes
-unfoldable pub passedBy : (classes : ℕ → ℕ) → List ℕ → States → Line → Passed
-passedBy classes bytes states l = passOf (machine classes bytes states) (rest fresh l 0) fresh l
-
--- and with those of the class table
-unfoldable pub passed : List ℕ → States → Line → Passed
-passed bytes states l = passedBy (classOf bytes states) bytes states l

@@ -1,11 +1,10 @@
 -- For the code alone; no entry and no promise rests on it, and nobody has to believe it. What the parts of the code answer and leave: an action's
--- numbers, those of actions, of an entry and of a step, a run of steps, and a pass without its tests.
+-- numbers, those of actions, of an entry and of a step, and a run of steps.
 use Prim.Native.Nat.{ℕ, zero, suc, _+_, _-_}
 use mathlib.Core.Bool.{Bool, true, false, not}
 use mathlib.Core.List.{List, [], _++_}
 use lib.Dec.{leb}
 use lib.IntN.{ℤ, pos, negsuc}
-use lib.ListN.{getD}
 use Rattle.laws.specs.Choose.{ifLt}
 use Rattle.laws.specs.Lists.{either}
 use Rattle.answers.specs.declared.Answer.{Answer}
@@ -14,9 +13,9 @@ use Rattle.state_tables.specs.Classes.{classOf}
 use Rattle.state_tables.specs.declared.States.{States}
 use Rattle.line.specs.Line.{Line}
 use Rattle.line.specs.Changes.{applyAll}
-use Rattle.machine.specs.Pass.{Stepped, deleted, isDone}
-use Rattle.ligature.specs.Ligature.{Ligation, Stack, changesOf, Acts, Work, Ran, over, next, passed}
-use Rattle.ligature.specs.Calls.{worked}
+use Rattle.machine.specs.Pass.{Stepped, isDone}
+use Rattle.machine.specs.Work.{glyphAt}
+use Rattle.ligature.specs.Ligature.{Ligation, Stack, changesOf, Acts, Work, Ran, over, next}
 use Rattle.ligature.specs.declared.actions.Action.{Action}
 use Rattle.ligature.specs.declared.actions.Action.the-variants.{Ended, Adds, Makes}
 use Rattle.ligature.specs.declared.Did.{Did}
@@ -48,10 +47,6 @@ didWork w = record { ended = w .ended; depth = w .stack .depth; cycles = w .cycl
 abbrev pub reached : Ran → Reached
 reached r = record { answer = r .answer; state = r .state; depth = r .stack .depth }
 
--- the glyph at a place, behind the last that of the end call
-unfoldable pub glyphAt : List ℕ → (used place : ℕ) → ℕ
-glyphAt glyphs used place = ifLt place used (getD glyphs place 0) deleted
-
 -- a step is the last of a run: the only one, the end call, or one that is not DONE
 unfoldable pub isLast : Answer → (once : Bool) → (used place : ℕ) → Bool
 isLast answer once used place = either once (either (leb used place) (not (isDone answer)))
@@ -77,11 +72,3 @@ run bytes states once state stack l place glyph ends =
 -- what a step hands back
 abbrev pub stepOf : Stepped LigatureState → LigatureStep
 stepOf r = record { answer = r .answer; state = r .state; advance = r .advance }
-
--- the line that a pass leaves
-unfoldable pub passedLeaves : List ℕ → States → Line → Line
-passedLeaves bytes states l = applyAll (passed bytes states l .changes) l
-
--- the line that the pass by the subtable that the bytes begin with leaves
-unfoldable pub workLeaves : List ℕ → Line → Line
-workLeaves bytes l = applyAll (worked bytes l .changes) l

@@ -14,17 +14,21 @@ use state_tables::opened;
 use state_tables::opened::Classes;
 ghost use mathlib.Core.Path.{_≡_};
 ghost use mathlib.Core.Bool.{false};
-ghost use mathlib.Core.List.{[]};
+ghost use mathlib.Core.List.{[], _∷_};
 ghost use Prim.Native.Nat.{_+_, _<_, _≤_};
 ghost use lib.ListN.{length};
 ghost use Rattle.answers.specs.Refuse.{refuse};
 ghost use Rattle.state_tables.specs.Opened.{classBy, LiesIn, Remembers};
 ghost use Rattle.line.specs.Line.{lineOf};
-ghost use Rattle.ligature.specs.Ligature.{stackOf, fresh, ligationsOf, storedIn, turnOf, acts, overflows, pushed, entered, ran, passed};
+ghost use Rattle.line.specs.Test.{lineTest};
+ghost use Rattle.ligature.specs.Ligature.{stackOf, fresh, ligationsOf, storedIn, turnOf, acts, overflows, pushed, entered, ran};
 ghost use Rattle.machine.specs.Entry.{classHere};
 ghost use Rattle.machine.specs.Pass.{advanceOf};
-ghost use Rattle.ligature.specs.Calls.{opened, worked, passCall, callLeaves, areInside, stepTests, stepCall, stepLeaves};
-ghost use Rattle.ligature.specs.Work.{ligated, didActs, didWork, reached, glyphAt, isLast, run, stepOf, passedLeaves, workLeaves};
+ghost use Rattle.machine.specs.Call.{stepTests};
+ghost use Rattle.machine.specs.Machine.{passed, subtableOf, passCall, callLeaves, stepCall, stepLeaves};
+ghost use Rattle.machine.specs.Work.{passedLeaves, workLeaves};
+ghost use Rattle.ligature.specs.Calls.{opened, areInside, stateTests, ligature};
+ghost use Rattle.ligature.specs.Work.{ligated, didActs, didWork, reached, isLast, run, stepOf};
 
 // The state of a pass: the state table's state, and the stack, a place and a glyph for each slot, of which the first `depth` are used.
 pub struct LigatureState {
@@ -380,17 +384,6 @@ fn class_now(bytes: &[u8], opened: Classes, memo: &mut [u32; 64], glyph: u16, en
     opened::class_in_words(bytes, base, first, count, glyph)
 }
 
-// The glyph at a place, END behind the last.
-fn glyph_at(glyphs: &[u16], used: usize, place: usize) -> u16
-    requires { ⌜ used ≤ length (now glyphs) ⌝ }
-    ensures { λ r. ⌜ r ≡ glyphAt (now (glyphs .entry)) used place ⌝ }
-{
-    if place < used {
-        return glyphs[place];
-    }
-    LigatureState::END
-}
-
 // Whether a step is the last of a run: the only one, the end call, or one that is not DONE.
 fn is_last(answer: Answer, once: bool, used: usize, place: usize) -> bool
     ensures { λ r. ⌜ r ≡ isLast answer once used place ⌝ }
@@ -460,7 +453,7 @@ fn run(
         state = reached.state;
         depth = reached.depth;
         place += 1;
-        glyph = glyph_at(glyphs, used, place);
+        glyph = machine::glyph_at(glyphs, used, place);
         ends = used <= place;
     }
 }
@@ -492,9 +485,6 @@ impl LigatureState {
 
     pub const ACTIONS: u16 = 32;
 
-    // The glyph of the end call.
-    pub const END: u16 = 0xFFFF;
-
     // The state at the start of a pass.
     pub fn new() -> LigatureState
         ensures { λ r. ⌜ r ≡ fresh ⌝ }
@@ -518,7 +508,7 @@ impl LigatureState {
         index: usize,
         made: Made,
     ) -> Check
-        ensures { λ r. ⌜ r ≡ refuse (stepTests «table_length» (lineOf (now (glyphs .entry)) (now (tags .entry)) (now (homes .entry)) used) index self made) ⌝ }
+        ensures { λ r. ⌜ r ≡ refuse (stepTests «table_length» (lineTest (lineOf (now (glyphs .entry)) (now (tags .entry)) (now (homes .entry)) used) ∷ []) used index (stateTests self used) made) ⌝ }
     {
         if let Check::Refused(why) = answers::refuse_table(table_length) {
             return Check::Refused(why);
@@ -555,9 +545,9 @@ impl LigatureState {
         glyph: u16,
         ends: bool,
     ) -> LigatureStep
-        ensures step { λ r. ⌜ r ≡ stepOf (stepCall (now (table .entry)) start self (lineOf (now (glyphs .entry)) (now (tags .entry)) (now (homes .entry)) used) index glyph ends) ⌝ }
-        ensures glyphs { λ _. ⌜ now (glyphs .exit) ≡ stepLeaves (now (table .entry)) start self (lineOf (now (glyphs .entry)) (now (tags .entry)) (now (homes .entry)) used) index glyph ends .glyphs ⌝ }
-        ensures homes { λ _. ⌜ now (homes .exit) ≡ stepLeaves (now (table .entry)) start self (lineOf (now (glyphs .entry)) (now (tags .entry)) (now (homes .entry)) used) index glyph ends .homes ⌝ }
+        ensures step { λ r. ⌜ r ≡ stepOf (stepCall ligature (now (table .entry)) start self (lineOf (now (glyphs .entry)) (now (tags .entry)) (now (homes .entry)) used) index glyph ends) ⌝ }
+        ensures glyphs { λ _. ⌜ now (glyphs .exit) ≡ stepLeaves ligature (now (table .entry)) start self (lineOf (now (glyphs .entry)) (now (tags .entry)) (now (homes .entry)) used) index glyph ends .glyphs ⌝ }
+        ensures homes { λ _. ⌜ now (homes .exit) ≡ stepLeaves ligature (now (table .entry)) start self (lineOf (now (glyphs .entry)) (now (tags .entry)) (now (homes .entry)) used) index glyph ends .homes ⌝ }
     {
         let bytes = parse::from(table, start);
         let made = open(bytes);
@@ -660,9 +650,9 @@ fn pass_line(
     used: usize,
 ) -> Answer
     requires { ⌜ (used ≤ length (now glyphs)) × (used ≤ length (now tags)) ⌝ }
-    ensures answer { λ r. ⌜ r ≡ passed (now (bytes .entry)) states (lineOf (now (glyphs .entry)) (now (tags .entry)) (now (homes .entry)) used) .answer ⌝ }
-    ensures glyphs { λ _. ⌜ now (glyphs .exit) ≡ passedLeaves (now (bytes .entry)) states (lineOf (now (glyphs .entry)) (now (tags .entry)) (now (homes .entry)) used) .glyphs ⌝ }
-    ensures homes { λ _. ⌜ now (homes .exit) ≡ passedLeaves (now (bytes .entry)) states (lineOf (now (glyphs .entry)) (now (tags .entry)) (now (homes .entry)) used) .homes ⌝ }
+    ensures answer { λ r. ⌜ r ≡ passed ligature (now (bytes .entry)) states (lineOf (now (glyphs .entry)) (now (tags .entry)) (now (homes .entry)) used) .answer ⌝ }
+    ensures glyphs { λ _. ⌜ now (glyphs .exit) ≡ passedLeaves ligature (now (bytes .entry)) states (lineOf (now (glyphs .entry)) (now (tags .entry)) (now (homes .entry)) used) .glyphs ⌝ }
+    ensures homes { λ _. ⌜ now (homes .exit) ≡ passedLeaves ligature (now (bytes .entry)) states (lineOf (now (glyphs .entry)) (now (tags .entry)) (now (homes .entry)) used) .homes ⌝ }
 {
     let fresh = LigatureState::new();
     let mut places = fresh.places;
@@ -679,7 +669,7 @@ fn pass_line(
         homes,
         used,
         0,
-        glyph_at(glyphs, used, 0),
+        machine::glyph_at(glyphs, used, 0),
         used == 0,
         false,
     );
@@ -695,9 +685,9 @@ pub fn work(
     used: usize,
 ) -> Answer
     requires { ⌜ (used ≤ length (now glyphs)) × (used ≤ length (now tags)) ⌝ }
-    ensures answer { λ r. ⌜ r ≡ worked (now (bytes .entry)) (lineOf (now (glyphs .entry)) (now (tags .entry)) (now (homes .entry)) used) .answer ⌝ }
-    ensures glyphs { λ _. ⌜ now (glyphs .exit) ≡ workLeaves (now (bytes .entry)) (lineOf (now (glyphs .entry)) (now (tags .entry)) (now (homes .entry)) used) .glyphs ⌝ }
-    ensures homes { λ _. ⌜ now (homes .exit) ≡ workLeaves (now (bytes .entry)) (lineOf (now (glyphs .entry)) (now (tags .entry)) (now (homes .entry)) used) .homes ⌝ }
+    ensures answer { λ r. ⌜ r ≡ subtableOf ligature .worked (now (bytes .entry)) (lineOf (now (glyphs .entry)) (now (tags .entry)) (now (homes .entry)) used) .answer ⌝ }
+    ensures glyphs { λ _. ⌜ now (glyphs .exit) ≡ workLeaves (subtableOf ligature) (now (bytes .entry)) (lineOf (now (glyphs .entry)) (now (tags .entry)) (now (homes .entry)) used) .glyphs ⌝ }
+    ensures homes { λ _. ⌜ now (homes .exit) ≡ workLeaves (subtableOf ligature) (now (bytes .entry)) (lineOf (now (glyphs .entry)) (now (tags .entry)) (now (homes .entry)) used) .homes ⌝ }
 {
     let made = open(bytes);
     let Made::Ready(states) = made else {
@@ -715,9 +705,9 @@ pub fn pass(
     homes: &mut [u16],
     used: usize,
 ) -> Answer
-    ensures answer { λ r. ⌜ r ≡ passCall (now (table .entry)) start (lineOf (now (glyphs .entry)) (now (tags .entry)) (now (homes .entry)) used) .answer ⌝ }
-    ensures glyphs { λ _. ⌜ now (glyphs .exit) ≡ callLeaves (now (table .entry)) start (lineOf (now (glyphs .entry)) (now (tags .entry)) (now (homes .entry)) used) .glyphs ⌝ }
-    ensures homes { λ _. ⌜ now (homes .exit) ≡ callLeaves (now (table .entry)) start (lineOf (now (glyphs .entry)) (now (tags .entry)) (now (homes .entry)) used) .homes ⌝ }
+    ensures answer { λ r. ⌜ r ≡ passCall (subtableOf ligature) (now (table .entry)) start (lineOf (now (glyphs .entry)) (now (tags .entry)) (now (homes .entry)) used) .answer ⌝ }
+    ensures glyphs { λ _. ⌜ now (glyphs .exit) ≡ callLeaves (subtableOf ligature) (now (table .entry)) start (lineOf (now (glyphs .entry)) (now (tags .entry)) (now (homes .entry)) used) .glyphs ⌝ }
+    ensures homes { λ _. ⌜ now (homes .exit) ≡ callLeaves (subtableOf ligature) (now (table .entry)) start (lineOf (now (glyphs .entry)) (now (tags .entry)) (now (homes .entry)) used) .homes ⌝ }
 {
     let bytes = parse::from(table, start);
     if let Check::Refused(why) = machine::refuse_pass(
@@ -726,7 +716,7 @@ pub fn pass(
         tags,
         homes,
         used,
-        open(bytes),
+        machine::is_ready(open(bytes)),
     ) {
         return Answer::Refused(why);
     }

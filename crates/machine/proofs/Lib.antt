@@ -2,6 +2,7 @@
 mod Heads
 pub mod Calls
 pub mod Passing
+pub mod Having
 pub mod Quiet
 pub mod Fitting
 pub mod Stalls

@@ -10,9 +10,9 @@ use Rattle.answers.specs.declared.Answer.{Answer}
 use Rattle.line.specs.Line.{Line}
 use Rattle.line.specs.Changes.{Change, applyAll}
 use Rattle.line.proofs.Histories.{applyAll-append}
-use Rattle.machine.specs.Pass.{Stepped, Machine, Passed, after, isDone, stepAt, endCall, passFrom}
+use Rattle.machine.specs.Pass.{Stepped, Step, Passed, after, isDone, stepAt, endCall, passFrom}
 
-module _ {S : Type 0} (machine : Machine S) where
+module _ {S : Type 0} (machine : Step S) where
   -- one turn, by the answer of its step
   module _ (turns : ℕ) (s : S) (l : Line) (i : ℕ) where
     pub turn-goes : i < l .used → isDone (stepAt machine s l i .answer) ≡ true

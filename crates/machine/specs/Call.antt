@@ -1,63 +1,63 @@
--- A call of a pass or a step on a morx subtable: its tests, and what it answers and changes.
+-- The tests of a pass and of a step on a subtable of morx, and what is made of them.
 use Prim.Native.Nat.{ℕ}
-use mathlib.Core.Bool.{Bool, true, false, cond}
-use mathlib.Core.List.{List, [], _∷_}
+use mathlib.Core.Bool.{Bool, true, false, not, cond}
+use mathlib.Core.List.{List, [], _∷_, _++_}
 use lib.Dec.{ltb}
-use Rattle.answers.specs.Refuse.{Test, tableTest}
+use lib.ListN.{length, drop}
+use Rattle.answers.specs.Refuse.{Test, refuse, tableTest}
 use Rattle.answers.specs.declared.Refusal.{Refusal}
 use Rattle.answers.specs.declared.Refusal.the-variants as Refusal′
-use Rattle.answers.specs.declared.Answer.the-variants as Answer′
 use Rattle.answers.specs.declared.Check.{Check}
 use Rattle.answers.specs.declared.Check.the-variants as Check′
 use Rattle.state_tables.specs.declared.States.{States}
 use Rattle.state_tables.specs.declared.Made.{Made}
 use Rattle.state_tables.specs.declared.Made.the-variants.{Ready, Short}
+use Rattle.state_tables.specs.Classes.{classOf}
 use Rattle.state_tables.specs.States.{extendedAt}
 use Rattle.line.specs.Line.{Line}
 use Rattle.line.specs.Test.{lineTest}
 use Rattle.machine.specs.Head.{hasKind, bodyOf}
-use Rattle.machine.specs.Pass.{Stepped, Passed}
 
 -- the state table of a subtable of this kind, where its head and the state table's own can be read
 unfoldable pub opened : List ℕ → (kind : ℕ) → Made
 opened bytes kind = cond (hasKind bytes kind) (extendedAt (bodyOf bytes)) Short
 
-abbrev pub isShort : Made → Bool
-isShort (Ready states) = false
-isShort Short = true
+abbrev pub isReady : Made → Bool
+isReady (Ready states) = true
+isReady Short = false
 
--- HEAD: the head is cut short, of another kind, or the state table's can't be read
-unfoldable pub headTest : Made → Test
-headTest made = record { holds = isShort made; refusal = Refusal′.Head }
+-- HEAD: the subtable can't be used, since its head is cut short or of another kind, or what its machine reads behind it is not there
+unfoldable pub headTest : (opens : Bool) → Test
+headTest opens = record { holds = not opens; refusal = Refusal′.Head }
 
 -- TABLE, LINE, HEAD
-unfoldable pub passTests : (tableLength : ℕ) → Line → Made → List Test
-passTests tableLength l made = tableTest tableLength ∷ lineTest l ∷ headTest made ∷ []
-
--- a refused call answers so and changes nothing
-abbrev pub refusedCall : Check → Passed → Passed
-refusedCall Check′.Passed work = work
-refusedCall (Check′.Refused why) work = record { answer = Answer′.Refused why; changes = [] }
-
--- the work on a state table; without one the call is refused by HEAD
-abbrev pub onMade : Made → (States → Passed) → Passed
-onMade (Ready states) work = work states
-onMade Short work = record { answer = Answer′.Refused Refusal′.Head; changes = [] }
+unfoldable pub passTests : (tableLength : ℕ) → Line → (opens : Bool) → List Test
+passTests tableLength l opens = tableTest tableLength ∷ lineTest l ∷ headTest opens ∷ []
 
 -- PLACE: a step's index is above the used length
-unfoldable pub placeTest : Line → (index : ℕ) → Test
-placeTest l index = record { holds = ltb (l .used) index; refusal = Refusal′.Place }
+unfoldable pub placeTest : (used index : ℕ) → Test
+placeTest used index = record { holds = ltb used index; refusal = Refusal′.Place }
 
--- TABLE, LINE, PLACE, and then the tests of the machine's own state and HEAD
-unfoldable pub lineStepTests : (tableLength : ℕ) → Line → (index : ℕ) → (later : List Test) → List Test
-lineStepTests tableLength l index later = tableTest tableLength ∷ lineTest l ∷ placeTest l index ∷ later
+-- TABLE, LINE, PLACE, STATE, HEAD, where LINE and STATE are the tests given
+unfoldable pub stepTests : (tableLength : ℕ) → (lineTests : List Test) → (used index : ℕ) → (stateTests : List Test) → Made → List Test
+stepTests tableLength lineTests used index stateTests made =
+    tableTest tableLength ∷ (lineTests ++ placeTest used index ∷ (stateTests ++ headTest (isReady made) ∷ []))
 
--- a refused step hands its state back as given, and changes nothing
-abbrev pub refusedStep : {S : Type 0} → Refusal → S → Stepped S
-refusedStep why s = record { answer = Answer′.Refused why; state = s; advance = 0; changes = [] }
+-- what tests leave to do, or what they refuse
+abbrev pub ifPassed : {A : Type 0} → (refused : Refusal → A) → Check → A → A
+ifPassed refused Check′.Passed work = work
+ifPassed refused (Check′.Refused why) work = refused why
 
--- a step by its tests and its state table; without one it is refused by HEAD
-abbrev pub stepBy : {S : Type 0} → Check → Made → S → (States → Stepped S) → Stepped S
-stepBy (Check′.Refused why) made s work = refusedStep why s
-stepBy Check′.Passed Short s work = refusedStep Refusal′.Head s
-stepBy Check′.Passed (Ready states) s work = work states
+-- what there is to do on a state table; without one it is refused by HEAD
+abbrev pub onMade : {A : Type 0} → (refused : Refusal → A) → Made → (States → A) → A
+onMade refused (Ready states) work = work states
+onMade refused Short work = refused Refusal′.Head
+
+-- a lone step on the subtable at `start`: its tests, and then what is told, by the classes of glyphs, the bytes from the state table on and that table
+unfoldable pub loneStep : {A : Type 0} → (opened : List ℕ → Made) → (refused : Refusal → A) → List ℕ → (start : ℕ) → (lineTests : List Test)
+    → (used index : ℕ) → (stateTests : List Test) → (step : (classes : ℕ → ℕ) → List ℕ → States → A) → A
+loneStep opened refused table start lineTests used index stateTests step =
+    let bytes : List ℕ = drop start table in
+    let made : Made = opened bytes in
+    ifPassed refused (refuse (stepTests (length table) lineTests used index stateTests made))
+    (onMade refused made (λ states. step (classOf (bodyOf bytes) states) (bodyOf bytes) states))

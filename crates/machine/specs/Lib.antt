@@ -4,3 +4,5 @@ pub mod Head
 pub mod Pass
 pub mod Entry
 pub mod Call
+pub mod Machine
+pub mod Work

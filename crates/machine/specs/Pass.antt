@@ -22,8 +22,8 @@ pub record Stepped (S : Type 0) : Type 0 where
   pub changes : List Change
 
 -- a step from a state, on a line, at an index with a glyph, at end of text or not
-abbrev pub Machine : Type 0 → Type 0
-Machine S = S → Line → (index glyph : ℕ) → (ends : Bool) → Stepped S
+abbrev pub Step : Type 0 → Type 0
+Step S = S → Line → (index glyph : ℕ) → (ends : Bool) → Stepped S
 
 -- what a pass answers, and the changes it made
 pub record Passed : Type 0 where
@@ -47,14 +47,14 @@ isDone (Answer′.Refused why) = false
 abbrev pub advanceOf : Answer → ℕ
 advanceOf answer = cond (isDone answer) 1 0
 
-module _ {S : Type 0} (machine : Machine S) where
+module _ {S : Type 0} (step : Step S) where
   -- the step at a place of the line, with the glyph that stands there
   abbrev pub stepAt : S → Line → ℕ → Stepped S
-  stepAt s l i = machine s l i (getD (l .glyphs) i 0) false
+  stepAt s l i = step s l i (getD (l .glyphs) i 0) false
 
   -- the end call: the index is the length, the glyph is 0xFFFF
   abbrev pub endCall : S → Line → Stepped S
-  endCall s l = machine s l (l .used) deleted true
+  endCall s l = step s l (l .used) deleted true
 
   -- from place i on: the step at each place below the used length, as it is at that time, then the end call, whose advance is ignored;
   -- a step that is not DONE ends the pass. `turns` bounds how many steps there are
@@ -71,7 +71,3 @@ module _ {S : Type 0} (machine : Machine S) where
                   (passFrom turns (stepAt s l i .state) (applyAll (stepAt s l i .changes) l) (i + stepAt s l i .advance))
             ]
       ]
-
--- a pass from its start, with a bound on its steps
-abbrev pub passOf : {S : Type 0} → Machine S → (turns : ℕ) → S → Line → Passed
-passOf machine turns s l = passFrom machine turns s l 0

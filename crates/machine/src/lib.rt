@@ -6,15 +6,17 @@ use state_tables::Made;
 use state_tables::States;
 ghost use mathlib.Core.Path.{_≡_};
 ghost use Prim.Native.Nat.{_<_, _≤_};
+ghost use lib.ListN.{length};
 ghost use Rattle.machine.specs.Stall.{stalled};
 ghost use Rattle.answers.specs.Refuse.{refuse};
 ghost use Rattle.line.specs.Line.{lineOf};
 ghost use Rattle.machine.specs.Head.{hasKind};
-ghost use Rattle.machine.specs.Call.{opened, passTests};
+ghost use Rattle.machine.specs.Call.{opened, isReady, passTests};
 ghost use Rattle.machine.specs.Pass.{isDone};
 ghost use Rattle.laws.specs.Bits.{isSet};
 ghost use Rattle.state_tables.specs.Classes.{classOf};
 ghost use Rattle.machine.specs.Entry.{classHere};
+ghost use Rattle.machine.specs.Work.{glyphAt};
 
 // Whether the next step is at the next place, and how often in a row it was not.
 pub struct Stalled {
@@ -62,6 +64,20 @@ pub fn class_at(bytes: &[u8], states: States, glyph: u16, ends: bool) -> u16
     state_tables::classes::class_of(bytes, states, glyph)
 }
 
+// The glyph of the end call.
+pub const END: u16 = 0xFFFF;
+
+// The glyph that a step at this place is told: the place's own, or the end call's.
+pub fn glyph_at(glyphs: &[u16], used: usize, place: usize) -> u16
+    requires { ⌜ used ≤ length (now glyphs) ⌝ }
+    ensures { λ r. ⌜ r ≡ glyphAt (now (glyphs .entry)) used place ⌝ }
+{
+    if place < used {
+        return glyphs[place];
+    }
+    END
+}
+
 // Whether a morx subtable's head lies in the table and is of this kind.
 pub fn has_kind(bytes: &[u8], kind: u32) -> bool
     ensures { λ r. ⌜ r ≡ hasKind (now (bytes .entry)) kind ⌝ }
@@ -99,6 +115,16 @@ pub fn open(bytes: &[u8], kind: u32) -> Made
     state_tables::extended(parse::from(bytes, 12))
 }
 
+// Whether a head has given a state table.
+pub fn is_ready(made: Made) -> bool
+    ensures { λ r. ⌜ r ≡ isReady made ⌝ }
+{
+    match made {
+        Made::Ready(_) => true,
+        Made::Short => false,
+    }
+}
+
 // The tests before a pass: TABLE, LINE, HEAD.
 pub fn refuse_pass(
     table_length: usize,
@@ -106,9 +132,9 @@ pub fn refuse_pass(
     tags: &[u16],
     homes: &[u16],
     used: usize,
-    made: Made,
+    opens: bool,
 ) -> Check
-    ensures { λ r. ⌜ r ≡ refuse (passTests «table_length» (lineOf (now (glyphs .entry)) (now (tags .entry)) (now (homes .entry)) used) made) ⌝ }
+    ensures { λ r. ⌜ r ≡ refuse (passTests «table_length» (lineOf (now (glyphs .entry)) (now (tags .entry)) (now (homes .entry)) used) opens) ⌝ }
 {
     if let Check::Refused(why) = answers::refuse_table(table_length) {
         return Check::Refused(why);
@@ -116,7 +142,7 @@ pub fn refuse_pass(
     if !line::valid::takes(glyphs, tags, homes, used) {
         return Check::Refused(Refusal::Line);
     }
-    if let Made::Short = made {
+    if !opens {
         return Check::Refused(Refusal::Head);
     }
     Check::Passed

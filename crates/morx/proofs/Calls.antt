@@ -19,10 +19,12 @@ use Rattle.line.specs.Changes.{applyAll}
 use Rattle.line.proofs.Refusals.{refuse-line, refuse-past-line, passed-line}
 use Rattle.line.proofs.Exact.{of-valid}
 use Rattle.machine.specs.Pass as Pass
+use Rattle.machine.specs.Call.{headTest, passTests}
+use Rattle.machine.specs.Machine.{refusedPass, passCall}
 use Rattle.chains.specs.Entries.{startTest}
-use Rattle.morx.specs.Kinds.{kindAt, isOpen, worked}
+use Rattle.morx.specs.Kinds.{kindAt, subtableOfKind, anySubtable}
 use Rattle.morx.specs.Run.{Ran, ran}
-use Rattle.morx.specs.Calls.{openTest, passTests, passCall, runTests, runCall}
+use Rattle.morx.specs.Calls.{runTests, runCall}
 use Rattle.morx.specs.Work.{lineTests}
 use Rattle.morx.specs.declared.Choices.{Choices}
 use Rattle.morx.specs.declared.Kind.{Kind}
@@ -91,30 +93,30 @@ module _ (table : List ℕ) (start : ℕ) (l : Line) where
   bytes = drop start table
 
   abbrev work : Pass.Passed
-  work = worked (kindAt bytes) bytes l
+  work = anySubtable .worked bytes l
 
-  call-refused : {why : Refusal} → refuse (lineTests (length table) l) ≡ Refused why → passCall table start l ≡ record { answer = Answer′.Refused why; changes = [] }
+  call-refused : {why : Refusal} → refuse (lineTests (length table) l) ≡ Refused why → passCall anySubtable table start l ≡ refusedPass why
   unfolding passCall passTests lineTests
-  call-refused e = rw (two-refused (tableTest (length table)) (lineTest l) (openTest (drop start table)) e, passCall)
+  call-refused e = rw (two-refused (tableTest (length table)) (lineTest l) (headTest (anySubtable .isOpen bytes)) e, passCall)
 
-  call-by : (opens : Bool) → isOpen (kindAt bytes) bytes ≡ opens → refuse (lineTests (length table) l) ≡ Passed → passCall table start l ≡ work
-  unfolding passCall passTests lineTests openTest
+  call-by : (opens : Bool) → anySubtable .isOpen bytes ≡ opens → refuse (lineTests (length table) l) ≡ Passed → passCall anySubtable table start l ≡ work
+  unfolding passCall passTests lineTests headTest
   call-by true o e =
       rw (
-        two-passed (tableTest (length table)) (lineTest l) (openTest bytes) e ∙ refuse-later (openTest bytes) [] (ap not o) ∙ refuse-none,
+        two-passed (tableTest (length table)) (lineTest l) (headTest (anySubtable .isOpen bytes)) e ∙ refuse-later (headTest (anySubtable .isOpen bytes)) [] (ap not o) ∙ refuse-none,
         passCall,
       )
   call-by false o e =
-      rw (two-passed (tableTest (length table)) (lineTest l) (openTest bytes) e ∙ refuse-here (openTest bytes) [] (ap not o), passCall)
+      rw (two-passed (tableTest (length table)) (lineTest l) (headTest (anySubtable .isOpen bytes)) e ∙ refuse-here (headTest (anySubtable .isOpen bytes)) [] (ap not o), passCall)
       (sym (closed-refused (kindAt bytes) bytes l o))
 
-  call-taken : refuse (lineTests (length table) l) ≡ Passed → passCall table start l ≡ work
-  call-taken = call-by (isOpen (kindAt bytes) bytes) refl
+  call-taken : refuse (lineTests (length table) l) ≡ Passed → passCall anySubtable table start l ≡ work
+  call-taken = call-by (anySubtable .isOpen bytes) refl
 
 -- a call of the pass
 module _ (table : List ℕ) (start : ℕ) (l : Line) {check : Check} (k : check ≡ refuse (lineTests (length table) l)) where
   pub pass-refused : {why : Refusal} → check ≡ Refused why
-      → Leaves (passCall table start l) l (record { answer = Answer′.Refused why; used = l .used }) (l .glyphs) (l .tags) (l .homes)
+      → Leaves (passCall anySubtable table start l) l (record { answer = Answer′.Refused why; used = l .used }) (l .glyphs) (l .tags) (l .homes)
   unfolding applyAll
   pass-refused {why} e =
       let r = call-refused table start l (sym k ∙ e) in
@@ -124,10 +126,10 @@ module _ (table : List ℕ) (start : ℕ) (l : Line) {check : Check} (k : check 
       }
 
   pub pass-worked : {bytes : List ℕ} {kind : Kind} {reply : PassReply} {glyphs tags homes : List ℕ} → check ≡ Passed → bytes ≡ drop start table → kind ≡ kindAt bytes
-      → Leaves (worked kind bytes l) l reply glyphs tags homes → Leaves (passCall table start l) l reply glyphs tags homes
+      → Leaves (subtableOfKind kind .worked bytes l) l reply glyphs tags homes → Leaves (passCall anySubtable table start l) l reply glyphs tags homes
   pass-worked {bytes} {kind} {reply} {glyphs} {tags} {homes} e b d left =
-      let w : worked kind bytes l ≡ passCall table start l =
-      ap (λ (x : Kind). worked x bytes l) d ∙ ap (λ (x : List ℕ). worked (kindAt x) x l) b ∙ sym (call-taken table start l (sym k ∙ e)) in
+      let w : subtableOfKind kind .worked bytes l ≡ passCall anySubtable table start l =
+      ap (λ (x : Kind). subtableOfKind x .worked bytes l) d ∙ ap (λ (x : List ℕ). anySubtable .worked x l) b ∙ sym (call-taken table start l (sym k ∙ e)) in
       record { answers = left .answers ∙ ap (λ (p : Pass.Passed). p .answer) w; line = left .line ∙ ap (λ (p : Pass.Passed). applyAll (p .changes) l) w }
 
 -- a call of the run

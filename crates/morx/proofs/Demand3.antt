@@ -12,39 +12,37 @@ use Rattle.line.specs.Changes.{applyAll}
 use Rattle.line.specs.Entries.{freshOf, freshTests}
 use Rattle.line.specs.History.{FromLine, FromFresh, Fits, Honest, leftBy, historyBy}
 use Rattle.line.proofs.Demand3.{over-calls, fresh-over-calls, verbs-honest}
-use Rattle.rearrangement.proofs.Honesty as Rearrangement′
+use Rattle.machine.specs.Machine.{callLeaves, stepLeaves}
+use Rattle.machine.proofs.Having.{call-has, step-has}
+use Rattle.machine.proofs.Fitting.{fitting}
+use Rattle.contextual.specs.Calls.{contextual}
 use Rattle.contextual.proofs.Honesty as Contextual′
-use Rattle.noncontextual.proofs.Honesty as NonContextual′
+use Rattle.ligature.specs.Calls.{ligature}
 use Rattle.ligature.proofs.Honesty as Ligature′
-use Rattle.insertion.proofs.Honesty as Insertion′
-use Rattle.morx.specs.Calls.{passLeaves, runLeaves}
+use Rattle.morx.specs.Kinds.{kindAt, subtableOfKind, anySubtable}
+use Rattle.morx.specs.Calls.{runLeaves}
 use Rattle.morx.specs.Sequence.{Call, leaves, makes}
-use Rattle.morx.proofs.Honesty.{pass-fits, run-fits}
+use Rattle.morx.proofs.Machines.{worked-fits}
+use Rattle.morx.proofs.Honesty.{run-fits}
 
 call-made : (call : Call) (l : Line) → Valid l → leaves call l ≡ applyAll (makes call l) l
-unfolding leaves makes passLeaves runLeaves
+unfolding leaves makes callLeaves stepLeaves runLeaves
 call-made (Call.verb c) l v = verbs-honest .made c l v
-call-made (Call.rearrangement c) l v = Rearrangement′.passes-honest .made c l v
-call-made (Call.contextual c) l v = Contextual′.passes-honest .made c l v
-call-made (Call.contextualStep c) l v = Contextual′.steps-honest .made c l v
-call-made (Call.ligature c) l v = Ligature′.passes-honest .made c l v
-call-made (Call.ligatureStep c) l v = Ligature′.steps-honest .made c l v
-call-made (Call.noncontextual c) l v = NonContextual′.passes-honest .made c l v
-call-made (Call.insertion c) l v = Insertion′.passes-honest .made c l v
-call-made (Call.pass table start) l v = refl
+call-made (Call.pass kind table start) l v = refl
+call-made (Call.anyPass table start) l v = refl
+call-made (Call.contextualStep c) l v = refl
+call-made (Call.ligatureStep c) l v = refl
 call-made (Call.run table start choices) l v = refl
 
 call-legal : (call : Call) (l : Line) → Valid l → Fits (makes call l) l
 unfolding makes
 call-legal (Call.verb c) l v = verbs-honest .legal c l v
-call-legal (Call.rearrangement c) l v = Rearrangement′.passes-honest .legal c l v
-call-legal (Call.contextual c) l v = Contextual′.passes-honest .legal c l v
-call-legal (Call.contextualStep c) l v = Contextual′.steps-honest .legal c l v
-call-legal (Call.ligature c) l v = Ligature′.passes-honest .legal c l v
-call-legal (Call.ligatureStep c) l v = Ligature′.steps-honest .legal c l v
-call-legal (Call.noncontextual c) l v = NonContextual′.passes-honest .legal c l v
-call-legal (Call.insertion c) l v = Insertion′.passes-honest .legal c l v
-call-legal (Call.pass table start) l v = pass-fits table start l v
+call-legal (Call.pass kind table start) l v = call-has Valid Fits fitting (subtableOfKind kind) (worked-fits kind) table start l v
+call-legal (Call.anyPass table start) l v = call-has Valid Fits fitting anySubtable (λ bytes k u. worked-fits (kindAt bytes) bytes k u) table start l v
+call-legal (Call.contextualStep c) l v =
+    step-has Valid Fits fitting contextual Contextual′.step-fits (c .table) (c .start) (c .state) l (c .index) (c .glyph) (c .ends) v
+call-legal (Call.ligatureStep c) l v =
+    step-has Valid Fits fitting ligature Ligature′.step-fits (c .table) (c .start) (c .state) l (c .index) (c .glyph) (c .ends) v
 call-legal (Call.run table start choices) l v = run-fits table start choices l v
 
 pub calls-honest : Honest leaves makes

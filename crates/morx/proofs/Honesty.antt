@@ -1,40 +1,28 @@
--- What passes and runs add to the history: on every valid line their changes are legal.
+-- What runs add to the history: on every valid line their changes are legal.
 use Prim.Native.Nat.{ℕ, zero, suc}
 use mathlib.Core.Path.{_≡_, refl, subst⁻¹}
 use mathlib.Core.Bool.{Bool, true, false}
 use mathlib.Core.List.{List, [], _∷_}
-use lib.ListN.{length, drop}
+use lib.ListN.{length}
 use Rattle.answers.specs.Refuse.{refuse}
-use Rattle.answers.specs.declared.Check.{Check}
-use Rattle.answers.specs.declared.Check.the-variants as Check′
 use Rattle.line.specs.Line.{Line, Valid}
 use Rattle.line.specs.Changes.{Change, applyAll}
 use Rattle.line.specs.History.{Fits}
-use Rattle.machine.specs.Pass.{Passed, isDone}
-use Rattle.machine.specs.Call.{refusedCall}
+use Rattle.machine.specs.Pass.{isDone}
+use Rattle.machine.proofs.Having.{if-passed}
 use Rattle.machine.proofs.Quiet.{quiet-none, quiet-fits}
 use Rattle.chains.specs.Walk.{walkOf}
 use Rattle.chains.specs.declared.Head.{Head}
 use Rattle.answers.specs.Limits.{headLimit}
-use Rattle.morx.specs.Kinds.{kindAt, worked}
 use Rattle.morx.specs.Run.{visit, visitLeaves, flagsAfter, Ran, runOver, ran}
-use Rattle.morx.specs.Calls.{passTests, passCall, runTests, refusedRun, runCall}
+use Rattle.morx.specs.Calls.{runTests, runCall}
 use Rattle.morx.specs.declared.Choices.{Choices}
 use Rattle.morx.proofs.Leaves.{valid-after, fits-then}
-use Rattle.morx.proofs.Machines.{worked-fits}
 use Rattle.morx.proofs.Visits.{visit-fits}
 use Rattle.morx.proofs.Runs.{run-none, run-limit, run-stops, run-goes}
 
 none-fits : (l : Line) → Valid l → Fits [] l
 none-fits l v = quiet-fits [] l v quiet-none
-
-pub pass-fits : (table : List ℕ) (start : ℕ) (l : Line) → Valid l → Fits (passCall table start l .changes) l
-unfolding passCall
-pass-fits table start l v = go (refuse (passTests (length table) l (drop start table)))
-  where
-    go : (check : Check) → Fits (refusedCall check (worked (kindAt (drop start table)) (drop start table) l) .changes) l
-    go (Check′.Refused why) = none-fits l v
-    go Check′.Passed = worked-fits (kindAt (drop start table)) (drop start table) l v
 
 module _ (table : List ℕ) (choices : Choices) where
   over-fits : (left flags : ℕ) (heads : List Head) (l : Line) → Valid l → Fits (runOver table choices left flags heads l .changes) l
@@ -57,8 +45,6 @@ module _ (table : List ℕ) (choices : Choices) where
 
 pub run-fits : (table : List ℕ) (start : ℕ) (choices : Choices) (l : Line) → Valid l → Fits (runCall table start choices l .changes) l
 unfolding runCall ran
-run-fits table start choices l v = go (refuse (runTests (length table) start l))
-  where
-    go : (check : Check) → Fits (refusedRun check (ran table start choices l) .changes) l
-    go (Check′.Refused why) = none-fits l v
-    go Check′.Passed = over-fits table choices headLimit 0 (walkOf table start) l v
+run-fits table start choices l v =
+    if-passed (λ (r : Ran). Fits (r .changes) l) _ (λ why. none-fits l v) (refuse (runTests (length table) start l)) (ran table start choices l)
+    (over-fits table choices headLimit 0 (walkOf table start) l v)

@@ -1,19 +1,15 @@
 -- Changes that leave a part of the line as it is: of the slices that a machine is not lent to be written, and of the used length.
-use Prim.Native.Nat.{ℕ, zero, suc, _+_, _<_, _≤_}
-use mathlib.Core.Path.{_≡_, refl, sym, _∙_, ap, subst⁻¹}
-use mathlib.Core.Bool.{Bool, true, false}
+use Prim.Native.Nat.{ℕ, _≤_}
+use mathlib.Core.Path.{_≡_, refl, _∙_, ap}
+use mathlib.Core.Bool.{Bool}
 use mathlib.Core.List.{List, [], _∷_, _++_}
-use mathlib.Core.Logic.{⊎-elim}
-use Rattle.laws.proofs.Numbers.{lt-or-ge}
+use native.Mathlib.Omega.{arith}
 use Rattle.line.specs.Line.{Line}
 use Rattle.line.specs.Changes.{Change, apply, applyAll}
 use Rattle.line.proofs.Histories.{applyAll-append}
 use Rattle.state_tables.specs.declared.States.{States}
-use Rattle.state_tables.specs.declared.Made.{Made}
-use Rattle.state_tables.specs.declared.Made.the-variants as Made′
-use Rattle.machine.specs.Pass.{Stepped, Machine, Passed, deleted, after, isDone, stepAt, endCall, passFrom, passOf}
-use Rattle.machine.specs.Call.{onMade}
-use Rattle.machine.proofs.Passing.{turn-goes, turn-stops, turn-ends}
+use Rattle.machine.specs.Machine.{Subtable, callLeaves, Machine, subtableOf, stepLeaves, StepCall}
+use Rattle.machine.proofs.Having.{Closed, call-has, worked-has, step-has}
 
 module _ {X : Type 0} (part : Line → X) where
   abbrev pub Kept : List Change → Type 0
@@ -34,30 +30,37 @@ module _ {X : Type 0} (part : Line → X) where
   pub kept-append : (cs ds : List Change) → Kept cs → Kept ds → Kept (cs ++ ds)
   kept-append cs ds p q l = ap part (applyAll-append cs ds l) ∙ q (applyAll cs l) ∙ p l
 
-  -- a pass keeps what each of its steps does
-  module _ {S : Type 0} (machine : Machine S) (kept : (s : S) (l : Line) (i g : ℕ) (e : Bool) → Kept (machine s l i g e .changes)) where
-    pub kept-pass : (turns : ℕ) (s : S) (l : Line) (i : ℕ) → Kept (passFrom machine turns s l i .changes)
-    unfolding passFrom
-    kept-pass zero s l i = kept-none
-    kept-pass (suc turns) s l i =
-        let then = kept-pass turns (stepAt machine s l i .state) (applyAll (stepAt machine s l i .changes) l) (i + stepAt machine s l i .advance) in
-        ⊎-elim
-        (λ (h : i < l .used). go h then (isDone (stepAt machine s l i .answer)) refl)
-        (λ (h : l .used ≤ i). subst⁻¹ (λ (w : Passed). Kept (w .changes)) (turn-ends machine turns s l i h) (kept s l (l .used) deleted true))
-        (lt-or-ge i (l .used))
-      where
-        go : i < l .used
-            → Kept (passFrom machine turns (stepAt machine s l i .state) (applyAll (stepAt machine s l i .changes) l) (i + stepAt machine s l i .advance) .changes)
-            → (t : Bool) → isDone (stepAt machine s l i .answer) ≡ t → Kept (passFrom machine (suc turns) s l i .changes)
-        go h f true e = subst⁻¹ (λ (w : Passed). Kept (w .changes)) (turn-goes machine turns s l i h e) (kept-append _ _ (kept s l i _ false) f)
-        go h f false e = subst⁻¹ (λ (w : Passed). Kept (w .changes)) (turn-stops machine turns s l i h e) (kept s l i _ false)
+  -- so what every step of a machine keeps, its passes keep, and calls of both
+  abbrev pub Has : List Change → Line → Type 0
+  Has changes l = part (applyAll changes l) ≡ part l
 
-  pub kept-made : (made : Made) (work : States → Passed) → ((states : States) → Kept (work states .changes)) → Kept (onMade made work .changes)
-  kept-made (Made′.Ready states) work kept = kept states
-  kept-made Made′.Short work kept = kept-none
+  -- on any line
+  abbrev Any : Line → Type 0
+  Any l = 0 ≤ 0
 
-  -- so the pass of a machine on a state table, where there is one
-  pub kept-machine : {S : Type 0} (made : Made) (machine : States → Machine S) (turns : ℕ) (fresh : S) (l : Line)
-      → ((states : States) (s : S) (k : Line) (i g : ℕ) (e : Bool) → Kept (machine states s k i g e .changes))
-      → Kept (onMade made (λ states. passOf (machine states) turns fresh l) .changes)
-  kept-machine made machine turns fresh l kept = kept-made made _ (λ states. kept-pass (machine states) (kept states) turns fresh l 0)
+  closed : Closed Any Has
+  closed =
+      record {
+        none = λ l any. kept-none l;
+        both = λ cs ds l any p q. ap part (applyAll-append cs ds l) ∙ q ∙ p;
+        kept = λ cs l any p. omega arith;
+      }
+
+  pub call-keeps : (subtable : Subtable) → ((bytes : List ℕ) (l : Line) → Has (subtable .worked bytes l .changes) l) → (table : List ℕ) (start : ℕ) (l : Line)
+      → part (callLeaves subtable table start l) ≡ part l
+  unfolding callLeaves
+  call-keeps subtable kept table start l = call-has Any Has closed subtable (λ bytes k any. kept bytes k) table start l (omega arith)
+
+  module _ {S : Type 0} (machine : Machine S)
+      (kept : (classes : ℕ → ℕ) (bytes : List ℕ) (states : States) (s : S) (l : Line) (i g : ℕ) (e : Bool)
+      → Kept (machine .step classes bytes states s l i g e .changes)) where
+    steps-keep : (classes : ℕ → ℕ) (bytes : List ℕ) (states : States) (s : S) (l : Line) (i g : ℕ) (e : Bool) → Any l
+        → Has (machine .step classes bytes states s l i g e .changes) l
+    steps-keep classes bytes states s l i g e any = kept classes bytes states s l i g e l
+
+    pub pass-keeps : (bytes : List ℕ) (l : Line) → Has (subtableOf machine .worked bytes l .changes) l
+    pass-keeps bytes l = worked-has Any Has closed machine steps-keep bytes l (omega arith)
+
+    pub step-keeps : (c : StepCall S) (l : Line) → part (stepLeaves machine (c .table) (c .start) (c .state) l (c .index) (c .glyph) (c .ends)) ≡ part l
+    unfolding stepLeaves
+    step-keeps c l = step-has Any Has closed machine steps-keep (c .table) (c .start) (c .state) l (c .index) (c .glyph) (c .ends) (omega arith)

@@ -5,7 +5,6 @@ use mathlib.Core.Bool.{Bool, true, false, not, cond}
 use mathlib.Core.List.{List, [], _∷_}
 use native.Mathlib.Omega.{arith}
 use lib.ListN.{length, getD, drop}
-use Rattle.answers.specs.Limits.{roomLimit}
 use Rattle.answers.specs.declared.Answer.{Answer}
 use Rattle.answers.specs.declared.Answer.the-variants as Answer′
 use Rattle.answers.specs.declared.Refusal.the-variants as Refusal′
@@ -16,41 +15,37 @@ use Rattle.parse.specs.declared.ReadPart.the-variants as Part
 use Rattle.parse.specs.declared.ReadU32.{ReadU32}
 use Rattle.parse.specs.declared.ReadU32.the-variants as U32
 use Rattle.parse.proofs.Laws.{part-short, part-inside, inside-fits, readU32-got}
-use Rattle.state_tables.specs.Classes.{classOf}
 use Rattle.state_tables.specs.declared.States.{States}
-use Rattle.state_tables.specs.declared.Made.{Made}
 use Rattle.line.specs.Line.{Line, lineOf, Valid}
 use Rattle.line.specs.Changes.{Change, apply, applyAll}
 use Rattle.line.specs.History.{Fits}
 use Rattle.machine.specs.Head.{hasKind, bodyOf}
 use Rattle.machine.specs.Pass.{Passed}
-use Rattle.machine.specs.Call as Call′
+use Rattle.machine.specs.Machine.{refusedPass, subtableOf, stepLeaves, StepCall}
+use Rattle.machine.specs.Work.{workLeaves}
 use Rattle.machine.proofs.Quiet.{Quiet, quiet-none, quiet-fits}
+use Rattle.machine.proofs.Having.{worked-has}
+use Rattle.machine.proofs.Fitting.{fitting}
 use Rattle.rearrangement.specs.Rearrangement as R
-use Rattle.rearrangement.specs.Work as RW
-use Rattle.rearrangement.specs.declared.RearrangementState.{RearrangementState}
+use Rattle.rearrangement.specs.Calls.{rearrangement}
 use Rattle.rearrangement.specs.declared.Window.{Window}
 use Rattle.rearrangement.specs.declared.Window.the-variants as Window′
 use Rattle.rearrangement.proofs.Honesty as RH
 use Rattle.contextual.specs.Substitutes as S
 use Rattle.contextual.specs.Contextual as C
-use Rattle.contextual.specs.Calls as CC
-use Rattle.contextual.specs.Work as CW
+use Rattle.contextual.specs.Calls.{contextual}
 use Rattle.contextual.specs.declared.ContextualState.{ContextualState}
 use Rattle.contextual.proofs.Honesty as CH
 use Rattle.noncontextual.specs.NonContextual as N
-use Rattle.noncontextual.specs.Work as NW
+use Rattle.noncontextual.specs.NonContextual.{noncontextual}
 use Rattle.noncontextual.proofs.Honesty as NH
 use Rattle.ligature.specs.Ligature as L
-use Rattle.ligature.specs.Calls as LC
-use Rattle.ligature.specs.Work as LW
+use Rattle.ligature.specs.Calls.{ligature}
 use Rattle.ligature.specs.declared.LigatureState.{LigatureState}
 use Rattle.ligature.proofs.Honesty as LH
 use Rattle.insertion.specs.Lists as IL
 use Rattle.insertion.specs.Insertion as IM
-use Rattle.insertion.specs.Calls as I
-use Rattle.insertion.specs.Work as IW
-use Rattle.insertion.specs.declared.InsertionState.{InsertionState}
+use Rattle.insertion.specs.Calls.{insertion}
 use Rattle.insertion.specs.declared.InsertionStep.{InsertionStep}
 use Rattle.insertion.specs.declared.Inserted.{Inserted}
 use Rattle.insertion.specs.declared.Inserted.the-variants as Inserted′
@@ -58,12 +53,12 @@ use Rattle.insertion.proofs.Honesty as IH
 use Rattle.tables.specs.Lookup.{lookupAt}
 use Rattle.tables.specs.declared.lookup.Found.{Found}
 use Rattle.tables.specs.declared.lookup.Found.the-variants as Found′
-use Rattle.morx.specs.Kinds.{kindOf, kindAt, worked}
-use Rattle.morx.specs.Work.{workLeaves, passReplyOf}
+use Rattle.morx.specs.Kinds.{kindOf, kindAt, subtableOfKind}
+use Rattle.morx.specs.Work.{passReplyOf}
 use Rattle.morx.specs.declared.Kind.{Kind}
 use Rattle.morx.specs.declared.Kind.the-variants.{Rearrangement, Contextual, Ligature, NonContextual, Insertion, LeftOut}
 use Rattle.morx.specs.declared.PassReply.{PassReply}
-use Rattle.morx.proofs.Kept.{Kept, kept-none, kept-one, kept-more, kept-append, kept-machine}
+use Rattle.morx.proofs.Kept.{Kept, Has, kept-none, kept-one, kept-more, kept-append, pass-keeps, step-keeps}
 use Rattle.morx.proofs.Leaves.{Leaves, valid-line}
 
 -- what a machine leaves, field by field, is the line that its changes make
@@ -78,15 +73,8 @@ module _ {X : Type 0} (part : Line → X) (kept : (first last verb : ℕ) (l : L
   kept-window Window′.None = kept-none part
   kept-window (Window′.At first last verb) = kept-one part (Change.window first last verb) (kept first last verb)
 
-  rearrangement-step : (classes : ℕ → ℕ) (bytes : List ℕ) (states : States) (s : RearrangementState) (k : Line) (i g : ℕ) (e : Bool) → Kept part (R.machine classes bytes states s k i g e .changes)
-  unfolding R.machine
-  rearrangement-step classes bytes states s k i g e = kept-window (R.next classes bytes states s i g e .edit)
-
-  pub kept-rearrangement : (bytes : List ℕ) (l : Line) → Kept part (R.worked bytes l .changes)
-  unfolding R.worked R.passed R.passedBy
-  kept-rearrangement bytes l =
-      kept-machine part (Call′.opened bytes 0) (λ states. R.machine (classOf (bodyOf bytes) states) (bodyOf bytes) states) (R.rest R.fresh l 0) R.fresh l
-      (λ states. rearrangement-step (classOf (bodyOf bytes) states) (bodyOf bytes) states)
+  pub kept-rearrangement : (bytes : List ℕ) (l : Line) → Has part (subtableOf rearrangement .worked bytes l .changes) l
+  kept-rearrangement = pass-keeps part rearrangement (λ classes bytes states s k i g e. kept-window (R.next classes bytes states s i g e .edit))
 
 pub window-homes : (first last verb : ℕ) (l : Line) → apply (Change.window first last verb) l .homes ≡ l .homes
 unfolding apply
@@ -117,15 +105,16 @@ module _ {X : Type 0} (part : Line → X) (kept : (at glyph : ℕ) (l : Line) �
   kept-writes [] = kept-none part
   kept-writes (w ∷ ws) = kept-more part (Change.write (w .at) (w .glyph)) (S.changesOf ws) (kept (w .at) (w .glyph)) (kept-writes ws)
 
-  pub contextual-step : (classes : ℕ → ℕ) (bytes : List ℕ) (states : States) (s : ContextualState) (k : Line) (i g : ℕ) (e : Bool) → Kept part (C.machine classes bytes states s k i g e .changes)
-  unfolding C.machine
+  contextual-step : (classes : ℕ → ℕ) (bytes : List ℕ) (states : States) (s : ContextualState) (k : Line) (i g : ℕ) (e : Bool)
+      → Kept part (contextual .step classes bytes states s k i g e .changes)
   contextual-step classes bytes states s k i g e = kept-writes (C.next classes bytes states s i g e .writes)
 
-  pub kept-contextual : (bytes : List ℕ) (l : Line) → Kept part (CC.worked bytes l .changes)
-  unfolding CC.worked C.passed C.passedBy
-  kept-contextual bytes l =
-      kept-machine part (CC.opened bytes) (λ states. C.machine (classOf (bodyOf bytes) states) (bodyOf bytes) states) (C.rest C.fresh l 0) C.fresh l
-      (λ states. contextual-step (classOf (bodyOf bytes) states) (bodyOf bytes) states)
+  pub kept-contextual : (bytes : List ℕ) (l : Line) → Has part (subtableOf contextual .worked bytes l .changes) l
+  kept-contextual = pass-keeps part contextual contextual-step
+
+  pub kept-contextual-step : (c : StepCall ContextualState) (l : Line)
+      → part (stepLeaves contextual (c .table) (c .start) (c .state) l (c .index) (c .glyph) (c .ends)) ≡ part l
+  kept-contextual-step = step-keeps part contextual contextual-step
 
   -- and so does the non-contextual pass
   kept-found : (place : ℕ) (found : Found) → Kept part (N.writesOf place found)
@@ -138,13 +127,13 @@ module _ {X : Type 0} (part : Line → X) (kept : (at glyph : ℕ) (l : Line) �
   kept-below body glyphs (suc n) =
       kept-append part (N.writesBelow body glyphs n) (N.writesOf n (lookupAt body (getD glyphs n 0))) (kept-below body glyphs n) (kept-found n (lookupAt body (getD glyphs n 0)))
 
-  pub kept-noncontextual : (bytes : List ℕ) (l : Line) → Kept part (N.worked bytes l .changes)
-  unfolding N.worked N.passed
+  pub kept-noncontextual : (bytes : List ℕ) (l : Line) → Has part (noncontextual .worked bytes l .changes) l
+  unfolding N.passed
   kept-noncontextual bytes l = go (hasKind bytes 4)
     where
-      go : (t : Bool) → Kept part (cond t (N.passed (bodyOf bytes) l) (record { answer = Answer′.Refused Refusal′.Head; changes = [] }) .changes)
-      go true = kept-below (bodyOf bytes) (l .glyphs) (l .used)
-      go false = kept-none part
+      go : (t : Bool) → Has part (cond t (N.passed (bodyOf bytes) l) (refusedPass Refusal′.Head) .changes) l
+      go true = kept-below (bodyOf bytes) (l .glyphs) (l .used) l
+      go false = kept-none part l
 
 -- ligatures leave the tags and the used length
 module _ (at glyph : ℕ) (parts : List ℕ) (l : Line) where
@@ -163,15 +152,16 @@ module _ {X : Type 0} (part : Line → X) (kept : (at glyph : ℕ) (parts : List
   kept-ligations (m ∷ made) =
       kept-more part (Change.ligature (m .at) (m .glyph) (m .parts)) (L.changesOf made) (kept (m .at) (m .glyph) (m .parts)) (kept-ligations made)
 
-  pub ligature-step : (classes : ℕ → ℕ) (bytes : List ℕ) (states : States) (s : LigatureState) (k : Line) (i g : ℕ) (e : Bool) → Kept part (L.machine classes bytes states s k i g e .changes)
-  unfolding L.machine
+  ligature-step : (classes : ℕ → ℕ) (bytes : List ℕ) (states : States) (s : LigatureState) (k : Line) (i g : ℕ) (e : Bool)
+      → Kept part (ligature .step classes bytes states s k i g e .changes)
   ligature-step classes bytes states s k i g e = kept-ligations (L.next classes bytes states (s .state) (L.stackIn s) i g e .made)
 
-  pub kept-ligature : (bytes : List ℕ) (l : Line) → Kept part (LC.worked bytes l .changes)
-  unfolding LC.worked L.passed L.passedBy
-  kept-ligature bytes l =
-      kept-machine part (LC.opened bytes) (λ states. L.machine (classOf (bodyOf bytes) states) (bodyOf bytes) states) (L.rest L.fresh l 0) L.fresh l
-      (λ states. ligature-step (classOf (bodyOf bytes) states) (bodyOf bytes) states)
+  pub kept-ligature : (bytes : List ℕ) (l : Line) → Has part (subtableOf ligature .worked bytes l .changes) l
+  kept-ligature = pass-keeps part ligature ligature-step
+
+  pub kept-ligature-step : (c : StepCall LigatureState) (l : Line)
+      → part (stepLeaves ligature (c .table) (c .start) (c .state) l (c .index) (c .glyph) (c .ends)) ≡ part l
+  kept-ligature-step = step-keeps part ligature ligature-step
 
 -- insertions leave the homes
 pub insertion-homes : (at : ℕ) (new : List ℕ) (l : Line) → apply (Change.insertion at new) l .homes ≡ l .homes
@@ -183,20 +173,15 @@ module _ {X : Type 0} (part : Line → X) (kept : (at : ℕ) (new : List ℕ) (l
   kept-inserted bytes Inserted′.None = kept-none part
   kept-inserted bytes (Inserted′.At place count glyphs) = kept-one part (Change.insertion place (IL.glyphsAt bytes glyphs count)) (kept place (IL.glyphsAt bytes glyphs count))
 
-  insertion-step : (classes : ℕ → ℕ) (bytes : List ℕ) (states : States) (s : InsertionState) (k : Line) (i g : ℕ) (e : Bool) → Kept part (IM.machine classes bytes states s k i g e .changes)
-  unfolding IM.machine
-  insertion-step classes bytes states s k i g e =
+  pub kept-insertion : (bytes : List ℕ) (l : Line) → Has part (subtableOf insertion .worked bytes l .changes) l
+  kept-insertion =
+      pass-keeps part insertion
+      (λ classes bytes states s k i g e.
       let step : InsertionStep = IM.next classes bytes states s (k .used) (length (k .glyphs)) i g e in
-      kept-append part (IL.changesOf bytes (step .marked)) (IL.changesOf bytes (step .current)) (kept-inserted bytes (step .marked)) (kept-inserted bytes (step .current))
-
-  pub kept-insertion : (bytes : List ℕ) (l : Line) → Kept part (I.worked bytes l .changes)
-  unfolding I.worked IM.passed IM.passedBy
-  kept-insertion bytes l =
-      kept-machine part (I.opened bytes) (λ states. IM.machine (classOf (bodyOf bytes) states) (bodyOf bytes) states) (IM.rest IM.fresh l 0) IM.fresh l
-      (λ states. insertion-step (classOf (bodyOf bytes) states) (bodyOf bytes) states)
+      kept-append part (IL.changesOf bytes (step .marked)) (IL.changesOf bytes (step .current)) (kept-inserted bytes (step .marked)) (kept-inserted bytes (step .current)))
 
 -- what is refused leaves the line as it is
-headless : (l : Line) → Leaves (record { answer = Answer′.Refused Refusal′.Head; changes = [] }) l (record { answer = Answer′.Refused Refusal′.Head; used = l .used }) (l .glyphs) (l .tags) (l .homes)
+headless : (l : Line) → Leaves (refusedPass Refusal′.Head) l (record { answer = Answer′.Refused Refusal′.Head; used = l .used }) (l .glyphs) (l .tags) (l .homes)
 unfolding applyAll
 headless l = record { answers = refl; line = refl }
 
@@ -205,73 +190,73 @@ module _ (kind : Kind) (bytes glyphs tags homes : List ℕ) (used : ℕ) where
   abbrev line : Line
   line = lineOf glyphs tags homes used
 
-  as-kind : {k : Kind} {reply : PassReply} {glyphs′ tags′ homes′ : List ℕ} → kind ≡ k → Leaves (worked k bytes line) line reply glyphs′ tags′ homes′
-      → Leaves (worked kind bytes line) line reply glyphs′ tags′ homes′
-  as-kind {k} {reply} {glyphs′} {tags′} {homes′} e left = subst⁻¹ (λ (x : Kind). Leaves (worked x bytes line) line reply glyphs′ tags′ homes′) e left
+  abbrev LeavesBy : Kind → PassReply → (glyphs tags homes : List ℕ) → Type 0
+  LeavesBy k reply glyphs′ tags′ homes′ = Leaves (subtableOfKind k .worked bytes line) line reply glyphs′ tags′ homes′
 
-  pub by-rearrangement : {answer : Answer} {glyphs′ tags′ : List ℕ} → kind ≡ Rearrangement → answer ≡ R.worked bytes line .answer
-      → glyphs′ ≡ RW.workLeaves bytes line .glyphs → tags′ ≡ RW.workLeaves bytes line .tags
-      → Leaves (worked kind bytes line) line (record { answer = answer; used = used }) glyphs′ tags′ homes
-  unfolding worked RW.workLeaves
+  as-kind : {k : Kind} {reply : PassReply} {glyphs′ tags′ homes′ : List ℕ} → kind ≡ k → LeavesBy k reply glyphs′ tags′ homes′ → LeavesBy kind reply glyphs′ tags′ homes′
+  as-kind {k} {reply} {glyphs′} {tags′} {homes′} e left = subst⁻¹ (λ (x : Kind). LeavesBy x reply glyphs′ tags′ homes′) e left
+
+  pub by-rearrangement : {answer : Answer} {glyphs′ tags′ : List ℕ} → kind ≡ Rearrangement → answer ≡ subtableOf rearrangement .worked bytes line .answer
+      → glyphs′ ≡ workLeaves (subtableOf rearrangement) bytes line .glyphs → tags′ ≡ workLeaves (subtableOf rearrangement) bytes line .tags
+      → LeavesBy kind (record { answer = answer; used = used }) glyphs′ tags′ homes
+  unfolding subtableOfKind workLeaves
   by-rearrangement e a g t =
       as-kind e
-      (by-fields (R.worked bytes line) line a g t
-      (sym (kept-rearrangement (λ (x : Line). x .homes) window-homes bytes line line))
-      (sym (kept-rearrangement (λ (x : Line). x .used) window-used bytes line line)))
+      (by-fields (subtableOf rearrangement .worked bytes line) line a g t
+      (sym (kept-rearrangement (λ (x : Line). x .homes) window-homes bytes line))
+      (sym (kept-rearrangement (λ (x : Line). x .used) window-used bytes line)))
 
-  pub by-contextual : {answer : Answer} {glyphs′ : List ℕ} → kind ≡ Contextual → answer ≡ CC.worked bytes line .answer
-      → glyphs′ ≡ CW.workLeaves bytes line .glyphs
-      → Leaves (worked kind bytes line) line (record { answer = answer; used = used }) glyphs′ tags homes
-  unfolding worked CW.workLeaves
+  pub by-contextual : {answer : Answer} {glyphs′ : List ℕ} → kind ≡ Contextual → answer ≡ subtableOf contextual .worked bytes line .answer
+      → glyphs′ ≡ workLeaves (subtableOf contextual) bytes line .glyphs → LeavesBy kind (record { answer = answer; used = used }) glyphs′ tags homes
+  unfolding subtableOfKind workLeaves
   by-contextual e a g =
       as-kind e
-      (by-fields (CC.worked bytes line) line a g
-      (sym (kept-contextual (λ (x : Line). x .tags) write-tags bytes line line))
-      (sym (kept-contextual (λ (x : Line). x .homes) write-homes bytes line line))
-      (sym (kept-contextual (λ (x : Line). x .used) write-used bytes line line)))
+      (by-fields (subtableOf contextual .worked bytes line) line a g
+      (sym (kept-contextual (λ (x : Line). x .tags) write-tags bytes line))
+      (sym (kept-contextual (λ (x : Line). x .homes) write-homes bytes line))
+      (sym (kept-contextual (λ (x : Line). x .used) write-used bytes line)))
 
-  pub by-noncontextual : {answer : Answer} {glyphs′ : List ℕ} → kind ≡ NonContextual → answer ≡ N.worked bytes line .answer
-      → glyphs′ ≡ NW.workLeaves bytes line .glyphs
-      → Leaves (worked kind bytes line) line (record { answer = answer; used = used }) glyphs′ tags homes
-  unfolding worked NW.workLeaves
+  pub by-noncontextual : {answer : Answer} {glyphs′ : List ℕ} → kind ≡ NonContextual → answer ≡ noncontextual .worked bytes line .answer
+      → glyphs′ ≡ workLeaves noncontextual bytes line .glyphs → LeavesBy kind (record { answer = answer; used = used }) glyphs′ tags homes
+  unfolding subtableOfKind workLeaves
   by-noncontextual e a g =
       as-kind e
-      (by-fields (N.worked bytes line) line a g
-      (sym (kept-noncontextual (λ (x : Line). x .tags) write-tags bytes line line))
-      (sym (kept-noncontextual (λ (x : Line). x .homes) write-homes bytes line line))
-      (sym (kept-noncontextual (λ (x : Line). x .used) write-used bytes line line)))
+      (by-fields (noncontextual .worked bytes line) line a g
+      (sym (kept-noncontextual (λ (x : Line). x .tags) write-tags bytes line))
+      (sym (kept-noncontextual (λ (x : Line). x .homes) write-homes bytes line))
+      (sym (kept-noncontextual (λ (x : Line). x .used) write-used bytes line)))
 
-  pub by-none : kind ≡ LeftOut
-      → Leaves (worked kind bytes line) line (record { answer = Answer′.Refused Refusal′.Head; used = used }) glyphs tags homes
-  unfolding worked
+  pub by-none : kind ≡ LeftOut → LeavesBy kind (record { answer = Answer′.Refused Refusal′.Head; used = used }) glyphs tags homes
+  unfolding subtableOfKind
   by-none e = as-kind e (headless line)
 
-  pub by-ligature : {answer : Answer} {glyphs′ homes′ : List ℕ} → kind ≡ Ligature → answer ≡ LC.worked bytes line .answer
-      → glyphs′ ≡ LW.workLeaves bytes line .glyphs → homes′ ≡ LW.workLeaves bytes line .homes
-      → Leaves (worked kind bytes line) line (record { answer = answer; used = used }) glyphs′ tags homes′
-  unfolding worked LW.workLeaves
+  pub by-ligature : {answer : Answer} {glyphs′ homes′ : List ℕ} → kind ≡ Ligature → answer ≡ subtableOf ligature .worked bytes line .answer
+      → glyphs′ ≡ workLeaves (subtableOf ligature) bytes line .glyphs → homes′ ≡ workLeaves (subtableOf ligature) bytes line .homes
+      → LeavesBy kind (record { answer = answer; used = used }) glyphs′ tags homes′
+  unfolding subtableOfKind workLeaves
   by-ligature e a g h =
       as-kind e
-      (by-fields (LC.worked bytes line) line a g
-      (sym (kept-ligature (λ (x : Line). x .tags) ligature-tags bytes line line))
+      (by-fields (subtableOf ligature .worked bytes line) line a g
+      (sym (kept-ligature (λ (x : Line). x .tags) ligature-tags bytes line))
       h
-      (sym (kept-ligature (λ (x : Line). x .used) ligature-used bytes line line)))
+      (sym (kept-ligature (λ (x : Line). x .used) ligature-used bytes line)))
 
-  pub by-insertion : {answer : Answer} {used′ : ℕ} {glyphs′ tags′ : List ℕ} → kind ≡ Insertion → answer ≡ I.worked bytes line .answer
-      → used′ ≡ IW.workLeaves bytes line .used → glyphs′ ≡ IW.workLeaves bytes line .glyphs → tags′ ≡ IW.workLeaves bytes line .tags
-      → Leaves (worked kind bytes line) line (record { answer = answer; used = used′ }) glyphs′ tags′ homes
-  unfolding worked IW.workLeaves
+  pub by-insertion : {answer : Answer} {used′ : ℕ} {glyphs′ tags′ : List ℕ} → kind ≡ Insertion → answer ≡ subtableOf insertion .worked bytes line .answer
+      → used′ ≡ workLeaves (subtableOf insertion) bytes line .used → glyphs′ ≡ workLeaves (subtableOf insertion) bytes line .glyphs
+      → tags′ ≡ workLeaves (subtableOf insertion) bytes line .tags → LeavesBy kind (record { answer = answer; used = used′ }) glyphs′ tags′ homes
+  unfolding subtableOfKind workLeaves
   by-insertion e a u g t =
-      as-kind e (by-fields (I.worked bytes line) line a g t (sym (kept-insertion (λ (x : Line). x .homes) insertion-homes bytes line line)) u)
+      as-kind e
+      (by-fields (subtableOf insertion .worked bytes line) line a g t (sym (kept-insertion (λ (x : Line). x .homes) insertion-homes bytes line)) u)
 
 -- the changes of each kind fit
-pub worked-fits : (kind : Kind) (bytes : List ℕ) (l : Line) → Valid l → Fits (worked kind bytes l .changes) l
-unfolding worked
-worked-fits Rearrangement bytes l v = quiet-fits _ l v (RH.quiet-worked bytes l)
-worked-fits Contextual bytes l v = quiet-fits _ l v (CH.quiet-worked bytes l)
-worked-fits Ligature bytes l v = quiet-fits _ l v (LH.quiet-worked bytes l)
-worked-fits NonContextual bytes l v = quiet-fits _ l v (NH.quiet-worked bytes l)
-worked-fits Insertion bytes l v = IH.worked-fits bytes l v
+pub worked-fits : (kind : Kind) (bytes : List ℕ) (l : Line) → Valid l → Fits (subtableOfKind kind .worked bytes l .changes) l
+unfolding subtableOfKind
+worked-fits Rearrangement bytes l v = worked-has Valid Fits fitting rearrangement RH.step-fits bytes l v
+worked-fits Contextual bytes l v = worked-has Valid Fits fitting contextual CH.step-fits bytes l v
+worked-fits Ligature bytes l v = worked-has Valid Fits fitting ligature LH.step-fits bytes l v
+worked-fits NonContextual bytes l v = NH.worked-fits bytes l v
+worked-fits Insertion bytes l v = worked-has Valid Fits fitting insertion IH.step-fits bytes l v
 worked-fits LeftOut bytes l v = quiet-fits [] l v quiet-none
 
 -- the kind of the subtable that the bytes begin with, from what the code has read

@@ -20,9 +20,9 @@ use Rattle.chains.specs.Orders.{isReversed}
 use Rattle.chains.specs.declared.Subtable.{Subtable}
 use Rattle.chains.specs.declared.Head.{Head}
 use Rattle.chains.specs.declared.Head.the-variants as Head′
-use Rattle.morx.specs.Kinds.{kindOf, worked}
+use Rattle.morx.specs.Kinds.{kindOf, subtableOfKind}
 use Rattle.morx.specs.Run.{isPassedOver, idle, turnedWork, settledAnswer, settled, visitSubtable, visit, visitLeaves}
-use Rattle.morx.specs.Work.{subtableLeaves, workLeaves, turnedLeaves}
+use Rattle.morx.specs.Work.{subtableLeaves, turnedLeaves}
 use Rattle.morx.specs.declared.Kind.{Kind}
 use Rattle.morx.specs.declared.Choices.{Choices}
 use Rattle.morx.specs.declared.PassReply.{PassReply}
@@ -41,7 +41,7 @@ module _ (turned : Bool) (kind : Kind) (bytes glyphs tags homes : List ℕ) (use
   abbrev line : Line
   line = lineOf glyphs tags homes used
 
-  pub straight : {reply : PassReply} {glyphs′ tags′ homes′ : List ℕ} → turned ≡ false → Leaves (worked kind bytes line) line reply glyphs′ tags′ homes′
+  pub straight : {reply : PassReply} {glyphs′ tags′ homes′ : List ℕ} → turned ≡ false → Leaves (subtableOfKind kind .worked bytes line) line reply glyphs′ tags′ homes′
       → Leaves (turnedWork turned kind bytes line) line reply glyphs′ tags′ homes′
   unfolding turnedWork
   straight {reply} {glyphs′} {tags′} {homes′} e left =
@@ -50,9 +50,9 @@ module _ (turned : Bool) (kind : Kind) (bytes glyphs tags homes : List ℕ) (use
   module _ (v : isValid line ≡ true) {glyphs₁ tags₁ : List ℕ} (g : glyphs₁ ≡ backward used glyphs) (t : tags₁ ≡ backward used tags) where
     -- and worked on
     module _ {reply : PassReply} {glyphs₂ tags₂ homes₂ : List ℕ}
-        (left : Leaves (worked kind bytes (lineOf glyphs₁ tags₁ homes used)) (lineOf glyphs₁ tags₁ homes used) reply glyphs₂ tags₂ homes₂) where
-      worked-line : lineOf glyphs₂ tags₂ homes₂ (reply .used) ≡ applyAll (worked kind bytes (apply Change.reversal line) .changes) (apply Change.reversal line)
-      worked-line = left .line ∙ ap (λ (x : Line). applyAll (worked kind bytes x .changes) x) (turned-line glyphs tags homes used g t)
+        (left : Leaves (subtableOfKind kind .worked bytes (lineOf glyphs₁ tags₁ homes used)) (lineOf glyphs₁ tags₁ homes used) reply glyphs₂ tags₂ homes₂) where
+      worked-line : lineOf glyphs₂ tags₂ homes₂ (reply .used) ≡ applyAll (subtableOfKind kind .worked bytes (apply Change.reversal line) .changes) (apply Change.reversal line)
+      worked-line = left .line ∙ ap (λ (x : Line). applyAll (subtableOfKind kind .worked bytes x .changes) x) (turned-line glyphs tags homes used g t)
 
       pub worked-valid : isValid (lineOf glyphs₂ tags₂ homes₂ (reply .used)) ≡ true
       worked-valid =
@@ -63,10 +63,10 @@ module _ (turned : Bool) (kind : Kind) (bytes glyphs tags homes : List ℕ) (use
           → Leaves (turnedWork turned kind bytes line) line reply glyphs₃ tags₃ homes₂
       unfolding turnedWork applyAll
       turned-back {glyphs₃} {tags₃} e g₃ t₃ =
-          let made : List Change = worked kind bytes (apply Change.reversal line) .changes in
+          let made : List Change = subtableOfKind kind .worked bytes (apply Change.reversal line) .changes in
           subst⁻¹ (λ (x : Bool). Leaves (turnedWork x kind bytes line) line reply glyphs₃ tags₃ homes₂) e
           (record {
-            answers = left .answers ∙ ap (λ (x : Line). worked kind bytes x .answer) (turned-line glyphs tags homes used g t);
+            answers = left .answers ∙ ap (λ (x : Line). subtableOfKind kind .worked bytes x .answer) (turned-line glyphs tags homes used g t);
             line =
                 applied-reversal glyphs₂ tags₂ homes₂ (reply .used) g₃ t₃
                 ∙ ap (apply Change.reversal) worked-line
@@ -78,7 +78,7 @@ pub turned-fits : (turned : Bool) (kind : Kind) (bytes : List ℕ) (l : Line) �
 unfolding turnedWork applyAll
 turned-fits false kind bytes l v = worked-fits kind bytes l v
 turned-fits true kind bytes l v =
-    let made : List Change = worked kind bytes (apply Change.reversal l) .changes in
+    let made : List Change = subtableOfKind kind .worked bytes (apply Change.reversal l) .changes in
     let v₁ = valid-turned l v in
     let f₁ = worked-fits kind bytes (apply Change.reversal l) v₁ in
     let f₂ : Fits (Change.reversal ∷ made) l = fits-then (Change.reversal ∷ []) l v (turning-fits l v) made f₁ in

@@ -1,20 +1,16 @@
 -- The pass by a subtable of whatever kind.
 use Prim.Native.Nat.{ℕ, _%_}
-use mathlib.Core.Bool.{Bool, false, not, cond}
-use mathlib.Core.List.{List, []}
+use mathlib.Core.Bool.{false, cond}
+use mathlib.Core.List.{List}
 use Rattle.laws.specs.Choose.{ifEq}
-use Rattle.answers.specs.declared.Answer.the-variants as Answer′
 use Rattle.answers.specs.declared.Refusal.the-variants as Refusal′
 use Rattle.parse.specs.Reads.{inside, u32At}
-use Rattle.line.specs.Line.{Line}
-use Rattle.machine.specs.Head.{hasKind}
-use Rattle.machine.specs.Pass.{Passed}
-use Rattle.machine.specs.Call.{isShort, opened}
-use Rattle.rearrangement.specs.Rearrangement as Rearrangement′
-use Rattle.contextual.specs.Calls as Contextual′
-use Rattle.noncontextual.specs.NonContextual as NonContextual′
-use Rattle.ligature.specs.Calls as Ligature′
-use Rattle.insertion.specs.Calls as Insertion′
+use Rattle.machine.specs.Machine.{Subtable, refusedPass, subtableOf}
+use Rattle.rearrangement.specs.Calls.{rearrangement}
+use Rattle.contextual.specs.Calls.{contextual}
+use Rattle.noncontextual.specs.NonContextual.{noncontextual}
+use Rattle.ligature.specs.Calls.{ligature}
+use Rattle.insertion.specs.Calls.{insertion}
 use Rattle.morx.specs.declared.Kind.{Kind}
 use Rattle.morx.specs.declared.Kind.the-variants.{Rearrangement, Contextual, Ligature, NonContextual, Insertion, LeftOut}
 
@@ -31,20 +27,19 @@ kindOf n =
 unfoldable pub kindAt : List ℕ → Kind
 kindAt bytes = cond (inside bytes 0 12) (kindOf (u32At bytes 4 % 256)) LeftOut
 
--- the crate's `kind` gives the subtable: its kind is taken and its machine can open it
-unfoldable pub isOpen : Kind → List ℕ → Bool
-isOpen Rearrangement bytes = not (isShort (opened bytes 0))
-isOpen Contextual bytes = not (isShort (Contextual′.opened bytes))
-isOpen Ligature bytes = not (isShort (Ligature′.opened bytes))
-isOpen NonContextual bytes = hasKind bytes 4
-isOpen Insertion bytes = not (isShort (Insertion′.opened bytes))
-isOpen LeftOut bytes = false
+-- the crate's `kind` gives the subtable where its kind is taken and its machine can open it; a pass by any other is refused by HEAD
+unfoldable pub subtableOfKind : Kind → Subtable
+subtableOfKind Rearrangement = subtableOf rearrangement
+subtableOfKind Contextual = subtableOf contextual
+subtableOfKind Ligature = subtableOf ligature
+subtableOfKind NonContextual = noncontextual
+subtableOfKind Insertion = subtableOf insertion
+subtableOfKind LeftOut = record { isOpen = λ bytes. false; worked = λ bytes l. refusedPass Refusal′.Head }
 
--- the pass of a subtable of a kind, over its bytes, the head included; HEAD where the kind is left out or can't be opened
-unfoldable pub worked : Kind → List ℕ → Line → Passed
-worked Rearrangement bytes l = Rearrangement′.worked bytes l
-worked Contextual bytes l = Contextual′.worked bytes l
-worked Ligature bytes l = Ligature′.worked bytes l
-worked NonContextual bytes l = NonContextual′.worked bytes l
-worked Insertion bytes l = Insertion′.worked bytes l
-worked LeftOut bytes l = record { answer = Answer′.Refused Refusal′.Head; changes = [] }
+-- of the kind that its head says
+abbrev pub anySubtable : Subtable
+anySubtable =
+    record {
+      isOpen = λ bytes. subtableOfKind (kindAt bytes) .isOpen bytes;
+      worked = λ bytes l. subtableOfKind (kindAt bytes) .worked bytes l;
+    }

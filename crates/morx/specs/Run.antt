@@ -17,7 +17,7 @@ use Rattle.chains.specs.declared.Chain.{Chain}
 use Rattle.chains.specs.declared.Subtable.{Subtable}
 use Rattle.chains.specs.declared.Head.{Head}
 use Rattle.chains.specs.declared.Head.the-variants as Head′
-use Rattle.morx.specs.Kinds.{kindOf, isOpen, worked}
+use Rattle.morx.specs.Kinds.{kindOf, subtableOfKind}
 use Rattle.morx.specs.declared.Kind.{Kind}
 use Rattle.morx.specs.declared.Choices.{Choices}
 
@@ -32,7 +32,7 @@ shareBit a b = not (eqb (bitAnd a b) 0)
 -- a run passes over the subtables that the flags don't choose, those for vertical text alone, and those of a kind that is left out or
 -- can't be opened
 unfoldable pub isPassedOver : (flags : ℕ) → Subtable → (bytes : List ℕ) → Bool
-isPassedOver flags s bytes = cond (shareBit flags (s .flags)) (cond (s .vertical) true (not (isOpen (kindOf (s .kind)) bytes))) true
+isPassedOver flags s bytes = cond (shareBit flags (s .flags)) (cond (s .vertical) true (not (subtableOfKind (kindOf (s .kind)) .isOpen bytes))) true
 
 -- nothing is done
 abbrev pub idle : Passed
@@ -40,11 +40,11 @@ idle = record { answer = Answer′.Done; changes = [] }
 
 -- where the line is to be turned, it is turned before the pass and after it, however that ends
 unfoldable pub turnedWork : (turned : Bool) → Kind → List ℕ → Line → Passed
-turnedWork false kind bytes l = worked kind bytes l
+turnedWork false kind bytes l = subtableOfKind kind .worked bytes l
 turnedWork true kind bytes l =
     record {
-      answer = worked kind bytes (apply Change.reversal l) .answer;
-      changes = (Change.reversal ∷ worked kind bytes (apply Change.reversal l) .changes) ++ (Change.reversal ∷ []);
+      answer = subtableOfKind kind .worked bytes (apply Change.reversal l) .answer;
+      changes = (Change.reversal ∷ subtableOfKind kind .worked bytes (apply Change.reversal l) .changes) ++ (Change.reversal ∷ []);
     }
 
 -- what a pass's answer is to its run: FULL ends the run, and any other end is the subtable's own. A pass is never NOTHING or LIMIT, and in a run never

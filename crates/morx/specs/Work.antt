@@ -9,7 +9,6 @@ use Rattle.line.specs.Test.{lineTest}
 use Rattle.line.specs.Changes.{applyAll}
 use Rattle.machine.specs.Pass.{Passed}
 use Rattle.chains.specs.declared.Subtable.{Subtable}
-use Rattle.morx.specs.Kinds.{worked}
 use Rattle.morx.specs.Run.{turnedWork, visitSubtable, Ran, ran}
 use Rattle.morx.specs.declared.Choices.{Choices}
 use Rattle.morx.specs.declared.Kind.{Kind}
@@ -24,11 +23,7 @@ lineTests tableLength l = tableTest tableLength ∷ lineTest l ∷ []
 abbrev pub passReplyOf : Passed → Line → PassReply
 passReplyOf p l = record { answer = p .answer; used = applyAll (p .changes) l .used }
 
--- the line that the pass of a subtable of a kind leaves
-unfoldable pub workLeaves : Kind → List ℕ → Line → Line
-workLeaves kind bytes l = applyAll (worked kind bytes l .changes) l
-
--- and the same where the line may be turned for it
+-- the line that the pass of a subtable of a kind leaves, where it may be turned for it
 unfoldable pub turnedLeaves : (turned : Bool) → Kind → List ℕ → Line → Line
 turnedLeaves turned kind bytes l = applyAll (turnedWork turned kind bytes l .changes) l
 

@@ -6,21 +6,24 @@ use answers::Refusal;
 use chains::Head;
 use chains::NextHead;
 use chains::Subtable;
+use contextual::ContextualState;
+use insertion::InsertionState;
+use ligature::LigatureState;
 use rearrangement::RearrangementState;
-use state_tables::Made;
 ghost use mathlib.Core.Path.{_≡_};
-ghost use mathlib.Core.Bool.{true, not};
+ghost use mathlib.Core.Bool.{true};
 ghost use Prim.Native.Nat.{_≤_};
 ghost use lib.ListN.{length, drop};
 ghost use Rattle.laws.specs.Backward.{backward};
 ghost use Rattle.answers.specs.Refuse.{refuse};
 ghost use Rattle.line.specs.Line.{lineOf};
 ghost use Rattle.line.specs.Test.{isValid};
-ghost use Rattle.machine.specs.Call.{isShort};
-ghost use Rattle.morx.specs.Kinds.{kindOf, kindAt, isOpen, worked};
+ghost use Rattle.machine.specs.Machine.{passCall, callLeaves};
+ghost use Rattle.machine.specs.Work.{workLeaves};
+ghost use Rattle.morx.specs.Kinds.{kindOf, kindAt, subtableOfKind, anySubtable};
 ghost use Rattle.morx.specs.Run.{shareBit, isPassedOver, turnedWork, settledAnswer, flagsAfter, visit, visitLeaves, visitSubtable, ran};
-ghost use Rattle.morx.specs.Calls.{passCall, passLeaves, runTests, runCall, runLeaves};
-ghost use Rattle.morx.specs.Work.{subtableLeaves, turnedLeaves, ranLeaves, runReplyOf, workLeaves, passReplyOf, lineTests};
+ghost use Rattle.morx.specs.Calls.{runTests, runCall, runLeaves};
+ghost use Rattle.morx.specs.Work.{subtableLeaves, turnedLeaves, ranLeaves, runReplyOf, passReplyOf, lineTests};
 
 // The kinds of subtables; those that are left out are one.
 pub enum Kind {
@@ -54,19 +57,19 @@ pub struct RunReply {
 fn kind_of(number: u32) -> Kind
     ensures { λ r. ⌜ r ≡ kindOf number ⌝ }
 {
-    if number == 0 {
+    if number == RearrangementState::KIND {
         return Kind::Rearrangement;
     }
-    if number == 1 {
+    if number == ContextualState::KIND {
         return Kind::Contextual;
     }
-    if number == 2 {
+    if number == LigatureState::KIND {
         return Kind::Ligature;
     }
-    if number == 4 {
+    if number == noncontextual::KIND {
         return Kind::NonContextual;
     }
-    if number == 5 {
+    if number == InsertionState::KIND {
         return Kind::Insertion;
     }
     Kind::LeftOut
@@ -95,10 +98,10 @@ fn work(
     used: usize,
 ) -> PassReply
     requires { ⌜ isValid (lineOf (now glyphs) (now tags) (now homes) used) ≡ true ⌝ }
-    ensures reply { λ r. ⌜ r ≡ passReplyOf (worked kind (now (bytes .entry)) (lineOf (now (glyphs .entry)) (now (tags .entry)) (now (homes .entry)) used)) (lineOf (now (glyphs .entry)) (now (tags .entry)) (now (homes .entry)) used) ⌝ }
-    ensures glyphs { λ _. ⌜ now (glyphs .exit) ≡ workLeaves kind (now (bytes .entry)) (lineOf (now (glyphs .entry)) (now (tags .entry)) (now (homes .entry)) used) .glyphs ⌝ }
-    ensures tags { λ _. ⌜ now (tags .exit) ≡ workLeaves kind (now (bytes .entry)) (lineOf (now (glyphs .entry)) (now (tags .entry)) (now (homes .entry)) used) .tags ⌝ }
-    ensures homes { λ _. ⌜ now (homes .exit) ≡ workLeaves kind (now (bytes .entry)) (lineOf (now (glyphs .entry)) (now (tags .entry)) (now (homes .entry)) used) .homes ⌝ }
+    ensures reply { λ r. ⌜ r ≡ passReplyOf (subtableOfKind kind .worked (now (bytes .entry)) (lineOf (now (glyphs .entry)) (now (tags .entry)) (now (homes .entry)) used)) (lineOf (now (glyphs .entry)) (now (tags .entry)) (now (homes .entry)) used) ⌝ }
+    ensures glyphs { λ _. ⌜ now (glyphs .exit) ≡ workLeaves (subtableOfKind kind) (now (bytes .entry)) (lineOf (now (glyphs .entry)) (now (tags .entry)) (now (homes .entry)) used) .glyphs ⌝ }
+    ensures tags { λ _. ⌜ now (tags .exit) ≡ workLeaves (subtableOfKind kind) (now (bytes .entry)) (lineOf (now (glyphs .entry)) (now (tags .entry)) (now (homes .entry)) used) .tags ⌝ }
+    ensures homes { λ _. ⌜ now (homes .exit) ≡ workLeaves (subtableOfKind kind) (now (bytes .entry)) (lineOf (now (glyphs .entry)) (now (tags .entry)) (now (homes .entry)) used) .homes ⌝ }
 {
     match kind {
         Kind::Rearrangement => {
@@ -134,35 +137,25 @@ fn work(
     }
 }
 
-// Whether a state table was made.
-fn is_ready(made: Made) -> bool
-    ensures { λ r. ⌜ r ≡ not (isShort made) ⌝ }
-{
-    match made {
-        Made::Ready(_) => true,
-        Made::Short => false,
-    }
-}
-
 // Whether the subtable of a kind that the bytes begin with can be opened.
 fn opens(kind: Kind, bytes: &[u8]) -> bool
-    ensures { λ r. ⌜ r ≡ isOpen kind (now (bytes .entry)) ⌝ }
+    ensures { λ r. ⌜ r ≡ subtableOfKind kind .isOpen (now (bytes .entry)) ⌝ }
 {
     match kind {
         Kind::Rearrangement => {
-            return is_ready(machine::open(bytes, RearrangementState::KIND));
+            return machine::is_ready(machine::open(bytes, RearrangementState::KIND));
         }
         Kind::Contextual => {
-            return is_ready(contextual::open(bytes));
+            return machine::is_ready(contextual::open(bytes));
         }
         Kind::Ligature => {
-            return is_ready(ligature::open(bytes));
+            return machine::is_ready(ligature::open(bytes));
         }
         Kind::NonContextual => {
             return machine::has_kind(bytes, noncontextual::KIND);
         }
         Kind::Insertion => {
-            return is_ready(insertion::open(bytes));
+            return machine::is_ready(insertion::open(bytes));
         }
         Kind::LeftOut => {
             return false;
@@ -393,10 +386,10 @@ pub fn pass(
     homes: &mut [u16],
     used: usize,
 ) -> PassReply
-    ensures reply { λ r. ⌜ r ≡ passReplyOf (passCall (now (table .entry)) start (lineOf (now (glyphs .entry)) (now (tags .entry)) (now (homes .entry)) used)) (lineOf (now (glyphs .entry)) (now (tags .entry)) (now (homes .entry)) used) ⌝ }
-    ensures glyphs { λ _. ⌜ now (glyphs .exit) ≡ passLeaves (now (table .entry)) start (lineOf (now (glyphs .entry)) (now (tags .entry)) (now (homes .entry)) used) .glyphs ⌝ }
-    ensures tags { λ _. ⌜ now (tags .exit) ≡ passLeaves (now (table .entry)) start (lineOf (now (glyphs .entry)) (now (tags .entry)) (now (homes .entry)) used) .tags ⌝ }
-    ensures homes { λ _. ⌜ now (homes .exit) ≡ passLeaves (now (table .entry)) start (lineOf (now (glyphs .entry)) (now (tags .entry)) (now (homes .entry)) used) .homes ⌝ }
+    ensures reply { λ r. ⌜ r ≡ passReplyOf (passCall anySubtable (now (table .entry)) start (lineOf (now (glyphs .entry)) (now (tags .entry)) (now (homes .entry)) used)) (lineOf (now (glyphs .entry)) (now (tags .entry)) (now (homes .entry)) used) ⌝ }
+    ensures glyphs { λ _. ⌜ now (glyphs .exit) ≡ callLeaves anySubtable (now (table .entry)) start (lineOf (now (glyphs .entry)) (now (tags .entry)) (now (homes .entry)) used) .glyphs ⌝ }
+    ensures tags { λ _. ⌜ now (tags .exit) ≡ callLeaves anySubtable (now (table .entry)) start (lineOf (now (glyphs .entry)) (now (tags .entry)) (now (homes .entry)) used) .tags ⌝ }
+    ensures homes { λ _. ⌜ now (homes .exit) ≡ callLeaves anySubtable (now (table .entry)) start (lineOf (now (glyphs .entry)) (now (tags .entry)) (now (homes .entry)) used) .homes ⌝ }
 {
     if let Check::Refused(why) = refuse_line(table.len(), glyphs, tags, homes, used) {
         return PassReply {

@@ -11,7 +11,7 @@ use Rattle.tables.specs.declared.lookup.Found.{Found}
 use Rattle.tables.specs.declared.lookup.Found.the-variants as Found′
 use Rattle.line.specs.Line.{Line}
 use Rattle.line.specs.Changes.{written, applyAll}
-use Rattle.noncontextual.specs.NonContextual.{passed, worked}
+use Rattle.noncontextual.specs.NonContextual.{passed}
 
 -- what a lookup does at a place, on the glyphs alone
 abbrev pub replaced : (used place : ℕ) → Found → List ℕ → List ℕ
@@ -21,10 +21,6 @@ replaced used place (Found′.Nothing why) glyphs = glyphs
 -- the line that a pass leaves
 unfoldable pub passedLeaves : List ℕ → Line → Line
 passedLeaves body l = applyAll (passed body l .changes) l
-
--- the line that the pass by the subtable that the bytes begin with leaves
-unfoldable pub workLeaves : List ℕ → Line → Line
-workLeaves bytes l = applyAll (worked bytes l .changes) l
 
 -- what becomes of a glyph
 unfoldable pub becomesBy : List ℕ → (glyph : ℕ) → ℕ

@@ -11,12 +11,13 @@ use tables::whole::Records;
 ghost use mathlib.Core.Path.{_≡_};
 ghost use Prim.Native.Nat.{_≤_};
 ghost use lib.ListN.{length};
-ghost use Rattle.answers.specs.Refuse.{refuse};
 ghost use Rattle.line.specs.Line.{lineOf};
 ghost use Rattle.tables.specs.Opened.{foundIn, LiesIn};
 ghost use Rattle.tables.specs.Whole.{recordsOf};
-ghost use Rattle.noncontextual.specs.NonContextual.{passTests, worked, passCall, callLeaves};
-ghost use Rattle.noncontextual.specs.Work.{replaced, passedLeaves, workLeaves, becomesBy, Remembers, noted};
+ghost use Rattle.noncontextual.specs.NonContextual.{noncontextual};
+ghost use Rattle.machine.specs.Machine.{passCall, callLeaves};
+ghost use Rattle.machine.specs.Work.{workLeaves};
+ghost use Rattle.noncontextual.specs.Work.{replaced, passedLeaves, becomesBy, Remembers, noted};
 
 // The kind of a non-contextual subtable.
 pub const KIND: u32 = 4;
@@ -99,37 +100,14 @@ fn pass_line(body: &[u8], glyphs: &mut [u16], tags: &[u16], homes: &[u16], used:
 // The pass over a line that LINE has taken, by the subtable that the bytes begin with; HEAD where it is none of this kind.
 pub fn work(bytes: &[u8], glyphs: &mut [u16], tags: &[u16], homes: &[u16], used: usize) -> Answer
     requires { ⌜ used ≤ length (now glyphs) ⌝ }
-    ensures answer { λ r. ⌜ r ≡ worked (now (bytes .entry)) (lineOf (now (glyphs .entry)) (now (tags .entry)) (now (homes .entry)) used) .answer ⌝ }
-    ensures glyphs { λ _. ⌜ now (glyphs .exit) ≡ workLeaves (now (bytes .entry)) (lineOf (now (glyphs .entry)) (now (tags .entry)) (now (homes .entry)) used) .glyphs ⌝ }
+    ensures answer { λ r. ⌜ r ≡ noncontextual .worked (now (bytes .entry)) (lineOf (now (glyphs .entry)) (now (tags .entry)) (now (homes .entry)) used) .answer ⌝ }
+    ensures glyphs { λ _. ⌜ now (glyphs .exit) ≡ workLeaves noncontextual (now (bytes .entry)) (lineOf (now (glyphs .entry)) (now (tags .entry)) (now (homes .entry)) used) .glyphs ⌝ }
 {
     if !machine::has_kind(bytes, KIND) {
         return Answer::Refused(Refusal::Head);
     }
     pass_line(parse::from(bytes, 12), glyphs, tags, homes, used);
     Answer::Done
-}
-
-// The tests before a pass: TABLE, LINE, HEAD.
-fn refuse_pass(
-    table_length: usize,
-    glyphs: &[u16],
-    tags: &[u16],
-    homes: &[u16],
-    used: usize,
-    bytes: &[u8],
-) -> Check
-    ensures { λ r. ⌜ r ≡ refuse (passTests «table_length» (lineOf (now (glyphs .entry)) (now (tags .entry)) (now (homes .entry)) used) (now (bytes .entry))) ⌝ }
-{
-    if let Check::Refused(why) = answers::refuse_table(table_length) {
-        return Check::Refused(why);
-    }
-    if !line::valid::takes(glyphs, tags, homes, used) {
-        return Check::Refused(Refusal::Line);
-    }
-    if !machine::has_kind(bytes, KIND) {
-        return Check::Refused(Refusal::Head);
-    }
-    Check::Passed
 }
 
 // The pass over a line, by the subtable at `start`.
@@ -141,11 +119,19 @@ pub fn pass(
     homes: &[u16],
     used: usize,
 ) -> Answer
-    ensures answer { λ r. ⌜ r ≡ passCall (now (table .entry)) start (lineOf (now (glyphs .entry)) (now (tags .entry)) (now (homes .entry)) used) .answer ⌝ }
-    ensures glyphs { λ _. ⌜ now (glyphs .exit) ≡ callLeaves (now (table .entry)) start (lineOf (now (glyphs .entry)) (now (tags .entry)) (now (homes .entry)) used) .glyphs ⌝ }
+    ensures answer { λ r. ⌜ r ≡ passCall noncontextual (now (table .entry)) start (lineOf (now (glyphs .entry)) (now (tags .entry)) (now (homes .entry)) used) .answer ⌝ }
+    ensures glyphs { λ _. ⌜ now (glyphs .exit) ≡ callLeaves noncontextual (now (table .entry)) start (lineOf (now (glyphs .entry)) (now (tags .entry)) (now (homes .entry)) used) .glyphs ⌝ }
 {
     let bytes = parse::from(table, start);
-    if let Check::Refused(why) = refuse_pass(table.len(), glyphs, tags, homes, used, bytes) {
+    let opens = machine::has_kind(bytes, KIND);
+    if let Check::Refused(why) = machine::refuse_pass(
+        table.len(),
+        glyphs,
+        tags,
+        homes,
+        used,
+        opens,
+    ) {
         return Answer::Refused(why);
     }
     work(bytes, glyphs, tags, homes, used)

@@ -14,11 +14,12 @@ use Rattle.line.specs.Line.{Line, Valid, Legal}
 use Rattle.line.specs.Test.{Decides, isValid, isLegal}
 use Rattle.state_tables.specs.declared.States.{States}
 use Rattle.machine.specs.Stall.{Falls, stalled}
-use Rattle.machine.specs.Pass.{passFrom}
-use Rattle.rearrangement.specs.Rearrangement as Rearrangement
-use Rattle.contextual.specs.Contextual as Contextual
+use Rattle.machine.specs.Machine.{Bounded}
+use Rattle.rearrangement.specs.Calls.{rearrangement}
+use Rattle.contextual.specs.Calls.{contextual}
 use Rattle.ligature.specs.Ligature as Ligature
-use Rattle.insertion.specs.Insertion as Insertion
+use Rattle.ligature.specs.Calls.{ligature}
+use Rattle.insertion.specs.Calls.{insertion}
 use Rattle.kerning_machine.specs.Machine as KerningMachine
 use Rattle.kerning_machine.specs.declared.Kerning.{Kerning}
 use Rattle.morx.specs.Heads.{Counted}
@@ -45,18 +46,10 @@ pub record Demand1 : Type 0 where
   -- the stall rule ends: a step advances within the line, or comes one nearer to the one that must
   pub stall-falls : (cycles used i : ℕ) (stays : Bool) → cycles ≤ 17 → i < used → Falls cycles used i (stalled cycles stays)
   -- a pass is defined with a bound on its steps, which is never reached: more of them change nothing
-  pub rearrangement-turns : (classes : ℕ → ℕ) (bytes : List ℕ) (states : States) (l : Line) (more : ℕ)
-      → passFrom (Rearrangement.machine classes bytes states) (more + Rearrangement.rest Rearrangement.fresh l 0) Rearrangement.fresh l 0
-      ≡ Rearrangement.passedBy classes bytes states l
-  pub contextual-turns : (classes : ℕ → ℕ) (bytes : List ℕ) (states : States) (l : Line) (more : ℕ)
-      → passFrom (Contextual.machine classes bytes states) (more + Contextual.rest Contextual.fresh l 0) Contextual.fresh l 0
-      ≡ Contextual.passedBy classes bytes states l
-  pub ligature-turns : (classes : ℕ → ℕ) (bytes : List ℕ) (states : States) (l : Line) (more : ℕ)
-      → passFrom (Ligature.machine classes bytes states) (more + Ligature.rest Ligature.fresh l 0) Ligature.fresh l 0
-      ≡ Ligature.passedBy classes bytes states l
-  pub insertion-turns : (classes : ℕ → ℕ) (bytes : List ℕ) (states : States) (l : Line) (more : ℕ) → Valid l
-      → passFrom (Insertion.machine classes bytes states) (more + Insertion.rest Insertion.fresh l 0) Insertion.fresh l 0
-      ≡ Insertion.passedBy classes bytes states l
+  pub rearrangement-turns : (l : Line) → Bounded rearrangement l
+  pub contextual-turns : (l : Line) → Bounded contextual l
+  pub ligature-turns : (l : Line) → Bounded ligature l
+  pub insertion-turns : (l : Line) → Valid l → Bounded insertion l
   pub kerning-turns : (bytes : List ℕ) (kerning : Kerning) (glyphs : List ℕ) (used more : ℕ)
       → KerningMachine.passFrom bytes kerning glyphs used (more + KerningMachine.rest used KerningMachine.fresh 0) KerningMachine.fresh 0
       ≡ KerningMachine.passed bytes kerning glyphs used

@@ -1,6 +1,5 @@
 -- Laws of the rearrangement machine.
 pub mod Passes
-pub mod Calls
-mod Steps
+pub mod Steps
 pub mod Honesty
 pub mod Turns

@@ -24,10 +24,12 @@ use Rattle.laws.specs.Bits.{isSet}
 use Rattle.machine.specs.Entry.{classHere}
 use Rattle.machine.specs.Stall.{stalled}
 use Rattle.machine.specs.Pass.{deleted, isDone}
+use Rattle.machine.specs.Machine.{passedBy, passed}
+use Rattle.machine.specs.Work.{passedLeaves}
 use Rattle.machine.proofs.Stalls.{stall-falls}
 use Rattle.machine.proofs.Passing.{Passing, Over, passing-start, passing-step, passing-stop, passing-end}
-use Rattle.rearrangement.specs.Rearrangement.{fresh, acted, unmoved, next, changesOf, machine, rest, passedBy, passed}
-use Rattle.rearrangement.specs.Work.{passedLeaves}
+use Rattle.rearrangement.specs.Rearrangement.{fresh, acted, unmoved, next, changesOf}
+use Rattle.rearrangement.specs.Calls.{rearrangement}
 use Rattle.rearrangement.specs.declared.RearrangementState.{RearrangementState}
 use Rattle.rearrangement.specs.declared.RearrangementStep.{RearrangementStep}
 use Rattle.rearrangement.specs.declared.Window.{Window}
@@ -85,7 +87,7 @@ module _ (bytes : List ℕ) (states : States) (l₀ : Line) where
   pub record Going (opened : Classes) (memo glyphs tags homes : List ℕ) (used : ℕ) (s : RearrangementState) (i : ℕ) : Type 0 where
     pub table : opened ≡ openedClasses bytes (states .edition)
     pub remembers : Remembers (classBy bytes opened) memo
-    pub passing : Passing (machine classes bytes states) rest l₀ (passed bytes states l₀) s (lineOf glyphs tags homes used) i
+    pub passing : Passing (rearrangement .step classes bytes states) (rearrangement .rest) l₀ (passed rearrangement bytes states l₀) s (lineOf glyphs tags homes used) i
     pub cycles : s .cycles ≤ 17
     pub within : i ≤ used
     pub long-glyphs : length glyphs ≡ length (l₀ .glyphs)
@@ -93,22 +95,22 @@ module _ (bytes : List ℕ) (states : States) (l₀ : Line) where
 
   -- what a pass that ends here answers and leaves
   pub record Ends (answer : Answer) (glyphs tags : List ℕ) : Type 0 where
-    pub answers : answer ≡ passed bytes states l₀ .answer
-    pub glyphs-left : glyphs ≡ passedLeaves bytes states l₀ .glyphs
-    pub tags-left : tags ≡ passedLeaves bytes states l₀ .tags
+    pub answers : answer ≡ passed rearrangement bytes states l₀ .answer
+    pub glyphs-left : glyphs ≡ passedLeaves rearrangement bytes states l₀ .glyphs
+    pub tags-left : tags ≡ passedLeaves rearrangement bytes states l₀ .tags
 
   module _ {opened : Classes} {memo glyphs tags homes : List ℕ} {used : ℕ} {s : RearrangementState} {i : ℕ} (g : Going opened memo glyphs tags homes used s i) where
     abbrev here : Line
     here = lineOf glyphs tags homes used
 
-    some : 0 < rest s here i
+    some : 0 < rearrangement .rest s here i
     some = omega (arith, g .cycles)
 
     pub going-lies : LiesIn bytes opened
     going-lies = subst⁻¹ (LiesIn bytes) (g .table) (classes-lie bytes (states .edition))
 
     abbrev OverBy : RearrangementStep → Type 0
-    OverBy step = Over (machine classes bytes states) rest l₀ (passed bytes states l₀) (step .answer) (applyAll (changesOf (step .edit)) here)
+    OverBy step = Over (rearrangement .step classes bytes states) (rearrangement .rest) l₀ (passed rearrangement bytes states l₀) (step .answer) (applyAll (changesOf (step .edit)) here)
 
     ends : {glyphs′ tags′ : List ℕ} (step : RearrangementStep) → OverBy step → glyphs′ ≡ applyAll (changesOf (step .edit)) here .glyphs
         → tags′ ≡ applyAll (changesOf (step .edit)) here .tags → Ends (step .answer) glyphs′ tags′
@@ -123,8 +125,7 @@ module _ (bytes : List ℕ) (states : States) (l₀ : Line) where
     -- the end call
     pub going-end : {step : RearrangementStep} {glyphs′ tags′ : List ℕ} → used ≤ i → step ≡ next classes bytes states s used deleted true
         → glyphs′ ≡ applyAll (changesOf (step .edit)) here .glyphs → tags′ ≡ applyAll (changesOf (step .edit)) here .tags → Ends (step .answer) glyphs′ tags′
-    unfolding machine
-    going-end {step} h e = ends step (subst⁻¹ OverBy e (passing-end (machine classes bytes states) rest l₀ (passed bytes states l₀) (g .passing) some h))
+    going-end {step} h e = ends step (subst⁻¹ OverBy e (passing-end (rearrangement .step classes bytes states) (rearrangement .rest) l₀ (passed rearrangement bytes states l₀) (g .passing) some h))
 
     -- the step at place i
     abbrev at : RearrangementStep
@@ -146,7 +147,6 @@ module _ (bytes : List ℕ) (states : States) (l₀ : Line) where
           → glyphs′ ≡ applyAll (changesOf (at .edit)) here .glyphs → tags′ ≡ applyAll (changesOf (at .edit)) here .tags
           → length glyphs′ ≡ length glyphs → length tags′ ≡ length tags
           → Going opened memo′ glyphs′ tags′ homes used (at .state) (i + at .advance)
-      unfolding machine
       at-goes done m p q lg lt =
           let (stays, c, a) = stalls classes bytes states s i (getD glyphs i 0) false done in
           let falls = stall-falls (s .cycles) used i stays (g .cycles) h in
@@ -156,8 +156,8 @@ module _ (bytes : List ℕ) (states : States) (l₀ : Line) where
             table = g .table;
             remembers = m;
             passing =
-                subst⁻¹ (λ (l : Line). Passing (machine classes bytes states) rest l₀ (passed bytes states l₀) (at .state) l (i + at .advance)) line
-                (passing-step (machine classes bytes states) rest l₀ (passed bytes states l₀) (g .passing) some h done
+                subst⁻¹ (λ (l : Line). Passing (rearrangement .step classes bytes states) (rearrangement .rest) l₀ (passed rearrangement bytes states l₀) (at .state) l (i + at .advance)) line
+                (passing-step (rearrangement .step classes bytes states) (rearrangement .rest) l₀ (passed rearrangement bytes states l₀) (g .passing) some h done
                 (omega (arith, falls .less, used-same, c, a)));
             cycles = omega (arith, falls .sound, c);
             within = omega (arith, falls .within, a);
@@ -176,11 +176,11 @@ module _ (bytes : List ℕ) (states : States) (l₀ : Line) where
         ended-at f = rw (← class-here, sym r ∙ f, next)
 
         pub going-ended : entered ≡ Entered′.Ended → Ends Answer′.Ended glyphs tags
-        unfolding machine applyAll
+        unfolding applyAll
         going-ended f =
             ends (unmoved s Answer′.Ended)
             (subst⁻¹ OverBy (ended-at f)
-            (passing-stop (machine classes bytes states) rest l₀ (passed bytes states l₀) (g .passing) some h
+            (passing-stop (rearrangement .step classes bytes states) (rearrangement .rest) l₀ (passed rearrangement bytes states l₀) (g .passing) some h
             (subst (λ (t : RearrangementStep). isDone (t .answer) ≡ false) (ended-at f) refl)))
             refl refl
 
@@ -242,7 +242,7 @@ going-start bytes states glyphs tags homes used {opened} {memo} o m e =
     (record {
       table = o;
       remembers = subst⁻¹ (Remembers (classBy bytes opened)) m (nothing-remembered (deleted-class bytes opened));
-      passing = passing-start (machine (classOf bytes states) bytes states) rest _ fresh (lineOf glyphs tags homes used) (omega arith);
+      passing = passing-start (rearrangement .step (classOf bytes states) bytes states) (rearrangement .rest) _ fresh (lineOf glyphs tags homes used) (omega arith);
       cycles = omega arith;
       within = omega arith;
       long-glyphs = refl;

@@ -8,10 +8,11 @@ use lib.ListN.{getD}
 use Rattle.state_tables.specs.declared.States.{States}
 use Rattle.line.specs.Line.{Line}
 use Rattle.line.specs.Changes.{apply, applyAll}
-use Rattle.machine.specs.Pass.{passFrom}
+use Rattle.machine.specs.Machine.{Bounded}
 use Rattle.machine.proofs.Stalls.{stall-falls}
-use Rattle.machine.proofs.Turns.{Counts, enough-turns}
-use Rattle.rearrangement.specs.Rearrangement.{fresh, changesOf, next, machine, rest, passedBy}
+use Rattle.machine.proofs.Turns.{Counts, bounded}
+use Rattle.rearrangement.specs.Rearrangement.{changesOf, next}
+use Rattle.rearrangement.specs.Calls.{rearrangement}
 use Rattle.rearrangement.specs.declared.RearrangementState.{RearrangementState}
 use Rattle.rearrangement.specs.declared.Window.{Window}
 use Rattle.rearrangement.specs.declared.Window.the-variants as Window′
@@ -25,8 +26,7 @@ unfolding applyAll apply
 used-kept Window′.None l = refl
 used-kept (Window′.At first last verb) l = refl
 
-counts : (classes : ℕ → ℕ) (bytes : List ℕ) (states : States) → Counts (machine classes bytes states) Sound rest
-unfolding machine
+counts : (classes : ℕ → ℕ) (bytes : List ℕ) (states : States) → Counts (rearrangement .step classes bytes states) Sound (rearrangement .rest)
 counts classes bytes states =
     record {
       some = λ s l i ok. omega (arith, ok);
@@ -44,8 +44,5 @@ counts classes bytes states =
           );
     }
 
-pub rearrangement-turns : (classes : ℕ → ℕ) (bytes : List ℕ) (states : States) (l : Line) (more : ℕ)
-    → passFrom (machine classes bytes states) (more + rest fresh l 0) fresh l 0 ≡ passedBy classes bytes states l
-unfolding passedBy
-rearrangement-turns classes bytes states l more =
-    enough-turns (machine classes bytes states) Sound rest (counts classes bytes states) more (rest fresh l 0) fresh l 0 (omega arith) (omega arith)
+pub rearrangement-turns : (l : Line) → Bounded rearrangement l
+rearrangement-turns l = bounded rearrangement Sound counts l (omega arith)

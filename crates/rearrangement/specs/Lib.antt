@@ -1,4 +1,3 @@
 -- The rearrangement machine.
 pub mod Rearrangement
 pub mod Calls
-pub mod Work

@@ -20,8 +20,11 @@ ghost use Rattle.line.specs.Changes.{applyAll};
 ghost use Rattle.state_tables.specs.Classes.{classOf};
 ghost use Rattle.state_tables.specs.Opened.{classBy, LiesIn, Remembers};
 ghost use Rattle.machine.specs.Pass.{Passed};
-ghost use Rattle.rearrangement.specs.Rearrangement.{fresh, markAfter, windowOf, acted, next, changesOf, passed, worked, passCall, callLeaves, unmoved, stepTests, stepCall};
-ghost use Rattle.rearrangement.specs.Work.{passedLeaves, workLeaves};
+ghost use Rattle.rearrangement.specs.Rearrangement.{fresh, markAfter, windowOf, acted, next, changesOf, unmoved};
+ghost use Rattle.rearrangement.specs.Calls.{stateTests, rearrangement, lengthTests, stepCall};
+ghost use Rattle.machine.specs.Call.{stepTests};
+ghost use Rattle.machine.specs.Machine.{passed, subtableOf, passCall, callLeaves};
+ghost use Rattle.machine.specs.Work.{passedLeaves, workLeaves};
 
 // The state of a pass: the state table's state, the marked window, and how many steps in a row did not advance.
 pub struct RearrangementState {
@@ -82,9 +85,6 @@ impl RearrangementState {
 
     pub const MOST_CYCLES: u16 = 17;
 
-    // The glyph of the end call.
-    pub const END: u16 = 0xFFFF;
-
     // The state at the start of a pass.
     pub fn new() -> RearrangementState
         ensures { λ r. ⌜ r ≡ fresh ⌝ }
@@ -99,7 +99,7 @@ impl RearrangementState {
 
     // The tests before a lone step: TABLE, LINE, PLACE, STATE, HEAD.
     fn refuse(self, table_length: usize, used: usize, index: usize, made: Made) -> Check
-        ensures { λ r. ⌜ r ≡ refuse (stepTests «table_length» used index self made) ⌝ }
+        ensures { λ r. ⌜ r ≡ refuse (stepTests «table_length» (lengthTests used) used index (stateTests self used) made) ⌝ }
     {
         if let Check::Refused(why) = answers::refuse_table(table_length) {
             return Check::Refused(why);
@@ -246,9 +246,9 @@ fn pass_line(
     used: usize,
 ) -> Answer
     requires { ⌜ (used ≤ length (now glyphs)) × (used ≤ length (now tags)) × (used ≤ roomLimit) ⌝ }
-    ensures answer { λ r. ⌜ r ≡ passed (now (bytes .entry)) states (lineOf (now (glyphs .entry)) (now (tags .entry)) (now (homes .entry)) used) .answer ⌝ }
-    ensures glyphs { λ _. ⌜ now (glyphs .exit) ≡ passedLeaves (now (bytes .entry)) states (lineOf (now (glyphs .entry)) (now (tags .entry)) (now (homes .entry)) used) .glyphs ⌝ }
-    ensures tags { λ _. ⌜ now (tags .exit) ≡ passedLeaves (now (bytes .entry)) states (lineOf (now (glyphs .entry)) (now (tags .entry)) (now (homes .entry)) used) .tags ⌝ }
+    ensures answer { λ r. ⌜ r ≡ passed rearrangement (now (bytes .entry)) states (lineOf (now (glyphs .entry)) (now (tags .entry)) (now (homes .entry)) used) .answer ⌝ }
+    ensures glyphs { λ _. ⌜ now (glyphs .exit) ≡ passedLeaves rearrangement (now (bytes .entry)) states (lineOf (now (glyphs .entry)) (now (tags .entry)) (now (homes .entry)) used) .glyphs ⌝ }
+    ensures tags { λ _. ⌜ now (tags .exit) ≡ passedLeaves rearrangement (now (bytes .entry)) states (lineOf (now (glyphs .entry)) (now (tags .entry)) (now (homes .entry)) used) .tags ⌝ }
 {
     let opened = opened::open(bytes, states);
     let mut memo = opened::nothing_found();
@@ -271,7 +271,7 @@ fn pass_line(
         }
         place += 1;
     }
-    let step = state.next(bytes, states, used, RearrangementState::END, true);
+    let step = state.next(bytes, states, used, machine::END, true);
     let window = step.edit;
     edit(glyphs, tags, homes, used, window);
     step.answer
@@ -286,9 +286,9 @@ pub fn work(
     used: usize,
 ) -> Answer
     requires { ⌜ (used ≤ length (now glyphs)) × (used ≤ length (now tags)) × (used ≤ roomLimit) ⌝ }
-    ensures answer { λ r. ⌜ r ≡ worked (now (bytes .entry)) (lineOf (now (glyphs .entry)) (now (tags .entry)) (now (homes .entry)) used) .answer ⌝ }
-    ensures glyphs { λ _. ⌜ now (glyphs .exit) ≡ workLeaves (now (bytes .entry)) (lineOf (now (glyphs .entry)) (now (tags .entry)) (now (homes .entry)) used) .glyphs ⌝ }
-    ensures tags { λ _. ⌜ now (tags .exit) ≡ workLeaves (now (bytes .entry)) (lineOf (now (glyphs .entry)) (now (tags .entry)) (now (homes .entry)) used) .tags ⌝ }
+    ensures answer { λ r. ⌜ r ≡ subtableOf rearrangement .worked (now (bytes .entry)) (lineOf (now (glyphs .entry)) (now (tags .entry)) (now (homes .entry)) used) .answer ⌝ }
+    ensures glyphs { λ _. ⌜ now (glyphs .exit) ≡ workLeaves (subtableOf rearrangement) (now (bytes .entry)) (lineOf (now (glyphs .entry)) (now (tags .entry)) (now (homes .entry)) used) .glyphs ⌝ }
+    ensures tags { λ _. ⌜ now (tags .exit) ≡ workLeaves (subtableOf rearrangement) (now (bytes .entry)) (lineOf (now (glyphs .entry)) (now (tags .entry)) (now (homes .entry)) used) .tags ⌝ }
 {
     let Made::Ready(states) = machine::open(bytes, RearrangementState::KIND) else {
         return Answer::Refused(Refusal::Head);
@@ -305,9 +305,9 @@ pub fn pass(
     homes: &[u16],
     used: usize,
 ) -> Answer
-    ensures answer { λ r. ⌜ r ≡ passCall (now (table .entry)) start (lineOf (now (glyphs .entry)) (now (tags .entry)) (now (homes .entry)) used) .answer ⌝ }
-    ensures glyphs { λ _. ⌜ now (glyphs .exit) ≡ callLeaves (now (table .entry)) start (lineOf (now (glyphs .entry)) (now (tags .entry)) (now (homes .entry)) used) .glyphs ⌝ }
-    ensures tags { λ _. ⌜ now (tags .exit) ≡ callLeaves (now (table .entry)) start (lineOf (now (glyphs .entry)) (now (tags .entry)) (now (homes .entry)) used) .tags ⌝ }
+    ensures answer { λ r. ⌜ r ≡ passCall (subtableOf rearrangement) (now (table .entry)) start (lineOf (now (glyphs .entry)) (now (tags .entry)) (now (homes .entry)) used) .answer ⌝ }
+    ensures glyphs { λ _. ⌜ now (glyphs .exit) ≡ callLeaves (subtableOf rearrangement) (now (table .entry)) start (lineOf (now (glyphs .entry)) (now (tags .entry)) (now (homes .entry)) used) .glyphs ⌝ }
+    ensures tags { λ _. ⌜ now (tags .exit) ≡ callLeaves (subtableOf rearrangement) (now (table .entry)) start (lineOf (now (glyphs .entry)) (now (tags .entry)) (now (homes .entry)) used) .tags ⌝ }
 {
     let bytes = parse::from(table, start);
     let made = machine::open(bytes, RearrangementState::KIND);
@@ -317,7 +317,7 @@ pub fn pass(
         tags,
         homes,
         used,
-        made,
+        machine::is_ready(made),
     ) {
         return Answer::Refused(why);
     }

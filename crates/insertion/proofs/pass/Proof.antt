@@ -1,8 +1,11 @@
-use mathlib.Core.Path.{sym, _∙_}
-use Rattle.machine.proofs.Calls.{taken-line}
-use Rattle.insertion.specs.Calls.{callLeaves}
-use Rattle.insertion.specs.Work.{workLeaves}
-use Rattle.insertion.proofs.Calls.{call-refused, call-works}
+use mathlib.Core.Path.{sym, _∙_, ap}
+use Rattle.line.specs.Line.{Line, lineOf}
+use Rattle.line.specs.Changes.{applyAll}
+use Rattle.machine.specs.Call.{isReady}
+use Rattle.machine.specs.Machine.{subtableOf, callLeaves}
+use Rattle.machine.specs.Work.{workLeaves}
+use Rattle.machine.proofs.Calls.{call-refused, call-works, taken-line, same-answer, same-left}
+use Rattle.insertion.specs.Calls.{insertion}
 use borrow.Author.Needs.{needs}
 use Rattle.insertion.proofs.pass.Statement.{statement}
 use Rattle.insertion.proofs.pass.Tie as tie
@@ -12,6 +15,9 @@ from-requires c κs = search needs
 
 open-requires : tie.Need-open-requires
 open-requires c κs = search needs
+
+is-ready-requires : tie.Need-is-ready-requires
+is-ready-requires c κs = search needs
 
 refuse-pass-requires : tie.Need-refuse-pass-requires
 refuse-pass-requires c κs = search needs
@@ -26,14 +32,16 @@ same-length-2 : tie.Need-same-length-2
 same-length-2 c = search needs
 
 returns : tie.Need-returns
-unfolding callLeaves workLeaves
+unfolding callLeaves applyAll
 returns c =
     let at-why = c .before in
     let at-refuse-pass = at-why .before .before in
-    let at-open = at-refuse-pass .before in
+    let at-is-ready = at-refuse-pass .before in
+    let at-open = at-is-ready .before in
+    let opens = at-is-ready .is-ready .ensures ∙ ap isReady (at-open .«open» .ensures) in
     let at-from = at-open .before .before .before in
-    let e = call-refused _ _ _ (at-from .from .ensures) (at-open .«open» .ensures) (at-refuse-pass .refuse-pass .ensures) (at-why .why .given .1) in
-    (e .answers, (e .left .used-left, (e .left .glyphs-left, e .left .tags-left)))
+    let e = call-refused (subtableOf insertion) _ _ (lineOf _ _ _ _) (at-from .from .ensures) opens (at-refuse-pass .refuse-pass .ensures) (at-why .why .given .1) in
+    (same-answer e, (same-left (λ (l : Line). l .used) (lineOf _ _ _ _) e, (same-left (λ (l : Line). l .glyphs) (lineOf _ _ _ _) e, same-left (λ (l : Line). l .tags) (lineOf _ _ _ _) e)))
 
 enum-told : tie.Need-enum-told
 enum-told c = search needs
@@ -53,10 +61,13 @@ returns-2 c =
     let at-work = c .before .before .before .before in
     let at-enum-told = at-work .before .before .before in
     let at-refuse-pass = at-enum-told .before .before in
-    let at-open = at-refuse-pass .before in
+    let at-is-ready = at-refuse-pass .before in
+    let at-open = at-is-ready .before in
+    let opens = at-is-ready .is-ready .ensures ∙ ap isReady (at-open .«open» .ensures) in
     let at-from = at-open .before .before .before in
-    let e = call-works _ _ _ (at-from .from .ensures) (at-open .«open» .ensures) (at-refuse-pass .refuse-pass .ensures) (at-enum-told .enum-told .given .1) (record { answers = at-work .work .ensures .0; left = record { glyphs-left = at-work .work .ensures .1 .1 .0; tags-left = at-work .work .ensures .1 .1 .1; used-left = at-work .work .ensures .1 .0 } }) in
-    (e .answers, (e .left .used-left, (e .left .glyphs-left, e .left .tags-left)))
+    let e = call-works (subtableOf insertion) _ _ (lineOf _ _ _ _) (at-from .from .ensures) opens (at-refuse-pass .refuse-pass .ensures) (at-enum-told .enum-told .given .1) in
+    let r = at-work .work .ensures in
+    (r .0 ∙ same-answer e, (r .1 .0 ∙ same-left (λ (l : Line). l .used) (lineOf _ _ _ _) e, (r .1 .1 .0 ∙ same-left (λ (l : Line). l .glyphs) (lineOf _ _ _ _) e, r .1 .1 .1 ∙ same-left (λ (l : Line). l .tags) (lineOf _ _ _ _) e)))
 
 pub pass-spec : {M : Type 1} → statement M
 pass-spec =
@@ -64,6 +75,7 @@ pass-spec =
     (tie.spec
     from-requires
     open-requires
+    is-ready-requires
     refuse-pass-requires
     enum-known-why
     same-length

@@ -2,7 +2,7 @@ use mathlib.Core.Path.{ap}
 use native.Mathlib.Omega.{arith}
 use borrow.Author.Needs.{needs}
 use Rattle.line.specs.Line.{lineOf}
-use Rattle.ligature.specs.Work.{passedLeaves}
+use Rattle.machine.specs.Work.{passedLeaves}
 use Rattle.ligature.specs.declared.LigatureState.{LigatureState}
 use Rattle.ligature.proofs.Passes.{pass-ends}
 use Rattle.ligature.proofs.pass_line.Statement.{statement}

@@ -2,6 +2,10 @@ use Rattle.machine.proofs.Calls.{pass-table, pass-line, pass-head, pass
 use borrow.Author.Needs.{needs}
 use Rattle.machine.proofs.refuse_pass.Statement.{statement}
 use Rattle.machine.proofs.refuse_pass.Tie as tie
+use Rattle.machine.proofs.refuse_pass.Reads as reads
+use Rattle.machine.proofs.refuse_pass.Lts as lts
+use Rattle.answers.proofs.refuse_table.Reads as refuse-table-reads
+use Rattle.line.proofs.valid.takes.Reads as takes-reads
 
 refuse-table-requires : tie.Need-refuse-table-requires
 refuse-table-requires c κs = search needs
@@ -21,14 +25,8 @@ takes-requires c κs = search needs
 returns-2 : tie.Need-returns-2
 returns-2 c = search pass-line
 
-enum-told-2 : tie.Need-enum-told-2
-enum-told-2 c = search needs
-
 returns-3 : tie.Need-returns-3
 returns-3 c = search pass-head
-
-enum-told-3 : tie.Need-enum-told-3
-enum-told-3 c = search needs
 
 returns-4 : tie.Need-returns-4
 returns-4 c = search pass-all
@@ -43,7 +41,5 @@ refuse-pass-spec =
     enum-told
     takes-requires
     returns-2
-    enum-told-2
     returns-3
-    enum-told-3
     returns-4)

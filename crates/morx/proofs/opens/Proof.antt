@@ -1,4 +1,4 @@
-use Rattle.morx.specs.Kinds.{isOpen}
+use Rattle.morx.specs.Kinds.{subtableOfKind}
 use borrow.Author.Needs.{needs}
 use Rattle.morx.proofs.opens.Statement.{statement}
 use Rattle.morx.proofs.opens.Tie as tie
@@ -13,8 +13,8 @@ is-ready-requires : tie.Need-is-ready-requires
 is-ready-requires c κs = search needs
 
 returns : tie.Need-returns
-unfolding isOpen
-returns c = rw (c .before .before .enum-told .given .1, c .is-ready .ensures, c .before .«open» .ensures, isOpen)
+unfolding subtableOfKind
+returns c = rw (c .before .before .enum-told .given .1, c .is-ready .ensures, c .before .«open» .ensures, subtableOfKind)
 
 enum-told-2 : tie.Need-enum-told-2
 enum-told-2 c = search needs
@@ -26,8 +26,8 @@ is-ready-requires-2 : tie.Need-is-ready-requires-2
 is-ready-requires-2 c κs = search needs
 
 returns-2 : tie.Need-returns-2
-unfolding isOpen
-returns-2 c = rw (c .before .before .enum-told2 .given .1, c .is-ready2 .ensures, c .before .open2 .ensures, isOpen)
+unfolding subtableOfKind
+returns-2 c = rw (c .before .before .enum-told2 .given .1, c .is-ready2 .ensures, c .before .open2 .ensures, subtableOfKind)
 
 enum-told-3 : tie.Need-enum-told-3
 enum-told-3 c = search needs
@@ -39,8 +39,8 @@ is-ready-requires-3 : tie.Need-is-ready-requires-3
 is-ready-requires-3 c κs = search needs
 
 returns-3 : tie.Need-returns-3
-unfolding isOpen
-returns-3 c = rw (c .before .before .enum-told3 .given .1, c .is-ready3 .ensures, c .before .open3 .ensures, isOpen)
+unfolding subtableOfKind
+returns-3 c = rw (c .before .before .enum-told3 .given .1, c .is-ready3 .ensures, c .before .open3 .ensures, subtableOfKind)
 
 enum-told-4 : tie.Need-enum-told-4
 enum-told-4 c = search needs
@@ -49,8 +49,8 @@ has-kind-requires : tie.Need-has-kind-requires
 has-kind-requires c κs = search needs
 
 returns-4 : tie.Need-returns-4
-unfolding isOpen
-returns-4 c = rw (c .before .enum-told4 .given .1, c .has-kind .ensures, isOpen)
+unfolding subtableOfKind
+returns-4 c = rw (c .before .enum-told4 .given .1, c .has-kind .ensures, subtableOfKind)
 
 enum-told-5 : tie.Need-enum-told-5
 enum-told-5 c = search needs
@@ -62,15 +62,15 @@ is-ready-requires-4 : tie.Need-is-ready-requires-4
 is-ready-requires-4 c κs = search needs
 
 returns-5 : tie.Need-returns-5
-unfolding isOpen
-returns-5 c = rw (c .before .before .enum-told5 .given .1, c .is-ready4 .ensures, c .before .open4 .ensures, isOpen)
+unfolding subtableOfKind
+returns-5 c = rw (c .before .before .enum-told5 .given .1, c .is-ready4 .ensures, c .before .open4 .ensures, subtableOfKind)
 
 enum-told-6 : tie.Need-enum-told-6
 enum-told-6 c = search needs
 
 returns-6 : tie.Need-returns-6
-unfolding isOpen
-returns-6 c = rw (c .enum-told6 .given .1, isOpen)
+unfolding subtableOfKind
+returns-6 c = rw (c .enum-told6 .given .1, subtableOfKind)
 
 pub opens-spec : {M : Type 1} → statement M
 opens-spec =

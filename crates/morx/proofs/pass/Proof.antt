@@ -1,7 +1,8 @@
 use Rattle.line.specs.Line.{lineOf}
-use Rattle.morx.specs.Kinds.{worked}
-use Rattle.morx.specs.Work.{workLeaves}
-use Rattle.morx.specs.Calls.{passCall, passLeaves}
+use Rattle.morx.specs.Kinds.{subtableOfKind}
+use Rattle.machine.specs.Work.{workLeaves}
+use Rattle.machine.specs.Machine.{passCall, callLeaves}
+use Rattle.morx.specs.Kinds.{anySubtable}
 use Rattle.morx.proofs.Leaves.{to-post, of-post}
 use Rattle.morx.proofs.Calls.{taken-valid, pass-refused, pass-worked}
 use borrow.Author.Needs.{needs}
@@ -24,8 +25,8 @@ same-length-3 : tie.Need-same-length-3
 same-length-3 c = search needs
 
 returns : tie.Need-returns
-unfolding passLeaves
-returns c = to-post (passCall _ _ (lineOf _ _ _ _)) (lineOf _ _ _ _) _ _ _ _ (pass-refused _ _ (lineOf _ _ _ _) (c .before .before .before .refuse-line .ensures) (c .before .why .given .1))
+unfolding callLeaves
+returns c = to-post (passCall anySubtable _ _ (lineOf _ _ _ _)) (lineOf _ _ _ _) _ _ _ _ (pass-refused _ _ (lineOf _ _ _ _) (c .before .before .before .refuse-line .ensures) (c .before .why .given .1))
 
 enum-told : tie.Need-enum-told
 enum-told c = search needs
@@ -52,14 +53,14 @@ same-length-6 : tie.Need-same-length-6
 same-length-6 c = search needs
 
 returns-2 : tie.Need-returns-2
-unfolding passLeaves workLeaves
+unfolding callLeaves workLeaves
 returns-2 c =
     let at-work = c .before .before .before .before .before .before in
     let at-kind-at = at-work .before .before .before .before in
     let at-from = at-kind-at .before in
     let at-enum-told = at-from .before in
     let at-refuse-line = at-enum-told .before .before in
-    to-post (passCall _ _ (lineOf _ _ _ _)) (lineOf _ _ _ _) _ _ _ _ (pass-worked _ _ (lineOf _ _ _ _) (at-refuse-line .refuse-line .ensures) (at-enum-told .enum-told .given .1) (at-from .from .ensures) (at-kind-at .kind-at .ensures) (of-post (worked _ _ (lineOf _ _ _ _)) (lineOf _ _ _ _) _ _ _ _ (at-work .work .ensures)))
+    to-post (passCall anySubtable _ _ (lineOf _ _ _ _)) (lineOf _ _ _ _) _ _ _ _ (pass-worked _ _ (lineOf _ _ _ _) (at-refuse-line .refuse-line .ensures) (at-enum-told .enum-told .given .1) (at-from .from .ensures) (at-kind-at .kind-at .ensures) (of-post (subtableOfKind _ .worked _ (lineOf _ _ _ _)) (lineOf _ _ _ _) _ _ _ _ (at-work .work .ensures)))
 
 pub pass-spec : {M : Type 1} → statement M
 pass-spec =

@@ -1,9 +1,10 @@
 use mathlib.Core.Bool.{true}
 use borrow.Author.Tests.{not-true, not-false}
 use Rattle.line.specs.Line.{lineOf}
-use Rattle.morx.specs.Kinds.{worked}
+use Rattle.morx.specs.Kinds.{subtableOfKind}
 use Rattle.morx.specs.Run.{turnedWork}
-use Rattle.morx.specs.Work.{workLeaves, turnedLeaves}
+use Rattle.machine.specs.Work.{workLeaves}
+use Rattle.morx.specs.Work.{turnedLeaves}
 use Rattle.morx.proofs.Leaves.{to-post, of-post, valid-line, fits-tags}
 use Rattle.morx.proofs.Visits.{straight, turned-valid, worked-valid, turned-back}
 use borrow.Author.Needs.{needs}
@@ -27,7 +28,7 @@ unfolding turnedLeaves workLeaves
 returns c =
     let at-work = c .before .before .before .before .before .before in
     let at-if1 = at-work .before .before .before .before in
-    to-post (turnedWork _ _ _ (lineOf _ _ _ _)) (lineOf _ _ _ _) _ _ _ _ (straight _ _ _ _ _ _ _ (not-true _ (at-if1 .if1 .taken)) (of-post (worked _ _ (lineOf _ _ _ _)) (lineOf _ _ _ _) _ _ _ _ (at-work .work .ensures)))
+    to-post (turnedWork _ _ _ (lineOf _ _ _ _)) (lineOf _ _ _ _) _ _ _ _ (straight _ _ _ _ _ _ _ (not-true _ (at-if1 .if1 .taken)) (of-post (subtableOfKind _ .worked _ (lineOf _ _ _ _)) (lineOf _ _ _ _) _ _ _ _ (at-work .work .ensures)))
 
 reverse-requires : tie.Need-reverse-requires
 reverse-requires c κs =
@@ -47,7 +48,7 @@ turn-back-requires c κs =
     let at-work2 = c .before .before .before .before .before .before .before .before in
     let at-reverse = at-work2 .before .before .before .before .before .before .before .before in
     let start = at-reverse .before .before .before .before .before .before .before .before in
-    let v = valid-line (worked-valid true _ _ _ _ _ _ (start .pre) (at-reverse .reverse .ensures .0) (at-reverse .reverse .ensures .1) (of-post (worked _ _ (lineOf _ _ _ _)) (lineOf _ _ _ _) _ _ _ _ (at-work2 .work2 .ensures))) in
+    let v = valid-line (worked-valid true _ _ _ _ _ _ (start .pre) (at-reverse .reverse .ensures .0) (at-reverse .reverse .ensures .1) (of-post (subtableOfKind _ .worked _ (lineOf _ _ _ _)) (lineOf _ _ _ _) _ _ _ _ (at-work2 .work2 .ensures))) in
     (v .within, fits-tags v)
 
 same-length-4 : tie.Need-same-length-4
@@ -67,7 +68,7 @@ returns-2 c =
     let at-reverse = at-work2 .before .before .before .before .before .before .before .before in
     let at-if1 = at-reverse .before .before .before in
     let start = at-if1 .before .before .before .before .before in
-    to-post (turnedWork _ _ _ (lineOf _ _ _ _)) (lineOf _ _ _ _) _ _ _ _ (turned-back _ _ _ _ _ _ _ (start .pre) (at-reverse .reverse .ensures .0) (at-reverse .reverse .ensures .1) (of-post (worked _ _ (lineOf _ _ _ _)) (lineOf _ _ _ _) _ _ _ _ (at-work2 .work2 .ensures)) (not-false _ (at-if1 .if1 .left)) (at-turn-back .turn-back .ensures .0) (at-turn-back .turn-back .ensures .1))
+    to-post (turnedWork _ _ _ (lineOf _ _ _ _)) (lineOf _ _ _ _) _ _ _ _ (turned-back _ _ _ _ _ _ _ (start .pre) (at-reverse .reverse .ensures .0) (at-reverse .reverse .ensures .1) (of-post (subtableOfKind _ .worked _ (lineOf _ _ _ _)) (lineOf _ _ _ _) _ _ _ _ (at-work2 .work2 .ensures)) (not-false _ (at-if1 .if1 .left)) (at-turn-back .turn-back .ensures .0) (at-turn-back .turn-back .ensures .1))
 
 pub turn-and-work-spec : {M : Type 1} → statement M
 turn-and-work-spec =

@@ -1,7 +1,7 @@
 use native.Mathlib.Omega.{arith}
 use Rattle.line.specs.Line.{lineOf}
-use Rattle.morx.specs.Kinds.{worked}
-use Rattle.morx.specs.Work.{workLeaves}
+use Rattle.morx.specs.Kinds.{subtableOfKind}
+use Rattle.machine.specs.Work.{workLeaves}
 use Rattle.morx.proofs.Leaves.{to-post, valid-line, fits-tags}
 use Rattle.morx.proofs.Machines.{by-rearrangement, by-contextual, by-ligature, by-noncontextual, by-insertion, by-none}
 use borrow.Author.Needs.{needs}
@@ -31,7 +31,7 @@ unfolding workLeaves
 returns c =
     let at-work = c .before .before .before .before in
     let at-enum-told = at-work .before .before .before .before in
-    to-post (worked _ _ (lineOf _ _ _ _)) (lineOf _ _ _ _) _ _ _ _ (by-rearrangement _ _ _ _ _ _ (at-enum-told .enum-told .given .1) (at-work .work .ensures .0) (at-work .work .ensures .1 .0) (at-work .work .ensures .1 .1))
+    to-post (subtableOfKind _ .worked _ (lineOf _ _ _ _)) (lineOf _ _ _ _) _ _ _ _ (by-rearrangement _ _ _ _ _ _ (at-enum-told .enum-told .given .1) (at-work .work .ensures .0) (at-work .work .ensures .1 .0) (at-work .work .ensures .1 .1))
 
 enum-told-2 : tie.Need-enum-told-2
 enum-told-2 c = search needs
@@ -55,7 +55,7 @@ unfolding workLeaves
 returns-2 c =
     let at-work2 = c .before .before in
     let at-enum-told2 = at-work2 .before .before .before .before in
-    to-post (worked _ _ (lineOf _ _ _ _)) (lineOf _ _ _ _) _ _ _ _ (by-contextual _ _ _ _ _ _ (at-enum-told2 .enum-told2 .given .1) (at-work2 .work2 .ensures .0) (at-work2 .work2 .ensures .1))
+    to-post (subtableOfKind _ .worked _ (lineOf _ _ _ _)) (lineOf _ _ _ _) _ _ _ _ (by-contextual _ _ _ _ _ _ (at-enum-told2 .enum-told2 .given .1) (at-work2 .work2 .ensures .0) (at-work2 .work2 .ensures .1))
 
 enum-told-3 : tie.Need-enum-told-3
 enum-told-3 c = search needs
@@ -80,7 +80,7 @@ unfolding workLeaves
 returns-3 c =
     let at-work3 = c .before .before .before .before in
     let at-enum-told3 = at-work3 .before .before .before .before in
-    to-post (worked _ _ (lineOf _ _ _ _)) (lineOf _ _ _ _) _ _ _ _ (by-ligature _ _ _ _ _ _ (at-enum-told3 .enum-told3 .given .1) (at-work3 .work3 .ensures .0) (at-work3 .work3 .ensures .1 .0) (at-work3 .work3 .ensures .1 .1))
+    to-post (subtableOfKind _ .worked _ (lineOf _ _ _ _)) (lineOf _ _ _ _) _ _ _ _ (by-ligature _ _ _ _ _ _ (at-enum-told3 .enum-told3 .given .1) (at-work3 .work3 .ensures .0) (at-work3 .work3 .ensures .1 .0) (at-work3 .work3 .ensures .1 .1))
 
 enum-told-4 : tie.Need-enum-told-4
 enum-told-4 c = search needs
@@ -104,7 +104,7 @@ unfolding workLeaves
 returns-4 c =
     let at-work4 = c .before .before in
     let at-enum-told4 = at-work4 .before .before .before .before in
-    to-post (worked _ _ (lineOf _ _ _ _)) (lineOf _ _ _ _) _ _ _ _ (by-noncontextual _ _ _ _ _ _ (at-enum-told4 .enum-told4 .given .1) (at-work4 .work4 .ensures .0) (at-work4 .work4 .ensures .1))
+    to-post (subtableOfKind _ .worked _ (lineOf _ _ _ _)) (lineOf _ _ _ _) _ _ _ _ (by-noncontextual _ _ _ _ _ _ (at-enum-told4 .enum-told4 .given .1) (at-work4 .work4 .ensures .0) (at-work4 .work4 .ensures .1))
 
 enum-told-5 : tie.Need-enum-told-5
 enum-told-5 c = search needs
@@ -129,14 +129,14 @@ unfolding workLeaves
 returns-5 c =
     let at-work5 = c .before .before .before .before in
     let at-enum-told5 = at-work5 .before .before .before .before in
-    to-post (worked _ _ (lineOf _ _ _ _)) (lineOf _ _ _ _) _ _ _ _ (by-insertion _ _ _ _ _ _ (at-enum-told5 .enum-told5 .given .1) (at-work5 .work5 .ensures .0) (at-work5 .work5 .ensures .1 .0) (at-work5 .work5 .ensures .1 .1 .0) (at-work5 .work5 .ensures .1 .1 .1))
+    to-post (subtableOfKind _ .worked _ (lineOf _ _ _ _)) (lineOf _ _ _ _) _ _ _ _ (by-insertion _ _ _ _ _ _ (at-enum-told5 .enum-told5 .given .1) (at-work5 .work5 .ensures .0) (at-work5 .work5 .ensures .1 .0) (at-work5 .work5 .ensures .1 .1 .0) (at-work5 .work5 .ensures .1 .1 .1))
 
 enum-told-6 : tie.Need-enum-told-6
 enum-told-6 c = search needs
 
 returns-6 : tie.Need-returns-6
 unfolding workLeaves
-returns-6 c = to-post (worked _ _ (lineOf _ _ _ _)) (lineOf _ _ _ _) _ _ _ _ (by-none _ _ _ _ _ _ (c .enum-told6 .given .1))
+returns-6 c = to-post (subtableOfKind _ .worked _ (lineOf _ _ _ _)) (lineOf _ _ _ _) _ _ _ _ (by-none _ _ _ _ _ _ (c .enum-told6 .given .1))
 
 pub work-spec : {M : Type 1} → statement M
 work-spec =

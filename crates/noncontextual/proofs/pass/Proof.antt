@@ -1,15 +1,23 @@
-use Rattle.noncontextual.proofs.Calls.{call-refused, call-works, passed-fits}
-use Rattle.noncontextual.specs.NonContextual.{callLeaves}
-use Rattle.line.specs.Line.{lineOf}
 use borrow.Author.Needs.{needs}
+use mathlib.Core.Path.{sym, _∙_}
+use Rattle.line.specs.Line.{Line, lineOf}
+use Rattle.line.specs.Changes.{applyAll}
+use Rattle.machine.specs.Machine.{callLeaves}
+use Rattle.machine.specs.Work.{workLeaves}
+use Rattle.machine.proofs.Calls.{call-refused, call-works, taken-line, same-answer, same-left}
+use Rattle.noncontextual.specs.NonContextual.{noncontextual}
 use Rattle.noncontextual.proofs.pass.Statement.{statement}
 use Rattle.noncontextual.proofs.pass.Tie as tie
-use Rattle.noncontextual.proofs.refuse_pass.Reads as refuse-pass-reads
+use Rattle.machine.proofs.has_kind.Reads as has-kind-reads
+use Rattle.machine.proofs.refuse_pass.Reads as refuse-pass-reads
 use Rattle.noncontextual.proofs.work.Reads as work-reads
 use Rattle.parse.proofs.from.Reads as from-reads
 
 from-requires : tie.Need-from-requires
 from-requires c κs = search needs
+
+has-kind-requires : tie.Need-has-kind-requires
+has-kind-requires c κs = search needs
 
 refuse-pass-requires : tie.Need-refuse-pass-requires
 refuse-pass-requires c κs = search needs
@@ -21,38 +29,41 @@ same-length : tie.Need-same-length
 same-length c = search needs
 
 returns : tie.Need-returns
-unfolding callLeaves
+unfolding callLeaves applyAll
 returns c =
     let at-why = c .before in
     let at-refuse-pass = at-why .before .before in
-    let at-from = at-refuse-pass .before .before in
-    let e = call-refused _ _ (lineOf _ _ _ _) (at-from .from .ensures) (at-refuse-pass .refuse-pass .ensures) (at-why .why .given .1) in
-    (e .answers, e .left)
+    let at-has-kind = at-refuse-pass .before .before in
+    let at-from = at-has-kind .before in
+    let e = call-refused noncontextual _ _ (lineOf _ _ _ _) (at-from .from .ensures) (at-has-kind .has-kind .ensures) (at-refuse-pass .refuse-pass .ensures) (at-why .why .given .1) in
+    (same-answer e, same-left (λ (l : Line). l .glyphs) (lineOf _ _ _ _) e)
 
 enum-told : tie.Need-enum-told
 enum-told c = search needs
 
 work-requires : tie.Need-work-requires
-work-requires c κs = passed-fits _ _ _ _ _ _ (c .before .before .before .refuse-pass .ensures) (c .before .enum-told .given .1)
+work-requires c κs = taken-line _ _ _ (sym (c .before .before .before .refuse-pass .ensures) ∙ c .before .enum-told .given .1) .within
 
 same-length-2 : tie.Need-same-length-2
 same-length-2 c = search needs
 
 returns-2 : tie.Need-returns-2
-unfolding callLeaves
+unfolding callLeaves workLeaves
 returns-2 c =
     let at-work = c .before .before in
     let at-enum-told = at-work .before .before in
     let at-refuse-pass = at-enum-told .before .before in
-    let at-from = at-refuse-pass .before .before in
-    let e = call-works _ _ (lineOf _ _ _ _) (at-from .from .ensures) (at-refuse-pass .refuse-pass .ensures) (at-enum-told .enum-told .given .1) (at-work .work .ensures .0) (at-work .work .ensures .1) in
-    (e .answers, e .left)
+    let at-has-kind = at-refuse-pass .before .before in
+    let at-from = at-has-kind .before in
+    let e = call-works noncontextual _ _ (lineOf _ _ _ _) (at-from .from .ensures) (at-has-kind .has-kind .ensures) (at-refuse-pass .refuse-pass .ensures) (at-enum-told .enum-told .given .1) in
+    (at-work .work .ensures .0 ∙ same-answer e, at-work .work .ensures .1 ∙ same-left (λ (l : Line). l .glyphs) (lineOf _ _ _ _) e)
 
 pub pass-spec : {M : Type 1} → statement M
 pass-spec =
     tie.close
     (tie.spec
     from-requires
+    has-kind-requires
     refuse-pass-requires
     enum-known-why
     same-length

@@ -1,6 +1,8 @@
 use Rattle.noncontextual.proofs.Calls.{work-headless, work-passed}
-use Rattle.noncontextual.specs.Work.{workLeaves}
-use Rattle.line.specs.Line.{lineOf}
+use Rattle.line.specs.Changes.{applyAll}
+use Rattle.machine.specs.Work.{workLeaves}
+use Rattle.machine.proofs.Calls.{same-answer, same-left}
+use Rattle.line.specs.Line.{Line, lineOf}
 use borrow.Author.Needs.{needs}
 use Rattle.noncontextual.proofs.work.Statement.{statement}
 use Rattle.noncontextual.proofs.work.Tie as tie
@@ -12,8 +14,10 @@ has-kind-requires : tie.Need-has-kind-requires
 has-kind-requires c κs = search needs
 
 returns : tie.Need-returns
-unfolding workLeaves
-returns c = let e = work-headless _ (lineOf _ _ _ _) (c .before .has-kind .ensures) (c .if1 .taken) in (e .answers, e .left)
+unfolding workLeaves applyAll
+returns c =
+    let e = work-headless _ (lineOf _ _ _ _) (c .before .has-kind .ensures) (c .if1 .taken) in
+    (same-answer e, same-left (λ (l : Line). l .glyphs) (lineOf _ _ _ _) e)
 
 from-requires : tie.Need-from-requires
 from-requires c κs = search needs
@@ -25,14 +29,11 @@ same-length : tie.Need-same-length
 same-length c = search needs
 
 returns-2 : tie.Need-returns-2
-unfolding workLeaves
 returns-2 c =
     let at-pass-line = c .before .before in
     let at-from = at-pass-line .before .before in
     let at-if1 = at-from .before in
-    let at-has-kind = at-if1 .before in
-    let e = work-passed _ (lineOf _ _ _ _) (at-has-kind .has-kind .ensures) (at-if1 .if1 .left) (at-from .from .ensures) (at-pass-line .pass-line .ensures) in
-    (e .answers, e .left)
+    work-passed _ (lineOf _ _ _ _) (at-if1 .before .has-kind .ensures) (at-if1 .if1 .left) (at-from .from .ensures) (at-pass-line .pass-line .ensures)
 
 pub work-spec : {M : Type 1} → statement M
 work-spec =

@@ -1,6 +1,9 @@
-use Rattle.rearrangement.specs.Work.{workLeaves}
-use Rattle.rearrangement.proofs.Calls.{work-headless, work-passed}
-use Rattle.line.specs.Line.{lineOf}
+use mathlib.Core.Path.{_∙_}
+use Rattle.line.specs.Line.{Line, lineOf}
+use Rattle.line.specs.Changes.{applyAll}
+use Rattle.machine.specs.Work.{workLeaves, passedLeaves}
+use Rattle.machine.proofs.Calls.{work-headless, work-passed, same-answer, same-left}
+use Rattle.rearrangement.specs.Calls.{rearrangement}
 use borrow.Author.Needs.{needs}
 use Rattle.rearrangement.proofs.work.Statement.{statement}
 use Rattle.rearrangement.proofs.work.Tie as tie
@@ -18,8 +21,10 @@ enum-told : tie.Need-enum-told
 enum-told c = search needs
 
 returns : tie.Need-returns
-unfolding workLeaves
-returns c = let e = work-headless _ (lineOf _ _ _ _) (c .before .before .«open» .ensures) (c .enum-told .given .1) in (e .answers, (e .glyphs-left, e .tags-left))
+unfolding workLeaves applyAll
+returns c =
+    let e = work-headless rearrangement _ (lineOf _ _ _ _) (c .before .before .«open» .ensures) (c .enum-told .given .1) in
+    (same-answer e, (same-left (λ (l : Line). l .glyphs) (lineOf _ _ _ _) e, same-left (λ (l : Line). l .tags) (lineOf _ _ _ _) e))
 
 from-requires : tie.Need-from-requires
 from-requires c κs = search needs
@@ -34,14 +39,15 @@ same-length-2 : tie.Need-same-length-2
 same-length-2 c = search needs
 
 returns-2 : tie.Need-returns-2
-unfolding workLeaves
+unfolding workLeaves passedLeaves
 returns-2 c =
     let at-pass-line = c .before .before .before .before in
     let at-from = at-pass-line .before .before .before in
     let at-states = at-from .before .before in
     let at-open = at-states .before .before in
-    let e = work-passed _ (lineOf _ _ _ _) (at-open .«open» .ensures) (at-states .states .given .1) (at-from .from .ensures) (at-pass-line .pass-line .ensures .0) (at-pass-line .pass-line .ensures .1 .0) (at-pass-line .pass-line .ensures .1 .1) in
-    (e .answers, (e .glyphs-left, e .tags-left))
+    let e = work-passed rearrangement _ (lineOf _ _ _ _) (at-open .«open» .ensures) (at-states .states .given .1) (at-from .from .ensures) in
+    let r = at-pass-line .pass-line .ensures in
+    (r .0 ∙ same-answer e, (r .1 .0 ∙ same-left (λ (l : Line). l .glyphs) (lineOf _ _ _ _) e, r .1 .1 ∙ same-left (λ (l : Line). l .tags) (lineOf _ _ _ _) e))
 
 pub work-spec : {M : Type 1} → statement M
 work-spec =

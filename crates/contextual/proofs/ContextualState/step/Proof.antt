@@ -1,6 +1,8 @@
 use native.Mathlib.Omega.{arith}
 use borrow.Author.Needs.{needs}
-use Rattle.contextual.proofs.Calls.{step-fits, step-inside, step-refused, step-headless, step-worked}
+use mathlib.Core.Path.{sym, _∙_}
+use Rattle.machine.proofs.Calls.{stepped-line, stepped-inside}
+use Rattle.contextual.proofs.Calls.{step-refused, step-headless, step-worked}
 use Rattle.contextual.proofs.ContextualState.step.Statement.{statement}
 use Rattle.contextual.proofs.ContextualState.step.Tie as tie
 
@@ -25,8 +27,7 @@ returns c =
     let at-refuse-step = at-why .before .before in
     let at-open = at-refuse-step .before .before in
     let at-from = at-open .before in
-    let e = step-refused _ _ _ _ _ _ _ _ _ _ (at-from .from .ensures) (at-open .«open» .ensures) (at-refuse-step .refuse-step .ensures) (at-why .why .given .1) in
-    (e .answers, e .left)
+    step-refused _ _ _ _ _ _ _ _ _ _ (at-from .from .ensures) (at-open .«open» .ensures) (at-refuse-step .refuse-step .ensures) (at-why .why .given .1)
 
 enum-told : tie.Need-enum-told
 enum-told c = search needs
@@ -46,8 +47,7 @@ returns-2 c =
     let at-refuse-step = at-enum-told .before .before in
     let at-open = at-refuse-step .before .before in
     let at-from = at-open .before in
-    let e = step-headless _ _ _ _ _ _ _ _ _ _ (at-from .from .ensures) (at-open .«open» .ensures) (at-refuse-step .refuse-step .ensures) (at-enum-told .enum-told .given .1) (c .enum-told2 .given .1) in
-    (e .answers, e .left)
+    step-headless _ _ _ _ _ _ _ _ _ _ (at-from .from .ensures) (at-open .«open» .ensures) (at-refuse-step .refuse-step .ensures) (at-enum-told .enum-told .given .1) (c .enum-told2 .given .1)
 
 from-requires-2 : tie.Need-from-requires-2
 from-requires-2 c κs = search needs
@@ -56,9 +56,8 @@ run-requires : tie.Need-run-requires
 run-requires c κs =
     let at-enum-told = c .before .before .before .before .before in
     let at-refuse-step = at-enum-told .before .before in
-    let tested = at-refuse-step .refuse-step .ensures in
-    let passed = at-enum-told .enum-told .given .1 in
-    (step-fits _ _ _ _ _ _ _ _ tested passed, omega (arith, step-inside _ _ _ _ _ tested passed))
+    let passed = sym (at-refuse-step .refuse-step .ensures) ∙ at-enum-told .enum-told .given .1 in
+    (stepped-line _ _ _ _ _ passed .within, omega (arith, stepped-inside _ _ _ _ _ passed))
 
 same-length-3 : tie.Need-same-length-3
 same-length-3 c = search needs
@@ -72,8 +71,7 @@ returns-3 c =
     let at-refuse-step = at-enum-told .before .before in
     let at-open = at-refuse-step .before .before in
     let at-from = at-open .before in
-    let e = step-worked _ _ _ _ _ _ _ _ _ _ (at-from .from .ensures) (at-open .«open» .ensures) (at-refuse-step .refuse-step .ensures) (at-enum-told .enum-told .given .1) (at-made .made .given .1) (at-from2 .from2 .ensures) (at-run .run .ensures .0) (at-run .run .ensures .1) in
-    (e .answers, e .left)
+    step-worked _ _ _ _ _ _ _ _ _ _ (at-from .from .ensures) (at-open .«open» .ensures) (at-refuse-step .refuse-step .ensures) (at-enum-told .enum-told .given .1) (at-made .made .given .1) (at-from2 .from2 .ensures) (at-run .run .ensures .0) (at-run .run .ensures .1)
 
 pub step-spec : {M : Type 1} → statement M
 step-spec =

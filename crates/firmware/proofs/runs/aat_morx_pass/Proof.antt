@@ -1,5 +1,5 @@
 use Rattle.morx.specs.declared.PassReply.{PassReply}
-use Rattle.morx.specs.Calls.{passLeaves}
+use Rattle.machine.specs.Machine.{callLeaves}
 use Rattle.answers.specs.Numbers.{numberOf}
 use mathlib.Core.Path.{_∙_, ap}
 use borrow.Author.Needs.{needs}
@@ -24,7 +24,7 @@ same-length-3 : tie.Need-same-length-3
 same-length-3 c = search needs
 
 returns : tie.Need-returns
-unfolding passLeaves
+unfolding callLeaves
 returns c =
     let at-pass = c .before .before .before .before .before .before .before in
     let e = at-pass .pass .ensures in

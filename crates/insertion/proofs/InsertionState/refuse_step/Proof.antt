@@ -1,6 +1,7 @@
 use mathlib.Core.Path.{sym, _∙_}
 use borrow.Author.Tests.{lt-ltb, le-ltb}
-use Rattle.insertion.proofs.Steps.{step-table, past-table}
+use Rattle.machine.proofs.Calls.{table-refused}
+use Rattle.insertion.proofs.Steps.{past-table}
 use borrow.Author.Needs.{needs}
 use Rattle.insertion.proofs.InsertionState.refuse_step.Statement.{statement}
 use Rattle.insertion.proofs.InsertionState.refuse_step.Tie as tie
@@ -12,7 +13,7 @@ enum-known-why : tie.Need-enum-known-why
 enum-known-why c = search needs
 
 returns : tie.Need-returns
-returns c = step-table _ _ _ _ _ _ (c .before .before .before .refuse-table .ensures) (c .before .why .given .1)
+returns c = table-refused _ _ _ _ _ _ (c .before .before .before .refuse-table .ensures) (c .before .why .given .1)
 
 enum-told : tie.Need-enum-told
 enum-told c = search needs

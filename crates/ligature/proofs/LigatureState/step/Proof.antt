@@ -1,3 +1,5 @@
+use mathlib.Core.Path.{sym, _∙_}
+use Rattle.line.specs.Line.{lineOf}
 use Rattle.ligature.proofs.Calls.{step-fits, step-refused, step-headless, step-worked}
 use Rattle.ligature.proofs.Passes.{step-reaches}
 use borrow.Author.Needs.{needs}
@@ -28,8 +30,7 @@ returns c =
     let at-refuse-step = at-why .before .before in
     let at-open = at-refuse-step .before .before .before in
     let at-from = at-open .before in
-    let e = step-refused _ _ _ _ _ _ _ _ _ _ (at-from .from .ensures) (at-open .«open» .ensures) (at-refuse-step .refuse-step .ensures) (at-why .why .given .1) in
-    (e .answers, (e .left, e .joined))
+    step-refused _ _ _ _ _ _ _ _ _ _ (at-from .from .ensures) (at-open .«open» .ensures) (at-refuse-step .refuse-step .ensures) (at-why .why .given .1)
 
 enum-told : tie.Need-enum-told
 enum-told c = search needs
@@ -52,8 +53,7 @@ returns-2 c =
     let at-refuse-step = at-enum-told .before .before in
     let at-open = at-refuse-step .before .before .before in
     let at-from = at-open .before in
-    let e = step-headless _ _ _ _ _ _ _ _ _ _ (at-from .from .ensures) (at-open .«open» .ensures) (at-refuse-step .refuse-step .ensures) (at-enum-told .enum-told .given .1) (c .enum-told2 .given .1) in
-    (e .answers, (e .left, e .joined))
+    step-headless _ _ _ _ _ _ _ _ _ _ (at-from .from .ensures) (at-open .«open» .ensures) (at-refuse-step .refuse-step .ensures) (at-enum-told .enum-told .given .1) (c .enum-told2 .given .1)
 
 from-requires-2 : tie.Need-from-requires-2
 from-requires-2 c κs = search needs
@@ -62,7 +62,7 @@ run-requires : tie.Need-run-requires
 run-requires c κs =
     let at-enum-told = c .before .before .before .before .before .before .before .before .before .before in
     let at-refuse-step = at-enum-told .before .before in
-    step-fits _ _ _ _ _ _ _ _ (at-refuse-step .refuse-step .ensures) (at-enum-told .enum-told .given .1)
+    step-fits _ (lineOf _ _ _ _) _ _ _ (sym (at-refuse-step .refuse-step .ensures) ∙ at-enum-told .enum-told .given .1)
 
 advance-of-requires : tie.Need-advance-of-requires
 advance-of-requires c κs = search needs
@@ -82,8 +82,7 @@ returns-3 c =
     let at-refuse-step = at-enum-told .before .before in
     let at-open = at-refuse-step .before .before .before in
     let at-from = at-open .before in
-    let e = step-worked _ _ _ _ _ _ _ _ _ _ (at-from .from .ensures) (at-open .«open» .ensures) (at-refuse-step .refuse-step .ensures) (at-enum-told .enum-told .given .1) (at-made .made .given .1) (at-from2 .from2 .ensures) (step-reaches _ _ _ _ _ _ _ _ (record { answers = at-run .run .ensures .0; placed = at-run .run .ensures .1 .0; stored = at-run .run .ensures .1 .1 .0; written = at-run .run .ensures .1 .1 .1 .0; joined = at-run .run .ensures .1 .1 .1 .1 })) (c .advance-of .ensures) in
-    (e .answers, (e .left, e .joined))
+    step-worked _ _ _ _ _ _ _ _ _ _ (at-from .from .ensures) (at-open .«open» .ensures) (at-refuse-step .refuse-step .ensures) (at-enum-told .enum-told .given .1) (at-made .made .given .1) (at-from2 .from2 .ensures) (step-reaches _ _ _ _ _ _ _ _ (record { answers = at-run .run .ensures .0; placed = at-run .run .ensures .1 .0; stored = at-run .run .ensures .1 .1 .0; written = at-run .run .ensures .1 .1 .1 .0; joined = at-run .run .ensures .1 .1 .1 .1 })) (c .advance-of .ensures)
 
 pub step-spec : {M : Type 1} → statement M
 step-spec =

@@ -1,5 +1,6 @@
 use mathlib.Core.Path.{sym, _∙_}
-use Rattle.rearrangement.specs.Rearrangement.{stepCall}
+use Rattle.machine.proofs.Calls.{step-refused, step-headless, step-made}
+use Rattle.rearrangement.specs.Calls.{stepCall}
 use borrow.Author.Needs.{needs}
 use Rattle.rearrangement.proofs.RearrangementState.step.Statement.{statement}
 use Rattle.rearrangement.proofs.RearrangementState.step.Tie as tie
@@ -26,7 +27,7 @@ returns c =
     let at-refuse = at-why .before .before in
     let at-open = at-refuse .before in
     let at-from = at-open .before in
-    rw (← (at-from .from .ensures), ← (at-open .«open» .ensures), sym (at-refuse .refuse .ensures) ∙ at-why .why .given .1, c .unmoved .ensures, stepCall)
+    c .unmoved .ensures ∙ sym (step-refused _ _ _ _ _ _ _ _ _ (at-from .from .ensures) (at-open .«open» .ensures) (at-refuse .refuse .ensures) (at-why .why .given .1))
 
 enum-told : tie.Need-enum-told
 enum-told c = search needs
@@ -48,7 +49,7 @@ returns-2 c =
     let at-refuse = at-enum-told .before .before in
     let at-open = at-refuse .before in
     let at-from = at-open .before in
-    rw (← (at-from .from .ensures), ← (at-open .«open» .ensures), sym (at-refuse .refuse .ensures) ∙ at-enum-told .enum-told .given .1, at-enum-told2 .enum-told2 .given .1, c .unmoved2 .ensures, stepCall)
+    c .unmoved2 .ensures ∙ sym (step-headless _ _ _ _ _ _ _ _ _ (at-from .from .ensures) (at-open .«open» .ensures) (at-refuse .refuse .ensures) (at-enum-told .enum-told .given .1) (at-enum-told2 .enum-told2 .given .1))
 
 from-requires-2 : tie.Need-from-requires-2
 from-requires-2 c κs = search needs
@@ -65,7 +66,7 @@ returns-3 c =
     let at-refuse = at-enum-told .before .before in
     let at-open = at-refuse .before in
     let at-from = at-open .before in
-    rw (← (at-from .from .ensures), ← (at-open .«open» .ensures), sym (at-refuse .refuse .ensures) ∙ at-enum-told .enum-told .given .1, at-made .made .given .1, c .next .ensures, at-from2 .from2 .ensures, stepCall)
+    c .next .ensures ∙ sym (step-made _ _ _ _ _ _ _ _ _ (at-from .from .ensures) (at-open .«open» .ensures) (at-refuse .refuse .ensures) (at-enum-told .enum-told .given .1) (at-made .made .given .1) (at-from2 .from2 .ensures))
 
 pub step-spec : {M : Type 1} → statement M
 step-spec =

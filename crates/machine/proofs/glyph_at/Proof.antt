@@ -1,8 +1,8 @@
 use borrow.Author.Tests.{lt-ltb, le-ltb}
 use borrow.Author.Needs.{needs}
-use Rattle.contextual.specs.Work.{glyphAt}
-use Rattle.contextual.proofs.glyph_at.Statement.{statement}
-use Rattle.contextual.proofs.glyph_at.Tie as tie
+use Rattle.machine.specs.Work.{glyphAt}
+use Rattle.machine.proofs.glyph_at.Statement.{statement}
+use Rattle.machine.proofs.glyph_at.Tie as tie
 
 mul-result : tie.Need-mul-result
 mul-result c = search needs
