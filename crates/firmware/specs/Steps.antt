@@ -116,29 +116,39 @@ editSlots Inserted′.None (Inserted′.At place count glyphs) = 1 ∷ place ∷
 editSlots (Inserted′.At place count glyphs) (Inserted′.At place₂ count₂ glyphs₂) =
     2 ∷ place ∷ count ∷ glyphs ∷ place₂ ∷ count₂ ∷ glyphs₂ ∷ []
 
+-- a ligature's state crosses as the state table's, the depth, 32 places and 32 glyphs
+abbrev pub slotCount : ℕ
+slotCount = 32
+
+abbrev pub placesBegin : ℕ
+placesBegin = 2
+
+abbrev pub glyphsBegin : ℕ
+glyphsBegin = placesBegin + slotCount
+
 -- more slots are used than there are
 abbrev pub noLigature : LigatureState
-noLigature = record { state = 0; places = tab (λ slot. 0) 32; glyphs = tab (λ slot. 0) 32; depth = 0xFFFF }
+noLigature = record { state = 0; places = tab (λ slot. 0) slotCount; glyphs = tab (λ slot. 0) slotCount; depth = 0xFFFF }
 
--- the numbers of 32 slots from some place on
+-- the numbers of all slots from some place on
 unfoldable pub slotsFrom : List ℕ → (from : ℕ) → List ℕ
-slotsFrom slots from = tab (λ slot. getD slots (from + slot) 0) 32
+slotsFrom slots from = tab (λ slot. getD slots (from + slot) 0) slotCount
 
 -- none of them is wider than a glyph
 unfoldable pub areGlyphs : List ℕ → (from : ℕ) → Bool
-areGlyphs slots from = every (λ slot. ltb (getD slots (from + slot) 0) 0x10000) 32
+areGlyphs slots from = every (λ slot. ltb (getD slots (from + slot) 0) 0x10000) slotCount
 
--- state, depth, 32 places, 32 glyphs
 unfoldable pub ligatureFrom : List ℕ → LigatureState
 ligatureFrom slots =
     ifLt 0xFFFF (getD slots 0 0) noLigature
-    (cond (areGlyphs slots 34)
-    (record { state = getD slots 0 0; places = slotsFrom slots 2; glyphs = slotsFrom slots 34; depth = getD slots 1 0 })
+    (cond (areGlyphs slots glyphsBegin)
+    (record { state = getD slots 0 0; places = slotsFrom slots placesBegin; glyphs = slotsFrom slots glyphsBegin; depth = getD slots 1 0 })
     noLigature)
 
 -- what was lent, with the state, the depth, the places and the glyphs written over it
 unfoldable pub ligatureSlots : List ℕ → LigatureState → List ℕ
-ligatureSlots was s = paste (paste (set (set was 0 (s .state)) 1 (s .depth)) 2 (s .places) 32) 34 (s .glyphs) 32
+ligatureSlots was s =
+    paste (paste (set (set was 0 (s .state)) 1 (s .depth)) placesBegin (s .places) slotCount) glyphsBegin (s .glyphs) slotCount
 
 -- the step from the state that the numbers say, and the line that it leaves
 unfoldable pub ligatureStepped : List ℕ → (start : ℕ) → (slots : List ℕ) → Line → (index glyph ends : ℕ) → Stepped LigatureState

@@ -9,7 +9,7 @@ use rearrangement::Window;
 ghost use mathlib.Core.Path.{_≡_};
 ghost use Rattle.answers.specs.Numbers.{numberOf};
 ghost use Rattle.line.specs.Line.{lineOf};
-ghost use Rattle.firmware.specs.Steps.{isRefused, unlessRefused, noRearrangement, rearrangementFrom, rearrangementSlots, windowSlots, rearrangementStepped, flagNumber, noContext, contextualFrom, contextualSlots, contextualStepped, contextualLeaves, noInsertion, insertionFrom, insertionSlots, insertionStepped, editSlots, noLigature, slotsFrom, areGlyphs, ligatureFrom, ligatureSlots, ligatureStepped, ligatureLeaves};
+ghost use Rattle.firmware.specs.Steps.{isRefused, unlessRefused, noRearrangement, rearrangementFrom, rearrangementSlots, windowSlots, rearrangementStepped, flagNumber, noContext, contextualFrom, contextualSlots, contextualStepped, contextualLeaves, noInsertion, insertionFrom, insertionSlots, insertionStepped, editSlots, slotCount, placesBegin, glyphsBegin, noLigature, slotsFrom, areGlyphs, ligatureFrom, ligatureSlots, ligatureStepped, ligatureLeaves};
 ghost use Prim.Native.Nat.{_+_, _≤_};
 ghost use mathlib.Core.Bool.{true};
 ghost use lib.ListN.{length};
@@ -17,6 +17,15 @@ ghost use lib.Seq.{paste};
 
 // The largest number of a 16-bit field.
 pub const WIDEST: u64 = 0xFFFF;
+
+// The slots of a ligature's stack, and its state as numbers: the state table's, the depth, so many places, so many glyphs.
+const SLOTS: usize = LigatureState::DEPTH;
+
+const PLACES: usize = 2;
+
+const GLYPHS: usize = PLACES + SLOTS;
+
+const NUMBERS: usize = GLYPHS + SLOTS;
 
 // Whether an answer is a refusal.
 pub fn is_refused(answer: Answer) -> bool
@@ -321,19 +330,19 @@ fn no_ligature() -> LigatureState
 {
     LigatureState {
         state: 0,
-        places: [0; 32],
-        glyphs: [0; 32],
+        places: [0; SLOTS],
+        glyphs: [0; SLOTS],
         depth: 0xFFFF,
     }
 }
 
-// Whether 32 numbers from some place on are no wider than a glyph.
-fn are_glyphs(slots: &[u64; 66], from: usize) -> bool
-    requires { ⌜ from ≤ 34 ⌝ }
+// Whether as many numbers as there are slots, from some place on, are no wider than a glyph.
+fn are_glyphs(slots: &[u64; NUMBERS], from: usize) -> bool
+    requires { ⌜ from ≤ glyphsBegin ⌝ }
     ensures { λ r. ⌜ r ≡ areGlyphs (now (slots .entry)) from ⌝ }
 {
     let mut slot = 0;
-    while slot < 32 {
+    while slot < SLOTS {
         if WIDEST < slots[from + slot] {
             return false;
         }
@@ -342,42 +351,42 @@ fn are_glyphs(slots: &[u64; 66], from: usize) -> bool
     true
 }
 
-// The 32 places from slot 2 on.
-fn places_from(slots: &[u64; 66]) -> [usize; 32]
-    ensures { λ r. ⌜ r ≡ slotsFrom (now (slots .entry)) 2 ⌝ }
+// The places.
+fn places_from(slots: &[u64; NUMBERS]) -> [usize; SLOTS]
+    ensures { λ r. ⌜ r ≡ slotsFrom (now (slots .entry)) placesBegin ⌝ }
 {
-    let mut places = [0; 32];
+    let mut places = [0; SLOTS];
     let mut slot = 0;
-    while slot < 32 {
-        places[slot] = slots[2 + slot] as usize;
+    while slot < SLOTS {
+        places[slot] = slots[PLACES + slot] as usize;
         slot += 1;
     }
     places
 }
 
-// The 32 glyphs from slot 34 on.
-fn glyphs_from(slots: &[u64; 66]) -> [u16; 32]
-    requires { ⌜ areGlyphs (now slots) 34 ≡ true ⌝ }
-    ensures { λ r. ⌜ r ≡ slotsFrom (now (slots .entry)) 34 ⌝ }
+// The glyphs.
+fn glyphs_from(slots: &[u64; NUMBERS]) -> [u16; SLOTS]
+    requires { ⌜ areGlyphs (now slots) glyphsBegin ≡ true ⌝ }
+    ensures { λ r. ⌜ r ≡ slotsFrom (now (slots .entry)) glyphsBegin ⌝ }
 {
-    let mut glyphs = [0; 32];
+    let mut glyphs = [0; SLOTS];
     let mut slot = 0;
-    while slot < 32 {
-        glyphs[slot] = slots[34 + slot] as u16;
+    while slot < SLOTS {
+        glyphs[slot] = slots[GLYPHS + slot] as u16;
         slot += 1;
     }
     glyphs
 }
 
-// The state that 66 numbers say: state, depth, 32 places, 32 glyphs.
-fn ligature_from(slots: &[u64; 66]) -> LigatureState
+// The state that numbers say.
+fn ligature_from(slots: &[u64; NUMBERS]) -> LigatureState
     ensures { λ r. ⌜ r ≡ ligatureFrom (now (slots .entry)) ⌝ }
 {
     let state = slots[0];
     if WIDEST < state {
         return no_ligature();
     }
-    if !are_glyphs(slots, 34) {
+    if !are_glyphs(slots, GLYPHS) {
         return no_ligature();
     }
     LigatureState {
@@ -388,13 +397,13 @@ fn ligature_from(slots: &[u64; 66]) -> LigatureState
     }
 }
 
-// Writes 32 places, or 32 glyphs, into the slots from some place on.
+// Writes the places, or the glyphs, from some number on.
 fn put_places(slots: &mut [u64], from: usize, places: &[usize])
-    requires { ⌜ (from + 32 ≤ length (now slots)) × (length (now places) ≡ 32) ⌝ }
-    ensures { λ _. ⌜ now (slots .exit) ≡ paste (now (slots .entry)) from (now (places .entry)) 32 ⌝ }
+    requires { ⌜ (from + slotCount ≤ length (now slots)) × (length (now places) ≡ slotCount) ⌝ }
+    ensures { λ _. ⌜ now (slots .exit) ≡ paste (now (slots .entry)) from (now (places .entry)) slotCount ⌝ }
 {
     let mut slot = 0;
-    while slot < 32 {
+    while slot < SLOTS {
         slots[from + slot] = places[slot] as u64;
         slot += 1;
     }
@@ -407,32 +416,32 @@ fn wide(glyph: u16) -> u64
 }
 
 fn put_glyphs(slots: &mut [u64], from: usize, glyphs: &[u16])
-    requires { ⌜ (from + 32 ≤ length (now slots)) × (length (now glyphs) ≡ 32) ⌝ }
-    ensures { λ _. ⌜ now (slots .exit) ≡ paste (now (slots .entry)) from (now (glyphs .entry)) 32 ⌝ }
+    requires { ⌜ (from + slotCount ≤ length (now slots)) × (length (now glyphs) ≡ slotCount) ⌝ }
+    ensures { λ _. ⌜ now (slots .exit) ≡ paste (now (slots .entry)) from (now (glyphs .entry)) slotCount ⌝ }
 {
     let mut slot = 0;
-    while slot < 32 {
+    while slot < SLOTS {
         slots[from + slot] = wide(glyphs[slot]);
         slot += 1;
     }
 }
 
-// The numbers of a state: state, depth, 32 places, 32 glyphs.
-fn put_ligature(slots: &mut [u64; 66], state: LigatureState)
+// The numbers of a state.
+fn put_ligature(slots: &mut [u64; NUMBERS], state: LigatureState)
     ensures { λ _. ⌜ now (slots .exit) ≡ ligatureSlots (now (slots .entry)) state ⌝ }
 {
     slots[0] = state.state as u64;
     slots[1] = state.depth as u64;
     let places = state.places;
     let glyphs = state.glyphs;
-    put_places(slots, 2, &places);
-    put_glyphs(slots, 34, &glyphs);
+    put_places(slots, PLACES, &places);
+    put_glyphs(slots, GLYPHS, &glyphs);
 }
 
 // A lone step of the ligature machine.
 #[no_mangle]
 pub extern "C" fn aat_ligature_step(
-    state: &mut [u64; 66],
+    state: &mut [u64; NUMBERS],
     table: &[u8],
     start: usize,
     glyphs: &mut [u16],

@@ -65,7 +65,7 @@ pub fn class_at(bytes: &[u8], states: States, glyph: u16, ends: bool) -> u16
 }
 
 // The glyph of the end call.
-pub const END: u16 = 0xFFFF;
+pub const END: u16 = state_tables::classes::DELETED_GLYPH;
 
 // The glyph that a step at this place is told: the place's own, or the end call's.
 pub fn glyph_at(glyphs: &[u16], used: usize, place: usize) -> u16
