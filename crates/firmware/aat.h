@@ -7,7 +7,7 @@
    - On the answers from AAT_NOTHING to AAT_HEAD everything that was lent stays as it was. What an entry writes otherwise stands
      under "Writes"; all else stays as it was on every answer. Nothing is kept between calls.
    - table, table_len, start: the bytes of a font table, or of a whole font, and the byte of it where the entry's own table,
-     subtable (its head included) or state table begins. Longer than AAT_LONGEST_TABLE is AAT_TABLE.
+     subtable (its head included), state table or list of glyphs begins. Longer than AAT_LONGEST_TABLE is AAT_TABLE.
    - glyph 0xFFFF is a deleted glyph. Flags told as uint32_t are set where they are not 0.
    - Where several of AAT_TABLE to AAT_HEAD apply, the answer is the one with the smallest number. */
 
@@ -29,7 +29,7 @@ typedef __SIZE_TYPE__ size_t;
 #endif
 
 /* Rises with every entry or value that is added; what is there stays. */
-#define AAT_VERSION 1
+#define AAT_VERSION 2
 
 #ifdef __cplusplus
 extern "C" {
@@ -40,11 +40,11 @@ enum aat_answer {
     AAT_NOTHING = 1, /* nothing was found */
     AAT_TABLE = 2,   /* the table is longer than AAT_LONGEST_TABLE */
     AAT_LINE = 3,    /* the lent lengths, tags or homes are not a line's, or its room is above AAT_LARGEST_ROOM */
-    AAT_PLACE = 4,   /* the window's start is above its end or above the used length, or a step's index is above the length */
+    AAT_PLACE = 4,   /* a window's start is above its end or above used, or a step's index or a place is above used */
     AAT_STATE = 5,   /* the state lent to a step is none that its machine can have on this line */
     AAT_HEAD = 6,    /* the start is past the table, or no state table, or subtable of the kind, can be read there */
     AAT_FULL = 7,    /* the next insertion would make the line longer than its room; what was done before it stays */
-    AAT_ENDED = 8,   /* the step or pass broke off, for want of an entry, a list or a slot of the stack; what was done before stays */
+    AAT_ENDED = 8,   /* the work broke off, for want of an entry, a list or a slot of the stack; what was done before stays */
     AAT_LIMIT = 9,   /* a run has counted 65,535 heads and there is another; what was done before stays */
 };
 
@@ -149,6 +149,14 @@ uint32_t aat_fresh(const uint16_t *glyphs, size_t glyphs_len, uint16_t *tags, si
    Writes: glyphs and tags, which move together. */
 uint32_t aat_verb(uint16_t *glyphs, size_t glyphs_len, uint16_t *tags, size_t tags_len, const uint16_t *homes,
                   size_t homes_len, size_t used, uint16_t verb, size_t start, size_t end);
+
+/* Inserts count glyphs, which lie in the table from the byte start on, two bytes each, before the glyph at place, or behind
+   the last one where place equals used. So it makes what aat_insertion_step hands over.
+   Answers: AAT_DONE; AAT_TABLE, AAT_LINE, AAT_PLACE (place above used); AAT_ENDED (start or one of the glyphs is not in the
+   table); AAT_FULL (the line would be longer than its room), where it is not AAT_ENDED. All but AAT_DONE change nothing.
+   Writes: glyphs and tags, which move together, inserted ones with the tags from used up; used. */
+uint32_t aat_insert(const uint8_t *table, size_t table_len, size_t start, uint16_t count, uint16_t *glyphs, size_t glyphs_len,
+                    uint16_t *tags, size_t tags_len, const uint16_t *homes, size_t homes_len, size_t *used, size_t place);
 
 /* Passes: one morx subtable over the whole line
 
@@ -316,8 +324,8 @@ uint32_t aat_ligature_step(uint64_t state[AAT_LIGATURE_STATE], const uint8_t *ta
                            size_t used, size_t index, uint16_t glyph, uint32_t ends, size_t *advance);
 
 /* Insertion, on a line of used places in a room of room. AAT_FULL, too. state: the state table's, the mark, and the steps
-   in a row that did not advance. Writes, too: edits, what is to be put in: how many times (0, 1 or 2), then each time the
-   place, how many glyphs, and the byte of the table where they begin; the rest of it is 0. */
+   in a row that did not advance. Writes, too: edits, what aat_insert is to be called with: how many times (0, 1 or 2), then
+   each time the place, how many glyphs, and the byte of the table where they begin; the rest of it is 0. */
 uint32_t aat_insertion_step(uint64_t state[AAT_INSERTION_STATE], const uint8_t *table, size_t table_len, size_t start,
                             size_t used, size_t room, size_t index, uint16_t glyph, uint32_t ends, size_t *advance,
                             uint64_t edits[AAT_EDITS]);

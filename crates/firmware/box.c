@@ -53,6 +53,7 @@
       34 kerx_subtables        as 33                             as 33
       35 kern_next_subtable    cursor 3 x 8, fields 5 x 8        answer 4, cursor, fields
       36 kerx_next_subtable    as 35                             as 35
+      37 insert                as 8, then count 2, place 8       as 12
 
    A name is its length 4 and the bytes. Glyphs, tags and homes are each a count 4 and so many numbers 2, the adjustments along
    the line a count 4 and so many numbers 8; a reply has the numbers alone.
@@ -259,6 +260,14 @@ static void put_growing_pass(uint32_t answered) {
     put(used, 8);
 }
 
+static void insert(void) {
+    take_pass();
+    uint16_t count = (uint16_t)take(2);
+    size_t place = take(8);
+    put_growing_pass(aat_insert(table, table_len, start, count, glyphs.numbers, glyphs.len, tags.numbers, tags.len, homes.numbers,
+                                homes.len, &used, place));
+}
+
 static void morx_run(void) {
     take_pass();
     uint32_t right_to_left = (uint32_t)take(4);
@@ -451,6 +460,7 @@ static void answer(uint8_t call) {
     case 34: list(aat_kerx_subtables, 3); break;
     case 35: next(aat_kern_next_subtable, 3, 5); break;
     case 36: next(aat_kerx_next_subtable, 3, 5); break;
+    case 37: insert(); break;
     default: exit(1);
     }
 }

@@ -1,13 +1,15 @@
 /* Shapes a line and kerns it: the glyphs 3, 5 and 6 by a morx table, then by a kern table, which sets a 9 closer to the 7 before it.
+   Then puts glyphs behind the 3 by an insertion subtable, once by single steps and once by the pass, which leave the same line.
 
-   Both tables lie in one block, as in a font file, and each entry is told where its table begins. */
+   The tables lie in one block, as in a font file, and each entry is told where its table begins. */
 
 #include <stdio.h>
 #include <stdlib.h>
+#include <string.h>
 
 #include "aat.h"
 
-enum { ROOM = 16, CHARACTERS = 3, MORX = 4, KERN = 52 };
+enum { ROOM = 16, CHARACTERS = 3, MORX = 4, KERN = 52, INSERTION = 76 };
 
 static const uint8_t font[] = {
     0x00, 0x00, 0x00, 0x00,
@@ -23,6 +25,20 @@ static const uint8_t font[] = {
     0x00, 0x00, 0x00, 0x14, 0x00, 0x01,
     0x00, 0x01, 0x00, 0x06, 0x00, 0x00, 0x00, 0x00,
     0x00, 0x07, 0x00, 0x09, 0xFF, 0xF4,
+    /* INSERTION: a subtable of 70 bytes, kind 5, flags 1; 5 classes, and where its class table, states, entries and glyphs begin */
+    0x00, 0x00, 0x00, 0x46, 0x00, 0x00, 0x00, 0x05, 0x00, 0x00, 0x00, 0x01,
+    0x00, 0x00, 0x00, 0x05, 0x00, 0x00, 0x00, 0x14, 0x00, 0x00, 0x00, 0x1C, 0x00, 0x00, 0x00, 0x26, 0x00, 0x00, 0x00, 0x36,
+    /* the glyph 3 has class 4, for which state 0 has entry 1; that one puts two glyphs in behind the current one */
+    0x00, 0x08, 0x00, 0x03, 0x00, 0x01, 0x00, 0x04,
+    0x00, 0x00, 0x00, 0x00, 0x00, 0x00, 0x00, 0x00, 0x00, 0x01,
+    0x00, 0x00, 0x00, 0x00, 0xFF, 0xFF, 0xFF, 0xFF,
+    0x00, 0x00, 0x00, 0x40, 0x00, 0x00, 0xFF, 0xFF,
+    0x00, 0x1E, 0x00, 0x1F,
+};
+
+struct line {
+    uint16_t glyphs[ROOM], tags[ROOM], homes[CHARACTERS];
+    size_t used;
 };
 
 /* Gives up where an entry did not do all of its work. */
@@ -32,6 +48,52 @@ static void expect_done(uint32_t answer, const char *what)
         return;
     fprintf(stderr, "%s: answer %u\n", what, (unsigned)answer);
     exit(EXIT_FAILURE);
+}
+
+/* The insertion pass by single steps, each of which hands over what aat_insert then makes. */
+static void insert_by_steps(struct line *line)
+{
+    uint64_t state[AAT_INSERTION_STATE] = {0}, edits[AAT_EDITS];
+    size_t index = 0, advance = 0, edit;
+    uint32_t ends;
+
+    do {
+        ends = index == line->used;
+        expect_done(aat_insertion_step(state, font, sizeof font, INSERTION, line->used, ROOM, index,
+                                       ends ? AAT_DELETED : line->glyphs[index], ends, &advance, edits),
+                    "step");
+        for (edit = 0; edit < edits[AAT_EDITS_COUNT]; edit++) {
+            const uint64_t *made = edits + (edit == 0 ? AAT_EDITS_FIRST : AAT_EDITS_SECOND);
+            expect_done(aat_insert(font, sizeof font, made[AAT_EDIT_BYTE], (uint16_t)made[AAT_EDIT_GLYPHS], line->glyphs, ROOM,
+                                   line->tags, ROOM, line->homes, CHARACTERS, &line->used, made[AAT_EDIT_PLACE]),
+                        "insertion");
+        }
+        index += advance;
+    } while (!ends);
+}
+
+static int is_same(const struct line *one, const struct line *other)
+{
+    return one->used == other->used && memcmp(one->glyphs, other->glyphs, sizeof one->glyphs) == 0 &&
+           memcmp(one->tags, other->tags, sizeof one->tags) == 0 && memcmp(one->homes, other->homes, sizeof one->homes) == 0;
+}
+
+/* The same line by steps and by the pass. */
+static void insert_both_ways(void)
+{
+    struct line by_steps = {{3, 5, 6}, {0}, {0}, 0}, by_pass;
+    size_t place;
+
+    expect_done(aat_fresh(by_steps.glyphs, ROOM, by_steps.tags, ROOM, by_steps.homes, CHARACTERS, &by_steps.used), "fresh line");
+    by_pass = by_steps;
+    insert_by_steps(&by_steps);
+    expect_done(aat_insertion_pass(font, sizeof font, INSERTION, by_pass.glyphs, ROOM, by_pass.tags, ROOM, by_pass.homes, CHARACTERS,
+                                   &by_pass.used),
+                "insertion pass");
+    printf("by steps and by the pass %s:", is_same(&by_steps, &by_pass) ? "alike" : "DIFFERENT");
+    for (place = 0; place < by_steps.used; place++)
+        printf(" %u", by_steps.glyphs[place]);
+    printf("\n");
 }
 
 int main(void)
@@ -56,5 +118,6 @@ int main(void)
         for (place = 0; place < used; place++)
             if (tags[place] == homes[character])
                 printf("character %u is at place %u\n", (unsigned)character, (unsigned)place);
+    insert_both_ways();
     return EXIT_SUCCESS;
 }

@@ -8,6 +8,7 @@ pub mod kerning_runs;
 pub mod kerning_steps;
 pub mod language;
 pub mod lists;
+pub mod lone_insertion;
 pub mod lookup;
 pub mod passes;
 pub mod runs;
@@ -108,6 +109,7 @@ pub static PARTS: &[&dyn Part] = &[
     &kerning_steps::Steps(Kerx),
     &kerning_lists::Lists(Kerx),
     &kerning_runs::Runs(Kerx),
+    &lone_insertion::Insertions,
 ];
 
 /// The part that an entry belongs to.

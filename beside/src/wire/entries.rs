@@ -52,4 +52,5 @@ entries! {
     KerxSubtables "aat_kerx_subtables",
     KernNextSubtable "aat_kern_next_subtable",
     KerxNextSubtable "aat_kerx_next_subtable",
+    Insert "aat_insert",
 }

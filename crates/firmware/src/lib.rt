@@ -15,6 +15,7 @@ ghost use Rattle.rearrangement.specs.Calls.{rearrangement};
 ghost use Rattle.noncontextual.specs.NonContextual.{noncontextual};
 ghost use Rattle.contextual.specs.Calls.{contextual};
 ghost use Rattle.insertion.specs.Calls.{insertion};
+ghost use Rattle.insertion.specs.Lone.{insertCall, insertLeaves};
 ghost use Rattle.ligature.specs.Calls.{ligature};
 ghost use Rattle.firmware.specs.Survey.{surveyAnswer, verdictOf, badRecord};
 
@@ -153,6 +154,29 @@ pub extern "C" fn aat_verb(
     ensures tags { λ _. ⌜ now (tags .exit) ≡ verbCall (lineOf (now (glyphs .entry)) (now (tags .entry)) (now (homes .entry)) used) verb start end .line .tags ⌝ }
 {
     answers::number(line::lone_verb(glyphs, tags, homes, used, verb, start, end))
+}
+
+// Inserts glyphs that lie in the table from `start` on at a place of a line.
+#[no_mangle]
+pub extern "C" fn aat_insert(
+    table: &[u8],
+    start: usize,
+    count: u16,
+    glyphs: &mut [u16],
+    tags: &mut [u16],
+    homes: &[u16],
+    used: &mut usize,
+    place: usize,
+) -> u32
+    ensures answer { λ r. ⌜ r ≡ numberOf (insertCall (now (table .entry)) start count place (lineOf (now (glyphs .entry)) (now (tags .entry)) (now (homes .entry)) (now (used .entry))) .answer) ⌝ }
+    ensures glyphs { λ _. ⌜ now (glyphs .exit) ≡ insertLeaves (now (table .entry)) start count place (lineOf (now (glyphs .entry)) (now (tags .entry)) (now (homes .entry)) (now (used .entry))) .glyphs ⌝ }
+    ensures tags { λ _. ⌜ now (tags .exit) ≡ insertLeaves (now (table .entry)) start count place (lineOf (now (glyphs .entry)) (now (tags .entry)) (now (homes .entry)) (now (used .entry))) .tags ⌝ }
+    ensures used { λ _. ⌜ now (used .exit) ≡ insertLeaves (now (table .entry)) start count place (lineOf (now (glyphs .entry)) (now (tags .entry)) (now (homes .entry)) (now (used .entry))) .used ⌝ }
+{
+    let inserted = insertion::insert(table, start, count, glyphs, tags, homes, *used, place);
+    *used = inserted.used;
+    let answer = inserted.answer;
+    answers::number(answer)
 }
 
 // The rearrangement pass over a line, by the subtable at `start`.

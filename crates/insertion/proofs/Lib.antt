@@ -5,6 +5,7 @@ mod Edits
 mod Entries
 pub mod Passes
 mod Steps
+mod Lone
 pub mod Honesty
 pub mod Manual
 pub mod Turns

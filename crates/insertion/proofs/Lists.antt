@@ -19,7 +19,7 @@ use Rattle.parse.specs.declared.ReadU32.the-variants as U32
 use Rattle.parse.proofs.Laws.{inside-fits}
 use Rattle.line.specs.Changes.{glyphsOf}
 use Rattle.machine.specs.Pass.{isDone}
-use Rattle.insertion.specs.Lists.{glyphList, enteredBy, insertionOf, countOf, glyphsAt}
+use Rattle.insertion.specs.Lists.{listFrom, glyphList, enteredBy, insertionOf, countOf, glyphsAt}
 use Rattle.insertion.specs.Work.{endOf}
 use Rattle.insertion.specs.Insertion.{insertionPlace}
 use Rattle.insertion.specs.declared.Listed.{Listed}
@@ -35,24 +35,22 @@ pub data Lies (bytes : List ℕ) (count : ℕ) : Listed → Type 0 where
   short : Lies bytes count Listed′.Short
   here : (glyphs : ℕ) → glyphs + count * 2 ≤ length bytes → Lies bytes count (Listed′.At glyphs)
 
-pub list-lies : (bytes : List ℕ) (number count : ℕ) → Lies bytes count (glyphList bytes number count)
+pub lies-from : (bytes : List ℕ) (from count : ℕ) → Lies bytes count (listFrom bytes from count)
+lies-from bytes from count = go (inside bytes from (count * 2)) refl
+  where
+    go : (t : Bool) → inside bytes from (count * 2) ≡ t → Lies bytes count (cond t (Listed′.At from) Listed′.Short)
+    go true e = here from (inside-fits bytes from (count * 2) e)
+    go false e = short
+
+list-lies : (bytes : List ℕ) (number count : ℕ) → Lies bytes count (glyphList bytes number count)
 unfolding glyphList
 list-lies bytes number count = go (eqb number 0xFFFF) (readU32 bytes 16)
   where
-    at : (glyphs : ℕ) (t : Bool) → inside bytes (glyphs + number * 2) (count * 2) ≡ t
-        → Lies bytes count (cond t (Listed′.At (glyphs + number * 2)) Listed′.Short)
-    at glyphs true e = here (glyphs + number * 2) (inside-fits bytes (glyphs + number * 2) (count * 2) e)
-    at glyphs false e = short
-
     go : (t : Bool) (r : ReadU32)
-        → Lies bytes count
-        (cond t Listed′.None
-        (onU32 r
-        (λ glyphs. cond (inside bytes (glyphs + number * 2) (count * 2)) (Listed′.At (glyphs + number * 2)) Listed′.Short)
-        Listed′.Short))
+        → Lies bytes count (cond t Listed′.None (onU32 r (λ glyphs. listFrom bytes (glyphs + number * 2) count) Listed′.Short))
     go true r = none
     go false U32.Short = short
-    go false (U32.Got glyphs) = at glyphs (inside bytes (glyphs + number * 2) (count * 2)) refl
+    go false (U32.Got glyphs) = lies-from bytes (glyphs + number * 2) count
 
 -- an insertion whose glyphs lie in the bytes, and for which a line of this length has room
 pub record Fitting (bytes : List ℕ) (used room : ℕ) (edit : Inserted) : Type 0 where
@@ -67,7 +65,7 @@ pub data Tries (bytes : List ℕ) (used room : ℕ) : Tried → Type 0 where
   made : (edit : Inserted) → Fitting bytes used room edit → Tries bytes used room (Tried′.Made edit)
   over : (answer : Answer) → isDone answer ≡ false → Tries bytes used room (Tried′.Over answer)
 
-entered-tries : (bytes : List ℕ) {listed : Listed} (place count used room : ℕ) → used ≤ room → Lies bytes count listed
+pub entered-tries : (bytes : List ℕ) {listed : Listed} (place count used room : ℕ) → used ≤ room → Lies bytes count listed
     → Tries bytes used room (enteredBy listed place count used room)
 unfolding enteredBy
 entered-tries bytes place count used room h none = made Inserted′.None (fitting-none h)
@@ -85,7 +83,7 @@ insertion-tries bytes number count place used room h =
     entered-tries bytes place count used room h (list-lies bytes number count)
 
 -- the same of what the code has
-made-fits : (bytes : List ℕ) (used room : ℕ) {t : Tried} (edit : Inserted) → Tries bytes used room t → t ≡ Tried′.Made edit
+pub made-fits : (bytes : List ℕ) (used room : ℕ) {t : Tried} (edit : Inserted) → Tries bytes used room t → t ≡ Tried′.Made edit
     → Fitting bytes used room edit
 made-fits bytes used room edit (made e f) p = rw (same e p) f
   where

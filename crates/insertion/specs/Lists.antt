@@ -16,15 +16,17 @@ use Rattle.insertion.specs.declared.Inserted.the-variants as Inserted′
 use Rattle.insertion.specs.declared.Tried.{Tried}
 use Rattle.insertion.specs.declared.Tried.the-variants as Tried′
 
+-- so many glyphs from a place of the bytes on can be read where they begin before the end and all lie in the bytes; so a list of no glyphs
+-- can't at or past the end
+abbrev pub listFrom : List ℕ → (from count : ℕ) → Listed
+listFrom bytes from count = cond (inside bytes from (count * 2)) (Listed′.At from) Listed′.Short
+
 -- the bytes are those from the state table on: the number at 16 is where the glyphs begin, and a list begins with the glyph of its number.
--- Number 0xFFFF means no insertion. A list can be read where it begins before the end and all its glyphs lie in the bytes; so one of no
--- glyphs can't at or past the end
+-- Number 0xFFFF means no insertion
 unfoldable pub glyphList : List ℕ → (number count : ℕ) → Listed
 glyphList bytes number count =
     ifEq number 0xFFFF Listed′.None
-    (onU32 (readU32 bytes 16)
-    (λ glyphs. cond (inside bytes (glyphs + number * 2) (count * 2)) (Listed′.At (glyphs + number * 2)) Listed′.Short)
-    Listed′.Short)
+    (onU32 (readU32 bytes 16) (λ glyphs. listFrom bytes (glyphs + number * 2) count) Listed′.Short)
 
 -- a list that can't be read is ENDED; an insertion that makes the length exceed the room is FULL, so that one of no glyphs never is
 unfoldable pub enteredBy : Listed → (place count used room : ℕ) → Tried

@@ -23,9 +23,10 @@ ghost use Rattle.machine.specs.Machine.{passed, subtableOf, passCall, callLeave
 ghost use Rattle.machine.specs.Work.{passedLeaves, workLeaves};
 ghost use Rattle.line.specs.Line.{lineOf};
 ghost use Rattle.line.specs.Changes.{applyAll};
-ghost use Rattle.insertion.specs.Lists.{glyphList, insertionOf, countOf, changesOf, bothChanges, movedBy};
+ghost use Rattle.insertion.specs.Lists.{listFrom, glyphList, enteredBy, insertionOf, countOf, changesOf, bothChanges, movedBy};
 ghost use Rattle.insertion.specs.Insertion.{fresh, insertionPlace, advanceOf, withState, withMark, stopped, finished, afterMarked, acted, next};
 ghost use Rattle.insertion.specs.Calls.{opened, stateTests, insertion, roomTests, fromTable, stepCall};
+ghost use Rattle.insertion.specs.Lone.{insertTests, insertCall, insertLeaves};
 ghost use Rattle.insertion.specs.Work.{endOf, isQuiet, ledBy};
 
 // The state of a pass: the state table's state, the marked place, and how many steps in a row did not advance.
@@ -69,9 +70,19 @@ pub enum Listed {
 }
 
 // What becomes of an insertion: it is made, or the step ends before it.
-enum Tried {
+pub enum Tried {
     Made(Inserted),
     Over(Answer),
+}
+
+// A list of `count` glyphs that lies at a place, where it can be read.
+fn list_from(bytes: &[u8], from: usize, count: u16) -> Listed
+    ensures { λ r. ⌜ r ≡ listFrom (now (bytes .entry)) from count ⌝ }
+{
+    let parse::ReadPart::Until(_) = parse::read_part(bytes, from, count as usize * 2) else {
+        return Listed::Short;
+    };
+    Listed::At(from)
 }
 
 // Where a list of `count` glyphs lies, from the glyph of this number on. The bytes are those from the state table on.
@@ -84,26 +95,14 @@ fn list_of(bytes: &[u8], number: u16, count: u16) -> Listed
     let parse::ReadU32::Got(glyphs) = parse::read_u32(bytes, 16) else {
         return Listed::Short;
     };
-    let at = glyphs as usize + number as usize * 2;
-    let parse::ReadPart::Until(_) = parse::read_part(bytes, at, count as usize * 2) else {
-        return Listed::Short;
-    };
-    Listed::At(at)
+    list_from(bytes, glyphs as usize + number as usize * 2, count)
 }
 
-// An insertion of the glyphs of such a list at a place; FULL where the length would exceed the room.
-fn insertion_of(
-    bytes: &[u8],
-    number: u16,
-    count: u16,
-    place: usize,
-    used: usize,
-    room: usize,
-) -> Tried
+// What becomes of an insertion of the glyphs of such a list at a place; FULL where the length would exceed the room.
+fn enter(listed: Listed, place: usize, count: u16, used: usize, room: usize) -> Tried
     requires { ⌜ (used ≤ room) × (room ≤ Limits.roomLimit) ⌝ }
-    ensures { λ r. ⌜ r ≡ insertionOf (now (bytes .entry)) number count place used room ⌝ }
+    ensures { λ r. ⌜ r ≡ enteredBy listed place count used room ⌝ }
 {
-    let listed = list_of(bytes, number, count);
     match listed {
         Listed::None => Tried::Made(Inserted::None),
         Listed::Short => Tried::Over(Answer::Ended),
@@ -118,6 +117,21 @@ fn insertion_of(
             })
         }
     }
+}
+
+// What becomes of an insertion of the glyphs that an entry names.
+fn insertion_of(
+    bytes: &[u8],
+    number: u16,
+    count: u16,
+    place: usize,
+    used: usize,
+    room: usize,
+) -> Tried
+    requires { ⌜ (used ≤ room) × (room ≤ Limits.roomLimit) ⌝ }
+    ensures { λ r. ⌜ r ≡ insertionOf (now (bytes .entry)) number count place used room ⌝ }
+{
+    enter(list_of(bytes, number, count), place, count, used, room)
 }
 
 // Before a place or behind it, but not above the length.
@@ -691,4 +705,60 @@ pub fn pass(
         };
     }
     work(bytes, glyphs, tags, homes, used)
+}
+
+// The tests before a lone insertion: TABLE, LINE, PLACE.
+fn refuse_insert(
+    table_length: usize,
+    glyphs: &[u16],
+    tags: &[u16],
+    homes: &[u16],
+    used: usize,
+    place: usize,
+) -> Check
+    ensures { λ r. ⌜ r ≡ refuse (insertTests «table_length» (lineOf (now (glyphs .entry)) (now (tags .entry)) (now (homes .entry)) used) place) ⌝ }
+{
+    if let Check::Refused(why) = answers::refuse_table(table_length) {
+        return Check::Refused(why);
+    }
+    if !line::valid::takes(glyphs, tags, homes, used) {
+        return Check::Refused(Refusal::Line);
+    }
+    if used < place {
+        return Check::Refused(Refusal::Place);
+    }
+    Check::Passed
+}
+
+// Inserts `count` glyphs, which lie in the table from `start` on, at a place of a line: an edit that a step hands over.
+pub fn insert(
+    table: &[u8],
+    start: usize,
+    count: u16,
+    glyphs: &mut [u16],
+    tags: &mut [u16],
+    homes: &[u16],
+    used: usize,
+    place: usize,
+) -> InsertionPass
+    ensures answer { λ r. ⌜ r .answer ≡ insertCall (now (table .entry)) start count place (lineOf (now (glyphs .entry)) (now (tags .entry)) (now (homes .entry)) used) .answer ⌝ }
+    ensures used { λ r. ⌜ r .used ≡ insertLeaves (now (table .entry)) start count place (lineOf (now (glyphs .entry)) (now (tags .entry)) (now (homes .entry)) used) .used ⌝ }
+    ensures glyphs { λ _. ⌜ now (glyphs .exit) ≡ insertLeaves (now (table .entry)) start count place (lineOf (now (glyphs .entry)) (now (tags .entry)) (now (homes .entry)) used) .glyphs ⌝ }
+    ensures tags { λ _. ⌜ now (tags .exit) ≡ insertLeaves (now (table .entry)) start count place (lineOf (now (glyphs .entry)) (now (tags .entry)) (now (homes .entry)) used) .tags ⌝ }
+{
+    if let Check::Refused(why) = refuse_insert(table.len(), glyphs, tags, homes, used, place) {
+        return InsertionPass {
+            answer: Answer::Refused(why),
+            used,
+        };
+    }
+    let listed = list_from(table, start, count);
+    let tried = enter(listed, place, count, used, glyphs.len());
+    match tried {
+        Tried::Made(edit) => InsertionPass {
+            answer: Answer::Done,
+            used: put(table, glyphs, tags, homes, used, edit),
+        },
+        Tried::Over(answer) => InsertionPass { answer, used },
+    }
 }

@@ -1,4 +1,4 @@
--- Demand 3 over calls. After any sequence of lone verbs, passes, lone steps and whole runs in either direction, each lent the line as
+-- Demand 3 over calls. After any sequence of lone verbs and insertions, passes, lone steps and whole runs in either direction, each lent the line as
 -- the call before left it, the line is valid, every character belongs to exactly one place, the one that the history gives, and the
 -- length is the starting length and the glyphs inserted, never above the room. It begins with any valid line, or with a fresh one.
 use Prim.Native.Nat.{ℕ}
@@ -19,6 +19,8 @@ use Rattle.contextual.specs.Calls.{contextual}
 use Rattle.contextual.proofs.Honesty as Contextual′
 use Rattle.ligature.specs.Calls.{ligature}
 use Rattle.ligature.proofs.Honesty as Ligature′
+use Rattle.insertion.specs.Lone.{insertLeaves}
+use Rattle.insertion.proofs.Honesty.{insert-fits}
 use Rattle.morx.specs.Kinds.{kindAt, subtableOfKind, anySubtable}
 use Rattle.morx.specs.Calls.{runLeaves}
 use Rattle.morx.specs.Sequence.{Call, leaves, makes}
@@ -26,8 +28,9 @@ use Rattle.morx.proofs.Machines.{worked-fits}
 use Rattle.morx.proofs.Honesty.{run-fits}
 
 call-made : (call : Call) (l : Line) → Valid l → leaves call l ≡ applyAll (makes call l) l
-unfolding leaves makes callLeaves stepLeaves runLeaves
+unfolding leaves makes insertLeaves callLeaves stepLeaves runLeaves
 call-made (Call.verb c) l v = verbs-honest .made c l v
+call-made (Call.insert c) l v = refl
 call-made (Call.pass kind table start) l v = refl
 call-made (Call.anyPass table start) l v = refl
 call-made (Call.contextualStep c) l v = refl
@@ -37,6 +40,7 @@ call-made (Call.run table start choices) l v = refl
 call-legal : (call : Call) (l : Line) → Valid l → Fits (makes call l) l
 unfolding makes
 call-legal (Call.verb c) l v = verbs-honest .legal c l v
+call-legal (Call.insert c) l v = insert-fits (c .table) (c .start) (c .count) (c .place) l v
 call-legal (Call.pass kind table start) l v = call-has Valid Fits fitting (subtableOfKind kind) (worked-fits kind) table start l v
 call-legal (Call.anyPass table start) l v = call-has Valid Fits fitting anySubtable (λ bytes k u. worked-fits (kindAt bytes) bytes k u) table start l v
 call-legal (Call.contextualStep c) l v =

@@ -169,7 +169,7 @@ unfolding apply
 insertion-homes at new l = refl
 
 module _ {X : Type 0} (part : Line → X) (kept : (at : ℕ) (new : List ℕ) (l : Line) → part (apply (Change.insertion at new) l) ≡ part l) where
-  kept-inserted : (bytes : List ℕ) (edit : Inserted) → Kept part (IL.changesOf bytes edit)
+  pub kept-inserted : (bytes : List ℕ) (edit : Inserted) → Kept part (IL.changesOf bytes edit)
   kept-inserted bytes Inserted′.None = kept-none part
   kept-inserted bytes (Inserted′.At place count glyphs) = kept-one part (Change.insertion place (IL.glyphsAt bytes glyphs count)) (kept place (IL.glyphsAt bytes glyphs count))
 

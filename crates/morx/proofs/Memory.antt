@@ -4,20 +4,27 @@ use mathlib.Core.Path.{_≡_, refl, sym, _∙_, ap}
 use mathlib.Core.Bool.{Bool, true, false, cond}
 use mathlib.Core.List.{List, [], _∷_}
 use lib.Dec.{eqb}
+use lib.ListN.{length}
 use Rattle.answers.specs.Refuse.{refuse}
 use Rattle.answers.specs.declared.Check.{Check}
 use Rattle.answers.specs.declared.Check.the-variants as Check′
 use Rattle.line.specs.Line.{Line, lineOf}
 use Rattle.line.specs.Changes.{Change, apply, applyAll}
 use Rattle.line.specs.Entries.{verbTests, verbMakes, madeBy, verbChanges, verbCall}
-use Rattle.machine.specs.Machine.{callLeaves}
+use Rattle.machine.specs.Pass.{Passed}
+use Rattle.machine.specs.Machine.{refusedPass, callLeaves}
+use Rattle.machine.proofs.Having.{if-passed}
+use Rattle.insertion.specs.Lists.{listFrom, enteredBy}
+use Rattle.insertion.specs.Lone.{onLine, loneInsertion, insertTests, insertCall, insertLeaves}
+use Rattle.insertion.specs.declared.Tried.{Tried}
+use Rattle.insertion.specs.declared.Tried.the-variants as Tried′
 use Rattle.morx.specs.Kinds.{subtableOfKind}
 use Rattle.morx.specs.Sequence.{Call, leaves}
 use Rattle.morx.specs.Memory.{writtenBy, inMemory}
 use Rattle.morx.specs.declared.Kind.{Kind}
 use Rattle.morx.specs.declared.Kind.the-variants.{Rearrangement, Contextual, Ligature, NonContextual, Insertion, LeftOut}
 use Rattle.morx.proofs.Kept.{Kept, Has, kept-none, kept-one, call-keeps}
-use Rattle.morx.proofs.Machines.{window-homes, window-used, write-tags, write-homes, write-used, ligature-tags, ligature-used, insertion-homes, kept-rearrangement, kept-contextual, kept-contextual-step, kept-noncontextual, kept-ligature, kept-ligature-step, kept-insertion}
+use Rattle.morx.proofs.Machines.{window-homes, window-used, write-tags, write-homes, write-used, ligature-tags, ligature-used, insertion-homes, kept-rearrangement, kept-contextual, kept-contextual-step, kept-noncontextual, kept-ligature, kept-ligature-step, kept-inserted, kept-insertion}
 
 abbrev homes : Line → List ℕ
 homes l = l .homes
@@ -41,6 +48,19 @@ module _ {X : Type 0} (part : Line → X) (windows : (first last verb : ℕ) (k 
   verb-keeps : (l : Line) (verb start end : ℕ) → part (verbCall l verb start end .line) ≡ part l
   unfolding verbCall verbChanges
   verb-keeps l verb start end = kept-verb (refuse (verbTests l start end)) verb start end l
+
+-- a lone insertion
+module _ {X : Type 0} (part : Line → X) (kept : (at : ℕ) (new : List ℕ) (k : Line) → part (apply (Change.insertion at new) k) ≡ part k) where
+  kept-tried : (table : List ℕ) (tried : Tried) → Kept part (onLine table tried .changes)
+  kept-tried table (Tried′.Made edit) = kept-inserted part kept table edit
+  kept-tried table (Tried′.Over answer) = kept-none part
+
+  insert-keeps : (table : List ℕ) (start count place : ℕ) (l : Line) → part (insertLeaves table start count place l) ≡ part l
+  unfolding insertLeaves insertCall loneInsertion
+  insert-keeps table start count place l =
+      if-passed (λ (p : Passed). part (applyAll (p .changes) l) ≡ part l) refusedPass (λ why. kept-none part l)
+      (refuse (insertTests (length table) l place)) (loneInsertion table start count place l)
+      (kept-tried table (enteredBy (listFrom table start count) place count (l .used) (length (l .glyphs))) l)
 
 -- a line by its parts
 module _ (left : Line) where
@@ -71,6 +91,7 @@ pub in-memory : (call : Call) (l : Line) → inMemory call l ≡ leaves call l
 unfolding inMemory leaves writtenBy
 in-memory (Call.verb c) l =
     by-parts _ refl (verb-keeps homes window-homes l (c .verb) (c .start) (c .end)) (verb-keeps used window-used l (c .verb) (c .start) (c .end))
+in-memory (Call.insert c) l = by-parts _ refl (insert-keeps homes insertion-homes (c .table) (c .start) (c .count) (c .place) l) refl
 in-memory (Call.pass kind table start) l = by-kind table start l kind
 in-memory (Call.contextualStep c) l =
     by-parts _ (kept-contextual-step tags write-tags c l) (kept-contextual-step homes write-homes c l) (kept-contextual-step used write-used c l)

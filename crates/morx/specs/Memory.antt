@@ -5,6 +5,7 @@ use Rattle.line.specs.Entries.{verbCall}
 use Rattle.machine.specs.Machine.{callLeaves, stepLeaves}
 use Rattle.contextual.specs.Calls.{contextual}
 use Rattle.ligature.specs.Calls.{ligature}
+use Rattle.insertion.specs.Lone.{insertLeaves}
 use Rattle.morx.specs.Kinds.{subtableOfKind, anySubtable}
 use Rattle.morx.specs.Calls.{runLeaves}
 use Rattle.morx.specs.Sequence.{Call}
@@ -22,6 +23,7 @@ writtenBy LeftOut left was = was
 
 unfoldable pub inMemory : Call → Line → Line
 inMemory (Call.verb c) l = writtenBy Rearrangement (verbCall l (c .verb) (c .start) (c .end) .line) l
+inMemory (Call.insert c) l = writtenBy Insertion (insertLeaves (c .table) (c .start) (c .count) (c .place) l) l
 inMemory (Call.pass kind table start) l = writtenBy kind (callLeaves (subtableOfKind kind) table start l) l
 inMemory (Call.contextualStep c) l =
     writtenBy Contextual (stepLeaves contextual (c .table) (c .start) (c .state) l (c .index) (c .glyph) (c .ends)) l

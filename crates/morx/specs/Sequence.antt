@@ -9,6 +9,7 @@ use Rattle.contextual.specs.Calls.{contextual}
 use Rattle.contextual.specs.declared.ContextualState.{ContextualState}
 use Rattle.ligature.specs.Calls.{ligature}
 use Rattle.ligature.specs.declared.LigatureState.{LigatureState}
+use Rattle.insertion.specs.Lone.{InsertCall, insertCall, insertLeaves}
 use Rattle.morx.specs.Kinds.{subtableOfKind, anySubtable}
 use Rattle.morx.specs.Calls.{runCall, runLeaves}
 use Rattle.morx.specs.declared.Choices.{Choices}
@@ -16,6 +17,7 @@ use Rattle.morx.specs.declared.Kind.{Kind}
 
 pub data Call : Type 0 where
   verb : LoneVerb → Call
+  insert : InsertCall → Call
   pass : Kind → (table : List ℕ) → (start : ℕ) → Call
   anyPass : (table : List ℕ) → (start : ℕ) → Call
   contextualStep : StepCall ContextualState → Call
@@ -25,6 +27,7 @@ pub data Call : Type 0 where
 -- the line that a call leaves, as its entry promises
 unfoldable pub leaves : Call → Line → Line
 leaves (verb c) l = verbCall l (c .verb) (c .start) (c .end) .line
+leaves (insert c) l = insertLeaves (c .table) (c .start) (c .count) (c .place) l
 leaves (pass kind table start) l = callLeaves (subtableOfKind kind) table start l
 leaves (anyPass table start) l = callLeaves anySubtable table start l
 leaves (contextualStep c) l = stepLeaves contextual (c .table) (c .start) (c .state) l (c .index) (c .glyph) (c .ends)
@@ -34,6 +37,7 @@ leaves (run table start choices) l = runLeaves table start choices l
 -- the changes that it makes
 unfoldable pub makes : Call → Line → List Change
 makes (verb c) l = verbChanges l (c .verb) (c .start) (c .end)
+makes (insert c) l = insertCall (c .table) (c .start) (c .count) (c .place) l .changes
 makes (pass kind table start) l = passCall (subtableOfKind kind) table start l .changes
 makes (anyPass table start) l = passCall anySubtable table start l .changes
 makes (contextualStep c) l = stepCall contextual (c .table) (c .start) (c .state) l (c .index) (c .glyph) (c .ends) .changes

@@ -1,8 +1,4 @@
-use mathlib.Core.Path.{sym, _∙_}
-use native.Mathlib.Omega.{arith}
-use borrow.Author.Tests.{lt-ltb, le-ltb}
-use Rattle.line.proofs.Room.{room-small}
-use Rattle.insertion.specs.Lists.{enteredBy}
+use mathlib.Core.Path.{sym}
 use borrow.Author.Needs.{needs}
 use Rattle.insertion.proofs.insertion_of.Statement.{statement}
 use Rattle.insertion.proofs.insertion_of.Tie as tie
@@ -10,44 +6,11 @@ use Rattle.insertion.proofs.insertion_of.Tie as tie
 list-of-requires : tie.Need-list-of-requires
 list-of-requires c κs = search needs
 
-enum-told : tie.Need-enum-told
-enum-told c = search needs
-
-enum-told-2 : tie.Need-enum-told-2
-enum-told-2 c = search needs
-
-enum-known-listed : tie.Need-enum-known-listed
-enum-known-listed c = search needs
-
-add-if1 : tie.Need-add-if1
-add-if1 c = omega (arith, room-small)
+enter-requires : tie.Need-enter-requires
+enter-requires c κs = search needs
 
 returns : tie.Need-returns
-unfolding enteredBy
-returns c = rw (sym (c .before .before .before .before .list-of .ensures) ∙ c .before .before .listed .given .1, lt-ltb _ _ (c .if1 .taken), enteredBy)
-
-returns-2 : tie.Need-returns-2
-unfolding enteredBy
-returns-2 c = rw (sym (c .before .before .list-of .ensures) ∙ c .enum-told .given .1, enteredBy)
-
-returns-3 : tie.Need-returns-3
-unfolding enteredBy
-returns-3 c = rw (sym (c .before .before .list-of .ensures) ∙ c .enum-told2 .given .1, enteredBy)
-
-returns-4 : tie.Need-returns-4
-unfolding enteredBy
-returns-4 c = rw (sym (c .before .before .before .before .list-of .ensures) ∙ c .before .before .listed .given .1, le-ltb _ _ (c .if1 .left), enteredBy)
+returns c = rw (sym (c .before .list-of .ensures)) (c .enter .ensures)
 
 pub insertion-of-spec : {M : Type 1} → statement M
-insertion-of-spec =
-    tie.close
-    (tie.spec
-    list-of-requires
-    enum-told
-    enum-told-2
-    enum-known-listed
-    add-if1
-    returns
-    returns-2
-    returns-3
-    returns-4)
+insertion-of-spec = tie.close (tie.spec list-of-requires enter-requires returns)
