@@ -2,14 +2,28 @@
 
    Conventions
    - Every entry gives the number of its answer, an enum aat_answer. Any bytes, numbers and lengths get one, and the work
-     ends. A pointer has to point to as many elements as the length behind it says, or the number in brackets; where that is
-     0 it may be any but null. What an entry writes may not overlap anything else that it is lent.
+     ends. A pointer has to point to as many elements as the length behind it says, or the number in brackets; it is never null,
+     not even where that is 0. What an entry writes may not overlap anything else that it is lent.
    - On the answers from AAT_NOTHING to AAT_HEAD everything that was lent stays as it was. What an entry writes otherwise stands
      under "Writes"; all else stays as it was on every answer. Nothing is kept between calls.
    - table, table_len, start: the bytes of a font table, or of a whole font, and the byte of it where the entry's own table,
-     subtable (its head included), state table or list of glyphs begins. Longer than AAT_LONGEST_TABLE is AAT_TABLE.
+     subtable (its head included), state table or list of glyphs begins. Longer than AAT_LONGEST_TABLE is AAT_TABLE. Where a
+     whole kern or kerx table is asked for, start 0 is no table, which has no subtables; elsewhere it is a start as any other.
    - glyph 0xFFFF is a deleted glyph. Flags told as uint32_t are set where they are not 0.
-   - Where several of AAT_TABLE to AAT_HEAD apply, the answer is the one with the smallest number. */
+   - Where several of AAT_TABLE to AAT_HEAD apply, the answer is the one with the smallest number.
+
+   The most work of a call, for a watchdog. A turn is one entry of a state table that is looked at.
+   - A lookup, class or pair looks at 16 records at most, a pair of kerx at 32; aat_survey at 65,535. aat_language_index
+     compares name with a tag for each 4 bytes of the table at most. LINE is tested by a look at each tag and home.
+   - A step takes 1 turn, of contextual subtables and ligatures 18 at most.
+   - A pass takes 18 turns for each place, and 18 more: 73,746 at most, in AAT_LARGEST_ROOM places. Insertion passes count
+     the places of the room, whatever used is. Non-contextual and pair passes look up each place once.
+   - A run makes AAT_MOST_HEADS passes at most, by a table of any length: a subtable of size 0 is visited again and again, so
+     that 400 bytes can ask for 65,534 passes, and for hours.
+   - A turn is a class and an entry. Besides, at most: rearrangement moves the glyphs and tags of the line; contextual
+     substitution makes two lookups; kerning adds 8 numbers; insertion puts in 62 glyphs and moves the line, as long as there
+     is room. The 18 turns of a ligature's step share 34 actions; each has 31 components at most, for each of which all homes
+     are looked at. */
 
 #ifndef AAT_H
 #define AAT_H
