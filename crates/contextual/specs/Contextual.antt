@@ -80,13 +80,10 @@ module _ (classes : ℕ → ℕ) (bytes : List ℕ) (states : States) (index : �
   ran (suc left) s class current done =
       onEntry (entryOf bytes states (s .state) class 4)
       (λ entry.
+      let a : Acted = acted bytes s entry index current in
       elim (isSet (entry .flags) 0x4000) [
-        | false ↦ over Answer′.Done (acted bytes s entry index current .state) (done ++ entryWrites s index (acted bytes s entry index current))
-        | true ↦
-            ran left (acted bytes s entry index current .state)
-            (classes (acted bytes s entry index current .current))
-            (acted bytes s entry index current .current)
-            (done ++ entryWrites s index (acted bytes s entry index current))
+        | false ↦ over Answer′.Done (a .state) (done ++ entryWrites s index a)
+        | true ↦ ran left (a .state) (classes (a .current)) (a .current) (done ++ entryWrites s index a)
       ])
       (over Answer′.Ended s done)
 

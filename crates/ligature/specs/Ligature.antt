@@ -93,15 +93,13 @@ module _ (bytes places : List ℕ) (depth : ℕ) where
   acts zero number at sum cycles glyphs made = acted false at cycles glyphs made
   acts (suc turns) number zero sum cycles glyphs made = acted false 0 cycles glyphs made
   acts (suc turns) number (suc slot) sum cycles glyphs made =
-      onTurn (turnOf (actionOf bytes number (getD glyphs slot 0) sum) slot)
+      let action : Action = actionOf bytes number (getD glyphs slot 0) sum in
+      let all : List Ligation = made ++ ligationsOf action places slot depth in
+      onTurn (turnOf action slot)
       (λ at total last.
       elim (either last (ltb 32 cycles)) [
-        | true ↦
-            acted false at cycles (storedIn (actionOf bytes number (getD glyphs slot 0) sum) slot glyphs)
-            (made ++ ligationsOf (actionOf bytes number (getD glyphs slot 0) sum) places slot depth)
-        | false ↦
-            acts turns (number + 1) at total (cycles + 1) (storedIn (actionOf bytes number (getD glyphs slot 0) sum) slot glyphs)
-            (made ++ ligationsOf (actionOf bytes number (getD glyphs slot 0) sum) places slot depth)
+        | true ↦ acted false at cycles (storedIn action slot glyphs) all
+        | false ↦ acts turns (number + 1) at total (cycles + 1) (storedIn action slot glyphs) all
       ])
       (acted true depth cycles glyphs made)
 
@@ -161,19 +159,13 @@ module _ (bytes : List ℕ) (states : States) (index glyph class : ℕ) where
   ran (suc turns) state stack cycles made =
       onEntry (entryOf bytes states state class 2)
       (λ entry.
-      elim (entered bytes stack entry index glyph cycles .ended) [
-        | true ↦
-            over Answer′.Ended (entry .state) (entered bytes stack entry index glyph cycles .stack)
-            (made ++ entered bytes stack entry index glyph cycles .made)
+      let work : Work = entered bytes stack entry index glyph cycles in
+      elim (work .ended) [
+        | true ↦ over Answer′.Ended (entry .state) (work .stack) (made ++ work .made)
         | false ↦
-            elim (both (isSet (entry .flags) 0x4000) (not (ltb 16 (entered bytes stack entry index glyph cycles .cycles)))) [
-              | false ↦
-                  over Answer′.Done (entry .state) (entered bytes stack entry index glyph cycles .stack)
-                  (made ++ entered bytes stack entry index glyph cycles .made)
-              | true ↦
-                  ran turns (entry .state) (entered bytes stack entry index glyph cycles .stack)
-                  (entered bytes stack entry index glyph cycles .cycles + 1)
-                  (made ++ entered bytes stack entry index glyph cycles .made)
+            elim (both (isSet (entry .flags) 0x4000) (not (ltb 16 (work .cycles)))) [
+              | false ↦ over Answer′.Done (entry .state) (work .stack) (made ++ work .made)
+              | true ↦ ran turns (entry .state) (work .stack) (work .cycles + 1) (made ++ work .made)
             ]
       ])
       (over Answer′.Ended state stack made)

@@ -11,11 +11,12 @@ use Rattle.answers.specs.declared.Answer.{Answer}
 use Rattle.answers.specs.declared.Answer.the-variants as Answer′
 use Rattle.state_tables.specs.Classes.{classOf}
 use Rattle.state_tables.specs.declared.States.{States}
-use Rattle.line.specs.Line.{Line}
+use Rattle.state_tables.specs.declared.entries.Entry.{Entry}
+use Rattle.line.specs.Line.{Line, lineOf}
 use Rattle.line.specs.Changes.{applyAll}
 use Rattle.machine.specs.Pass.{Stepped, isDone}
 use Rattle.machine.specs.Work.{glyphAt}
-use Rattle.ligature.specs.Ligature.{Ligation, Stack, changesOf, Acts, Work, Ran, over, next}
+use Rattle.ligature.specs.Ligature.{Ligation, Stack, stackOf, changesOf, Acts, acts, Work, entered, Ran, over, ran, next}
 use Rattle.ligature.specs.declared.actions.Action.{Action}
 use Rattle.ligature.specs.declared.actions.Action.the-variants.{Ended, Adds, Makes}
 use Rattle.ligature.specs.declared.Did.{Did}
@@ -47,6 +48,34 @@ didWork w = record { ended = w .ended; depth = w .stack .depth; cycles = w .cycl
 abbrev pub reached : Ran → Reached
 reached r = record { answer = r .answer; state = r .state; depth = r .stack .depth }
 
+-- what stands behind a part of the code that is lent a stack and a line: its answer, the stack's places and glyphs, and the line
+pub record Stands (A : Type 0) : Type 0 where
+  pub answer : A
+  pub places : List ℕ
+  pub stack : List ℕ
+  pub line : Line
+
+-- behind a list of actions, an entry and a step
+abbrev pub afterActs : List ℕ → (places stack : List ℕ) → (depth number cycles : ℕ)
+    → (glyphs tags homes : List ℕ) → (used : ℕ) → Stands Did
+afterActs bytes places stack depth number cycles glyphs tags homes used =
+    let a : Acts = acts bytes places depth 34 number depth 0 cycles stack [] in
+    record { answer = didActs a; places = places; stack = a .glyphs; line = ligated (a .made) (lineOf glyphs tags homes used) }
+
+abbrev pub afterEntry : List ℕ → Entry → (places stack : List ℕ) → (depth : ℕ)
+    → (glyphs tags homes : List ℕ) → (used index glyph cycles : ℕ) → Stands Did
+afterEntry bytes entry places stack depth glyphs tags homes used index glyph cycles =
+    let w : Work = entered bytes (stackOf places stack depth) entry index glyph cycles in
+    record { answer = didWork w; places = w .stack .places; stack = w .stack .glyphs; line = ligated (w .made) (lineOf glyphs tags homes used) }
+
+abbrev pub standsAfter : Ran → Line → Stands Reached
+standsAfter r l = record { answer = reached r; places = r .stack .places; stack = r .stack .glyphs; line = ligated (r .made) l }
+
+abbrev pub afterStep : List ℕ → States → (class state : ℕ) → (places stack : List ℕ) → (depth : ℕ)
+    → (glyphs tags homes : List ℕ) → (used index glyph : ℕ) → Stands Reached
+afterStep bytes states class state places stack depth glyphs tags homes used index glyph =
+    standsAfter (ran bytes states index glyph class 18 state (stackOf places stack depth) 0 []) (lineOf glyphs tags homes used)
+
 -- a step is the last of a run: the only one, the end call, or one that is not DONE
 unfoldable pub isLast : Answer → (once : Bool) → (used place : ℕ) → Bool
 isLast answer once used place = either once (either (leb used place) (not (isDone answer)))
@@ -68,6 +97,12 @@ module _ (classes : ℕ → ℕ) (bytes : List ℕ) (states : States) (once : Bo
 unfoldable pub run : List ℕ → States → (once : Bool) → (state : ℕ) → Stack → Line → (place glyph : ℕ) → (ends : Bool) → Ran
 run bytes states once state stack l place glyph ends =
     runFrom (classOf bytes states) bytes states once (suc (l .used - place)) state stack l place glyph ends []
+
+abbrev pub afterRun : List ℕ → States → (once : Bool) → (state : ℕ) → (places stack : List ℕ) → (depth : ℕ)
+    → (glyphs tags homes : List ℕ) → (used index glyph : ℕ) → (ends : Bool) → Stands Reached
+afterRun bytes states once state places stack depth glyphs tags homes used index glyph ends =
+    let l : Line = lineOf glyphs tags homes used in
+    standsAfter (run bytes states once state (stackOf places stack depth) l index glyph ends) l
 
 -- what a step hands back
 abbrev pub stepOf : Stepped LigatureState → LigatureStep

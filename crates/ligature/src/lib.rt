@@ -28,7 +28,7 @@ ghost use Rattle.machine.specs.Call.{stepTests};
 ghost use Rattle.machine.specs.Machine.{passed, subtableOf, passCall, callLeaves, stepCall, stepLeaves};
 ghost use Rattle.machine.specs.Work.{passedLeaves, workLeaves};
 ghost use Rattle.ligature.specs.Calls.{opened, areInside, stateTests, ligature};
-ghost use Rattle.ligature.specs.Work.{ligated, didActs, didWork, reached, isLast, run, stepOf};
+ghost use Rattle.ligature.specs.Work.{ligated, afterActs, afterEntry, afterStep, afterRun, isLast, stepOf};
 
 // The state of a pass: the state table's state, and the stack, a place and a glyph for each slot, of which the first `depth` are used.
 pub struct LigatureState {
@@ -138,10 +138,10 @@ fn act(
     spent: u16,
 ) -> Did
     requires { ⌜ (depth ≤ 32) × (spent ≤ 33) × (used ≤ length (now glyphs)) × (used ≤ length (now tags)) ⌝ }
-    ensures did { λ r. ⌜ r ≡ didActs (acts (now (bytes .entry)) (now (places .entry)) depth 34 first depth 0 spent (now (stack .entry)) []) ⌝ }
-    ensures stack { λ _. ⌜ now (stack .exit) ≡ acts (now (bytes .entry)) (now (places .entry)) depth 34 first depth 0 spent (now (stack .entry)) [] .glyphs ⌝ }
-    ensures glyphs { λ _. ⌜ now (glyphs .exit) ≡ ligated (acts (now (bytes .entry)) (now (places .entry)) depth 34 first depth 0 spent (now (stack .entry)) [] .made) (lineOf (now (glyphs .entry)) (now (tags .entry)) (now (homes .entry)) used) .glyphs ⌝ }
-    ensures homes { λ _. ⌜ now (homes .exit) ≡ ligated (acts (now (bytes .entry)) (now (places .entry)) depth 34 first depth 0 spent (now (stack .entry)) [] .made) (lineOf (now (glyphs .entry)) (now (tags .entry)) (now (homes .entry)) used) .homes ⌝ }
+    ensures did { λ r. ⌜ r ≡ afterActs (now (bytes .entry)) (now (places .entry)) (now (stack .entry)) depth first spent (now (glyphs .entry)) (now (tags .entry)) (now (homes .entry)) used .answer ⌝ }
+    ensures stack { λ _. ⌜ now (stack .exit) ≡ afterActs (now (bytes .entry)) (now (places .entry)) (now (stack .entry)) depth first spent (now (glyphs .entry)) (now (tags .entry)) (now (homes .entry)) used .stack ⌝ }
+    ensures glyphs { λ _. ⌜ now (glyphs .exit) ≡ afterActs (now (bytes .entry)) (now (places .entry)) (now (stack .entry)) depth first spent (now (glyphs .entry)) (now (tags .entry)) (now (homes .entry)) used .line .glyphs ⌝ }
+    ensures homes { λ _. ⌜ now (homes .exit) ≡ afterActs (now (bytes .entry)) (now (places .entry)) (now (stack .entry)) depth first spent (now (glyphs .entry)) (now (tags .entry)) (now (homes .entry)) used .line .homes ⌝ }
     ensures bounds { λ r. ⌜ (r .depth ≤ depth) × (spent ≤ r .cycles) × (r .cycles ≤ 33) ⌝ }
 {
     let mut number = first;
@@ -249,11 +249,11 @@ fn enter(
     cycles: u16,
 ) -> Did
     requires { ⌜ (depth ≤ 32) × (cycles ≤ 33) × (used ≤ length (now glyphs)) × (used ≤ length (now tags)) × (entry .payload + 2 ≤ length (now bytes)) ⌝ }
-    ensures did { λ r. ⌜ r ≡ didWork (entered (now (bytes .entry)) (stackOf (now (places .entry)) (now (stack .entry)) depth) entry index glyph cycles) ⌝ }
-    ensures places { λ _. ⌜ now (places .exit) ≡ entered (now (bytes .entry)) (stackOf (now (places .entry)) (now (stack .entry)) depth) entry index glyph cycles .stack .places ⌝ }
-    ensures stack { λ _. ⌜ now (stack .exit) ≡ entered (now (bytes .entry)) (stackOf (now (places .entry)) (now (stack .entry)) depth) entry index glyph cycles .stack .glyphs ⌝ }
-    ensures glyphs { λ _. ⌜ now (glyphs .exit) ≡ ligated (entered (now (bytes .entry)) (stackOf (now (places .entry)) (now (stack .entry)) depth) entry index glyph cycles .made) (lineOf (now (glyphs .entry)) (now (tags .entry)) (now (homes .entry)) used) .glyphs ⌝ }
-    ensures homes { λ _. ⌜ now (homes .exit) ≡ ligated (entered (now (bytes .entry)) (stackOf (now (places .entry)) (now (stack .entry)) depth) entry index glyph cycles .made) (lineOf (now (glyphs .entry)) (now (tags .entry)) (now (homes .entry)) used) .homes ⌝ }
+    ensures did { λ r. ⌜ r ≡ afterEntry (now (bytes .entry)) entry (now (places .entry)) (now (stack .entry)) depth (now (glyphs .entry)) (now (tags .entry)) (now (homes .entry)) used index glyph cycles .answer ⌝ }
+    ensures places { λ _. ⌜ now (places .exit) ≡ afterEntry (now (bytes .entry)) entry (now (places .entry)) (now (stack .entry)) depth (now (glyphs .entry)) (now (tags .entry)) (now (homes .entry)) used index glyph cycles .places ⌝ }
+    ensures stack { λ _. ⌜ now (stack .exit) ≡ afterEntry (now (bytes .entry)) entry (now (places .entry)) (now (stack .entry)) depth (now (glyphs .entry)) (now (tags .entry)) (now (homes .entry)) used index glyph cycles .stack ⌝ }
+    ensures glyphs { λ _. ⌜ now (glyphs .exit) ≡ afterEntry (now (bytes .entry)) entry (now (places .entry)) (now (stack .entry)) depth (now (glyphs .entry)) (now (tags .entry)) (now (homes .entry)) used index glyph cycles .line .glyphs ⌝ }
+    ensures homes { λ _. ⌜ now (homes .exit) ≡ afterEntry (now (bytes .entry)) entry (now (places .entry)) (now (stack .entry)) depth (now (glyphs .entry)) (now (tags .entry)) (now (homes .entry)) used index glyph cycles .line .homes ⌝ }
     ensures bounds { λ r. ⌜ (r .depth ≤ 32) × (cycles ≤ r .cycles) × (r .cycles ≤ 33) ⌝ }
 {
     let sets = machine::is_set(entry.flags, LigatureState::SET_COMPONENT);
@@ -305,11 +305,11 @@ fn next(
     glyph: u16,
 ) -> Reached
     requires { ⌜ (depth ≤ 32) × (used ≤ length (now glyphs)) × (used ≤ length (now tags)) ⌝ }
-    ensures reached { λ r. ⌜ r ≡ reached (ran (now (bytes .entry)) states index glyph class 18 state (stackOf (now (places .entry)) (now (stack .entry)) depth) 0 []) ⌝ }
-    ensures places { λ _. ⌜ now (places .exit) ≡ ran (now (bytes .entry)) states index glyph class 18 state (stackOf (now (places .entry)) (now (stack .entry)) depth) 0 [] .stack .places ⌝ }
-    ensures stack { λ _. ⌜ now (stack .exit) ≡ ran (now (bytes .entry)) states index glyph class 18 state (stackOf (now (places .entry)) (now (stack .entry)) depth) 0 [] .stack .glyphs ⌝ }
-    ensures glyphs { λ _. ⌜ now (glyphs .exit) ≡ ligated (ran (now (bytes .entry)) states index glyph class 18 state (stackOf (now (places .entry)) (now (stack .entry)) depth) 0 [] .made) (lineOf (now (glyphs .entry)) (now (tags .entry)) (now (homes .entry)) used) .glyphs ⌝ }
-    ensures homes { λ _. ⌜ now (homes .exit) ≡ ligated (ran (now (bytes .entry)) states index glyph class 18 state (stackOf (now (places .entry)) (now (stack .entry)) depth) 0 [] .made) (lineOf (now (glyphs .entry)) (now (tags .entry)) (now (homes .entry)) used) .homes ⌝ }
+    ensures reached { λ r. ⌜ r ≡ afterStep (now (bytes .entry)) states class state (now (places .entry)) (now (stack .entry)) depth (now (glyphs .entry)) (now (tags .entry)) (now (homes .entry)) used index glyph .answer ⌝ }
+    ensures places { λ _. ⌜ now (places .exit) ≡ afterStep (now (bytes .entry)) states class state (now (places .entry)) (now (stack .entry)) depth (now (glyphs .entry)) (now (tags .entry)) (now (homes .entry)) used index glyph .places ⌝ }
+    ensures stack { λ _. ⌜ now (stack .exit) ≡ afterStep (now (bytes .entry)) states class state (now (places .entry)) (now (stack .entry)) depth (now (glyphs .entry)) (now (tags .entry)) (now (homes .entry)) used index glyph .stack ⌝ }
+    ensures glyphs { λ _. ⌜ now (glyphs .exit) ≡ afterStep (now (bytes .entry)) states class state (now (places .entry)) (now (stack .entry)) depth (now (glyphs .entry)) (now (tags .entry)) (now (homes .entry)) used index glyph .line .glyphs ⌝ }
+    ensures homes { λ _. ⌜ now (homes .exit) ≡ afterStep (now (bytes .entry)) states class state (now (places .entry)) (now (stack .entry)) depth (now (glyphs .entry)) (now (tags .entry)) (now (homes .entry)) used index glyph .line .homes ⌝ }
     ensures depth { λ r. ⌜ r .depth ≤ 32 ⌝ }
 {
     let mut at = state;
@@ -416,11 +416,11 @@ fn run(
     once: bool,
 ) -> Reached
     requires { ⌜ (deep ≤ 32) × (used ≤ length (now glyphs)) × (used ≤ length (now tags)) ⌝ }
-    ensures reached { λ r. ⌜ r ≡ reached (run (now (bytes .entry)) states once begun (stackOf (now (places .entry)) (now (stack .entry)) deep) (lineOf (now (glyphs .entry)) (now (tags .entry)) (now (homes .entry)) used) index first over) ⌝ }
-    ensures places { λ _. ⌜ now (places .exit) ≡ run (now (bytes .entry)) states once begun (stackOf (now (places .entry)) (now (stack .entry)) deep) (lineOf (now (glyphs .entry)) (now (tags .entry)) (now (homes .entry)) used) index first over .stack .places ⌝ }
-    ensures stack { λ _. ⌜ now (stack .exit) ≡ run (now (bytes .entry)) states once begun (stackOf (now (places .entry)) (now (stack .entry)) deep) (lineOf (now (glyphs .entry)) (now (tags .entry)) (now (homes .entry)) used) index first over .stack .glyphs ⌝ }
-    ensures glyphs { λ _. ⌜ now (glyphs .exit) ≡ ligated (run (now (bytes .entry)) states once begun (stackOf (now (places .entry)) (now (stack .entry)) deep) (lineOf (now (glyphs .entry)) (now (tags .entry)) (now (homes .entry)) used) index first over .made) (lineOf (now (glyphs .entry)) (now (tags .entry)) (now (homes .entry)) used) .glyphs ⌝ }
-    ensures homes { λ _. ⌜ now (homes .exit) ≡ ligated (run (now (bytes .entry)) states once begun (stackOf (now (places .entry)) (now (stack .entry)) deep) (lineOf (now (glyphs .entry)) (now (tags .entry)) (now (homes .entry)) used) index first over .made) (lineOf (now (glyphs .entry)) (now (tags .entry)) (now (homes .entry)) used) .homes ⌝ }
+    ensures reached { λ r. ⌜ r ≡ afterRun (now (bytes .entry)) states once begun (now (places .entry)) (now (stack .entry)) deep (now (glyphs .entry)) (now (tags .entry)) (now (homes .entry)) used index first over .answer ⌝ }
+    ensures places { λ _. ⌜ now (places .exit) ≡ afterRun (now (bytes .entry)) states once begun (now (places .entry)) (now (stack .entry)) deep (now (glyphs .entry)) (now (tags .entry)) (now (homes .entry)) used index first over .places ⌝ }
+    ensures stack { λ _. ⌜ now (stack .exit) ≡ afterRun (now (bytes .entry)) states once begun (now (places .entry)) (now (stack .entry)) deep (now (glyphs .entry)) (now (tags .entry)) (now (homes .entry)) used index first over .stack ⌝ }
+    ensures glyphs { λ _. ⌜ now (glyphs .exit) ≡ afterRun (now (bytes .entry)) states once begun (now (places .entry)) (now (stack .entry)) deep (now (glyphs .entry)) (now (tags .entry)) (now (homes .entry)) used index first over .line .glyphs ⌝ }
+    ensures homes { λ _. ⌜ now (homes .exit) ≡ afterRun (now (bytes .entry)) states once begun (now (places .entry)) (now (stack .entry)) deep (now (glyphs .entry)) (now (tags .entry)) (now (homes .entry)) used index first over .line .homes ⌝ }
 {
     let opened = opened::open(bytes, states);
     let mut memo = opened::nothing_found();

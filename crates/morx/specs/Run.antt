@@ -42,10 +42,8 @@ idle = record { answer = Answer′.Done; changes = [] }
 unfoldable pub turnedWork : (turned : Bool) → Kind → List ℕ → Line → Passed
 turnedWork false kind bytes l = subtableOfKind kind .worked bytes l
 turnedWork true kind bytes l =
-    record {
-      answer = subtableOfKind kind .worked bytes (apply Change.reversal l) .answer;
-      changes = (Change.reversal ∷ subtableOfKind kind .worked bytes (apply Change.reversal l) .changes) ++ (Change.reversal ∷ []);
-    }
+    let work : Passed = subtableOfKind kind .worked bytes (apply Change.reversal l) in
+    record { answer = work .answer; changes = (Change.reversal ∷ work .changes) ++ (Change.reversal ∷ []) }
 
 -- what a pass's answer is to its run: FULL ends the run, and any other end is the subtable's own. A pass is never NOTHING or LIMIT, and in a run never
 -- refused, since what can't be opened is passed over before: those lines are never reached
@@ -100,12 +98,10 @@ module _ (table : List ℕ) (choices : Choices) where
   runOver left flags [] l = record { answer = Answer′.Done; changes = []; heads = 0 }
   runOver zero flags (head ∷ heads) l = record { answer = Answer′.Limit; changes = []; heads = 0 }
   runOver (suc left) flags (head ∷ heads) l =
-      elim (isDone (visit table choices flags head l .answer)) [
-        | false ↦
-            record { answer = visit table choices flags head l .answer; changes = visit table choices flags head l .changes; heads = 1 }
-        | true ↦
-            behind (visit table choices flags head l .changes)
-            (runOver left (flagsAfter head flags) heads (visitLeaves table choices flags head l))
+      let here : Passed = visit table choices flags head l in
+      elim (isDone (here .answer)) [
+        | false ↦ record { answer = here .answer; changes = here .changes; heads = 1 }
+        | true ↦ behind (here .changes) (runOver left (flagsAfter head flags) heads (visitLeaves table choices flags head l))
       ]
 
 -- the run over the table at `start`
