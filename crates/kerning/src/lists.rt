@@ -7,6 +7,9 @@ ghost use Rattle.kerning.specs.Additions.{additionsAt, addAll};
 ghost use Rattle.kerning.specs.Bounds.{Within};
 ghost use Rattle.kerning.specs.Lists.{amountOf, ruled, numberAt, walk};
 
+// The most places of a stack.
+pub const DEPTH: usize = 8;
+
 // When a list ends.
 pub enum Rule {
     // kern: an odd number is the last; across the stream one number adds nothing.
@@ -86,7 +89,7 @@ pub fn walk(
     rule: Rule,
     stride: usize,
     place: usize,
-    stack: &[usize; 8],
+    stack: &[usize; DEPTH],
     depth: usize,
     used: usize,
     along: &mut [i64],

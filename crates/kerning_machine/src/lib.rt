@@ -62,7 +62,7 @@ pub struct Orders {
 // The state of a pass: the state table's state, the stack of places, and how many steps in a row did not advance.
 pub struct KerningState {
     pub state: u16,
-    pub stack: [usize; 8],
+    pub stack: [usize; KerningState::DEPTH],
     pub depth: usize,
     pub cycles: u16,
 }
@@ -161,7 +161,7 @@ fn follow(
     bytes: &[u8],
     reading: Reading,
     start: Start,
-    stack: &[usize; 8],
+    stack: &[usize; KerningState::DEPTH],
     depth: usize,
     used: usize,
     along: &mut [i64],
@@ -229,7 +229,13 @@ fn is_full(pushes: bool, depth: usize) -> bool
 }
 
 // Pushes the index, or empties the stack, or does neither. Returns the depth afterwards.
-fn push(stack: &mut [usize; 8], depth: usize, pushes: bool, clears: bool, index: usize) -> usize
+fn push(
+    stack: &mut [usize; KerningState::DEPTH],
+    depth: usize,
+    pushes: bool,
+    clears: bool,
+    index: usize,
+) -> usize
     requires { ⌜ (depth ≤ 8) × (isFull pushes depth ≡ false) ⌝ }
     ensures { λ r. ⌜ ((state cycles : ℕ) → standing state (now (stack .exit)) r cycles ≡ stacked (standing state (now (stack .entry)) depth cycles) pushes clears index) ⌝ }
 {
@@ -273,7 +279,7 @@ fn act(
     bytes: &[u8],
     reading: Reading,
     orders: Orders,
-    stack: &mut [usize; 8],
+    stack: &mut [usize; KerningState::DEPTH],
     depth: usize,
     used: usize,
     index: usize,
@@ -296,7 +302,7 @@ fn next(
     bytes: &[u8],
     kerning: Kerning,
     state: u16,
-    stack: &mut [usize; 8],
+    stack: &mut [usize; KerningState::DEPTH],
     depth: usize,
     cycles: u16,
     used: usize,
@@ -340,7 +346,7 @@ fn is_short(opened: Opened) -> bool
 }
 
 // Whether the places of the used slots are not above the length.
-fn are_within(stack: [usize; 8], depth: usize, used: usize) -> bool
+fn are_within(stack: [usize; KerningState::DEPTH], depth: usize, used: usize) -> bool
     requires { ⌜ depth ≤ 8 ⌝ }
     ensures { λ r. ⌜ r ≡ areWithin stack depth used ⌝ }
 {
@@ -381,7 +387,7 @@ impl KerningState {
     // The index of kerx's that means no list.
     pub const NO_LIST: u16 = 0xFFFF;
 
-    pub const DEPTH: usize = 8;
+    pub const DEPTH: usize = lists::DEPTH;
 
     pub const MOST_CYCLES: u16 = 17;
 
@@ -391,7 +397,7 @@ impl KerningState {
     {
         KerningState {
             state: 0,
-            stack: [0; 8],
+            stack: [0; KerningState::DEPTH],
             depth: 0,
             cycles: 0,
         }
