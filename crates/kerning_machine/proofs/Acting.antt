@@ -9,7 +9,6 @@ use Rattle.answers.specs.declared.Answer.the-variants as Answer′
 use Rattle.state_tables.specs.declared.entries.Entry.{Entry}
 use Rattle.state_tables.specs.declared.entries.Entered.{Entered}
 use Rattle.state_tables.specs.declared.entries.Entered.the-variants as Entered′
-use Rattle.state_tables.specs.Classes.{classOf}
 use Rattle.state_tables.specs.Entries.{entryOf, onEntry}
 use Rattle.machine.specs.Pass.{isDone}
 use Rattle.kerning.specs.Additions.{Addition, addAll}
@@ -108,13 +107,13 @@ led-anew : (bytes : List ℕ) (reading : Reading) (s : KerningState) (orders : O
 unfolding acted
 led-anew bytes reading s orders used index = refl
 
-module _ (bytes : List ℕ) (kerning : Kerning) (s : KerningState) (used index glyph : ℕ) (along : List ℤ) {class payload : ℕ} {r : Entered}
-    (k : class ≡ classOf bytes (kerning .states) glyph) (p : payload ≡ payloadOf (kerning .reading))
+module _ (classes : ℕ → ℕ) (bytes : List ℕ) (kerning : Kerning) (s : KerningState) (used index glyph : ℕ) (along : List ℤ) {class payload : ℕ}
+    {r : Entered} (k : class ≡ classes glyph) (p : payload ≡ payloadOf (kerning .reading))
     (e : r ≡ entryOf bytes (kerning .states) (s .state) class payload) where
-  found : r ≡ entryOf bytes (kerning .states) (s .state) (classOf bytes (kerning .states) glyph) (payloadOf (kerning .reading))
+  found : r ≡ entryOf bytes (kerning .states) (s .state) (classes glyph) (payloadOf (kerning .reading))
   found = e ∙ ap₂ (λ (c q : ℕ). entryOf bytes (kerning .states) (s .state) c q) k p
 
-  pub next-ended : {step : KerningStep} → r ≡ Entered′.Ended → step ≡ stopped s Answer′.Ended → Does (next bytes kerning s used index glyph) along step along
+  pub next-ended : {step : KerningStep} → r ≡ Entered′.Ended → step ≡ stopped s Answer′.Ended → Does (next classes bytes kerning s used index glyph) along step along
   unfolding next
   next-ended f g =
       record {
@@ -125,10 +124,10 @@ module _ (bytes : List ℕ) (kerning : Kerning) (s : KerningState) (used index g
   pub next-acts : {entry : Entry} {orders : Orders} {step : KerningStep} {along′ : List ℤ} → r ≡ Entered′.At entry
       → orders ≡ ordersOf bytes (kerning .reading) entry → step ≡ acted bytes (kerning .reading) (entered s orders) orders used index .step
       → along′ ≡ addAll (acted bytes (kerning .reading) (entered s orders) orders used index .additions) along
-      → Does (next bytes kerning s used index glyph) along step along′
+      → Does (next classes bytes kerning s used index glyph) along step along′
   unfolding next
   next-acts {entry} {orders} f o q a =
-      let n : acted bytes (kerning .reading) (entered s orders) orders used index ≡ next bytes kerning s used index glyph =
+      let n : acted bytes (kerning .reading) (entered s orders) orders used index ≡ next classes bytes kerning s used index glyph =
       led-anew bytes (kerning .reading) s orders used index ∙ ap (λ (x : Orders). acted bytes (kerning .reading) s x used index) o ∙ sym (rw (sym found ∙ f, next)) in
       record {
         steps = q ∙ ap (λ (x : Stepped). x .step) n;

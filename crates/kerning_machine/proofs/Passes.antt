@@ -20,33 +20,33 @@ use Rattle.kerning.proofs.Adding.{Small, small-none, small-append, length-addAl
 use Rattle.kerning_machine.specs.declared.Kerning.{Kerning}
 use Rattle.kerning_machine.specs.declared.KerningState.{KerningState}
 use Rattle.kerning_machine.specs.declared.KerningStep.{KerningStep}
-use Rattle.kerning_machine.specs.Machine.{fresh, Stepped, next, stepAt, passFrom, rest, passed}
+use Rattle.kerning_machine.specs.Machine.{fresh, Stepped, next, stepAt, passFrom, rest, passedBy}
 use Rattle.kerning_machine.proofs.Sound.{Sound, next-sound}
 
-module _ (bytes : List ℕ) (kerning : Kerning) (glyphs : List ℕ) (used : ℕ) where
+module _ (classes : ℕ → ℕ) (bytes : List ℕ) (kerning : Kerning) (glyphs : List ℕ) (used : ℕ) where
   -- one turn, by the answer of its step
   module _ (turns : ℕ) (s : KerningState) (i : ℕ) where
-    pub turn-goes : i < used → isDone (stepAt bytes kerning glyphs used s i .step .answer) ≡ true
-        → passFrom bytes kerning glyphs used (suc turns) s i
-        ≡ after (stepAt bytes kerning glyphs used s i .additions)
-        (passFrom bytes kerning glyphs used turns (stepAt bytes kerning glyphs used s i .step .state) (i + stepAt bytes kerning glyphs used s i .step .advance))
+    pub turn-goes : i < used → isDone (stepAt classes bytes kerning glyphs used s i .step .answer) ≡ true
+        → passFrom classes bytes kerning glyphs used (suc turns) s i
+        ≡ after (stepAt classes bytes kerning glyphs used s i .additions)
+        (passFrom classes bytes kerning glyphs used turns (stepAt classes bytes kerning glyphs used s i .step .state) (i + stepAt classes bytes kerning glyphs used s i .step .advance))
     unfolding passFrom
     turn-goes h e = rw (lt-ltb i used h, e, passFrom)
 
-    pub turn-stops : i < used → isDone (stepAt bytes kerning glyphs used s i .step .answer) ≡ false
-        → passFrom bytes kerning glyphs used (suc turns) s i
-        ≡ record { answer = stepAt bytes kerning glyphs used s i .step .answer; additions = stepAt bytes kerning glyphs used s i .additions }
+    pub turn-stops : i < used → isDone (stepAt classes bytes kerning glyphs used s i .step .answer) ≡ false
+        → passFrom classes bytes kerning glyphs used (suc turns) s i
+        ≡ record { answer = stepAt classes bytes kerning glyphs used s i .step .answer; additions = stepAt classes bytes kerning glyphs used s i .additions }
     unfolding passFrom
     turn-stops h e = rw (lt-ltb i used h, e, passFrom)
 
-    pub turn-ends : used ≤ i → passFrom bytes kerning glyphs used (suc turns) s i ≡ nothingAdded Answer′.Done
+    pub turn-ends : used ≤ i → passFrom classes bytes kerning glyphs used (suc turns) s i ≡ nothingAdded Answer′.Done
     unfolding passFrom
     turn-ends h = rw (le-ltb i used h, passFrom)
 
   -- what a pass that ends here answers and leaves
   pub record Over (along₀ : List ℤ) (answer : Answer) (along : List ℤ) : Type 0 where
-    pub answers : answer ≡ passed bytes kerning glyphs used .answer
-    pub leaves : along ≡ addAll (passed bytes kerning glyphs used .additions) along₀
+    pub answers : answer ≡ passedBy classes bytes kerning glyphs used .answer
+    pub leaves : along ≡ addAll (passedBy classes bytes kerning glyphs used .additions) along₀
 
   -- what the loop knows at place i
   pub record Going (along₀ along : List ℤ) (s : KerningState) (i : ℕ) : Type 0 where
@@ -56,13 +56,13 @@ module _ (bytes : List ℕ) (kerning : Kerning) (glyphs : List ℕ) (used : ℕ)
     pub at : along ≡ addAll done along₀
     pub small : Small done
     pub few : length done + turns * 8 ≤ (used * 18 + 18) * 8
-    pub same : after done (passFrom bytes kerning glyphs used turns s i) ≡ passed bytes kerning glyphs used
+    pub same : after done (passFrom classes bytes kerning glyphs used turns s i) ≡ passedBy classes bytes kerning glyphs used
     pub cycles : s .cycles ≤ 17
     pub within : i ≤ used
     pub deep : s .depth ≤ 8
 
   pub going-start : (along : List ℤ) (s : KerningState) → s ≡ fresh → Going along along s 0
-  unfolding passed
+  unfolding passedBy
   going-start along s e =
       subst⁻¹ (λ (r : KerningState). Going along along r 0) e
       (record {
@@ -86,13 +86,13 @@ module _ (bytes : List ℕ) (kerning : Kerning) (glyphs : List ℕ) (used : ℕ)
     one-more : (k : ℕ) × (g .turns ≡ suc k)
     one-more = more (g .turns) (rest used s i) (g .enough) (omega (arith, g .cycles))
 
-    whole-is : (k : ℕ) → g .turns ≡ suc k → (r : Kerned) → passFrom bytes kerning glyphs used (suc k) s i ≡ r → after (g .done) r ≡ passed bytes kerning glyphs used
+    whole-is : (k : ℕ) → g .turns ≡ suc k → (r : Kerned) → passFrom classes bytes kerning glyphs used (suc k) s i ≡ r → after (g .done) r ≡ passedBy classes bytes kerning glyphs used
     whole-is k e r f = ap (after (g .done)) (sym (rw e f)) ∙ g .same
 
     joined : (xs : List Addition) → addAll xs along ≡ addAll (g .done ++ xs) along₀
     joined xs = ap (addAll xs) (g .at) ∙ sym (addAll-append (g .done) xs along₀)
 
-    over : (r : Kerned) → after (g .done) r ≡ passed bytes kerning glyphs used → {along′ : List ℤ} → along′ ≡ addAll (r .additions) along
+    over : (r : Kerned) → after (g .done) r ≡ passedBy classes bytes kerning glyphs used → {along′ : List ℤ} → along′ ≡ addAll (r .additions) along
         → Over along₀ (r .answer) along′
     over r e a =
         record {
@@ -111,14 +111,14 @@ module _ (bytes : List ℕ) (kerning : Kerning) (glyphs : List ℕ) (used : ℕ)
     pub going-end : used ≤ i → Over along₀ Answer′.Done along
     going-end h = let (k, f) = one-more in over (nothingAdded Answer′.Done) (whole-is k f (nothingAdded Answer′.Done) (turn-ends k s i h)) (sym (addAll-none along))
 
-    module _ {step : KerningStep} {along′ : List ℤ} (h : i < used) (e : step ≡ next bytes kerning s used i (getD glyphs i 0) .step)
-        (a : along′ ≡ addAll (next bytes kerning s used i (getD glyphs i 0) .additions) along) where
+    module _ {step : KerningStep} {along′ : List ℤ} (h : i < used) (e : step ≡ next classes bytes kerning s used i (getD glyphs i 0) .step)
+        (a : along′ ≡ addAll (next classes bytes kerning s used i (getD glyphs i 0) .additions) along) where
       here : Stepped
-      here = stepAt bytes kerning glyphs used s i
+      here = stepAt classes bytes kerning glyphs used s i
 
       sound : Sound (s .cycles) here
       unfolding here
-      sound = next-sound bytes kerning s used i (getD glyphs i 0) (g .deep)
+      sound = next-sound classes bytes kerning s used i (getD glyphs i 0) (g .deep)
 
       pub going-stop : isDone (step .answer) ≡ false → Over along₀ (step .answer) along′
       unfolding here
@@ -145,7 +145,7 @@ module _ (bytes : List ℕ) (kerning : Kerning) (glyphs : List ℕ) (used : ℕ)
           let d′ : isDone (here .step .answer) ≡ true = subst (λ (x : KerningStep). isDone (x .answer) ≡ true) e d in
           let c = sound .stalls d′ .0 in
           let v = sound .stalls d′ .1 in
-          let then : Kerned = passFrom bytes kerning glyphs used k (here .step .state) (i + here .step .advance) in
+          let then : Kerned = passFrom classes bytes kerning glyphs used k (here .step .state) (i + here .step .advance) in
           subst⁻¹ (λ (x : KerningStep). Going along₀ along′ (x .state) (i + x .advance)) e
           (record {
             turns = k;

@@ -14,7 +14,6 @@ use Rattle.line.proofs.Room.{room-small}
 use Rattle.state_tables.specs.declared.entries.Entry.{Entry}
 use Rattle.state_tables.specs.declared.entries.Entered.{Entered}
 use Rattle.state_tables.specs.declared.entries.Entered.the-variants as Entered′
-use Rattle.state_tables.specs.Classes.{classOf}
 use Rattle.state_tables.specs.Entries.{entryOf}
 use Rattle.machine.specs.Stall.{stalled}
 use Rattle.machine.specs.Pass.{isDone}
@@ -31,7 +30,7 @@ use Rattle.kerning_machine.specs.declared.Kerning.{Kerning}
 use Rattle.kerning_machine.specs.declared.Opened.{Opened}
 use Rattle.kerning_machine.specs.declared.Opened.the-variants as Opened′
 use Rattle.kerning_machine.specs.declared.KerningState.{KerningState}
-use Rattle.kerning_machine.specs.Machine.{fresh, ruleOf, strideOf, isFull, popped, stacked, settled, walkedFrom, Stepped, behind, listed, entered, acted, payloadOf, ordersOf, next, stepAt, passFrom, rest, passed, workedBy}
+use Rattle.kerning_machine.specs.Machine.{fresh, ruleOf, strideOf, isFull, popped, stacked, settled, walkedFrom, Stepped, behind, listed, entered, acted, payloadOf, ordersOf, next, stepAt, passFrom, rest, passedBy, passed, ownClasses, workedBy}
 use Rattle.kerning_machine.proofs.Acting.{stacked-deep}
 
 -- a step from a state that took so many cycles
@@ -100,14 +99,14 @@ acted-sound bytes reading s orders used index h = go (isFull (orders .pushes) (s
         (listed-sound orders on w (stacked-deep (entered s orders) (orders .pushes) (orders .clears) index h e)
         (followed-bounded bytes reading (orders .start) (on .stack) (on .depth) used))
 
-pub next-sound : (bytes : List ℕ) (kerning : Kerning) (s : KerningState) (used index glyph : ℕ) → s .depth ≤ 8
-    → Sound (s .cycles) (next bytes kerning s used index glyph)
+pub next-sound : (classes : ℕ → ℕ) (bytes : List ℕ) (kerning : Kerning) (s : KerningState) (used index glyph : ℕ) → s .depth ≤ 8
+    → Sound (s .cycles) (next classes bytes kerning s used index glyph)
 unfolding next
-next-sound bytes kerning s used index glyph h =
-    go (entryOf bytes (kerning .states) (s .state) (classOf bytes (kerning .states) glyph) (payloadOf (kerning .reading))) refl
+next-sound classes bytes kerning s used index glyph h =
+    go (entryOf bytes (kerning .states) (s .state) (classes glyph) (payloadOf (kerning .reading))) refl
   where
-    go : (e : Entered) → entryOf bytes (kerning .states) (s .state) (classOf bytes (kerning .states) glyph) (payloadOf (kerning .reading)) ≡ e
-        → Sound (s .cycles) (next bytes kerning s used index glyph)
+    go : (e : Entered) → entryOf bytes (kerning .states) (s .state) (classes glyph) (payloadOf (kerning .reading)) ≡ e
+        → Sound (s .cycles) (next classes bytes kerning s used index glyph)
     go (Entered′.At entry) f = rw (f, next) (acted-sound bytes (kerning .reading) s (ordersOf bytes (kerning .reading) entry) used index h)
     go Entered′.Ended f = rw (f, next) (record { deep = h; small = small-none; few = omega arith; stays = false; stalls = λ d. never d })
 
@@ -116,14 +115,14 @@ pub record Modest (turns : ℕ) (r : Kerned) : Type 0 where
   pub small : Small (r .additions)
   pub few : length (r .additions) ≤ turns * 8
 
-module _ (bytes : List ℕ) (kerning : Kerning) (glyphs : List ℕ) (used : ℕ) where
-  pub pass-modest : (turns : ℕ) (s : KerningState) (i : ℕ) → s .depth ≤ 8 → Modest turns (passFrom bytes kerning glyphs used turns s i)
+module _ (classes : ℕ → ℕ) (bytes : List ℕ) (kerning : Kerning) (glyphs : List ℕ) (used : ℕ) where
+  pub pass-modest : (turns : ℕ) (s : KerningState) (i : ℕ) → s .depth ≤ 8 → Modest turns (passFrom classes bytes kerning glyphs used turns s i)
   unfolding passFrom
   pass-modest zero s i h = record { small = small-none; few = omega arith }
   pass-modest (suc turns) s i h =
-      let r : Stepped = stepAt bytes kerning glyphs used s i in
-      let sound : Sound (s .cycles) r = next-sound bytes kerning s used i (getD glyphs i 0) h in
-      go r sound (passFrom bytes kerning glyphs used turns (r .step .state) (i + r .step .advance))
+      let r : Stepped = stepAt classes bytes kerning glyphs used s i in
+      let sound : Sound (s .cycles) r = next-sound classes bytes kerning s used i (getD glyphs i 0) h in
+      go r sound (passFrom classes bytes kerning glyphs used turns (r .step .state) (i + r .step .advance))
       (pass-modest turns (r .step .state) (i + r .step .advance) (sound .deep)) (ltb i used) (isDone (r .step .answer))
     where
       go : (r : Stepped) → Sound (s .cycles) r → (later : Kerned) → Modest turns later → (t u : Bool)
@@ -151,9 +150,9 @@ modest-within along m t h w = within-more (omega (arith, m .few, room-small)) (w
 
 pub passed-within : (bytes : List ℕ) (kerning : Kerning) (glyphs : List ℕ) (used : ℕ) {b : ℕ} (along : List ℤ) → used ≤ roomLimit → Within b along
     → Within (b + 2 ^ 39) (addAll (passed bytes kerning glyphs used .additions) along)
-unfolding passed
+unfolding passed passedBy
 passed-within bytes kerning glyphs used along h w =
-    modest-within along (pass-modest bytes kerning glyphs used (rest used fresh 0) fresh 0 (omega arith)) (omega arith) h w
+    modest-within along (pass-modest (ownClasses bytes kerning) bytes kerning glyphs used (rest used fresh 0) fresh 0 (omega arith)) (omega arith) h w
 
 pub worked-within : (bytes : List ℕ) (opened : Opened) (glyphs : List ℕ) (used : ℕ) {b : ℕ} (along : List ℤ) → used ≤ roomLimit → Within b along
     → Within (b + 2 ^ 39) (addAll (workedBy bytes opened glyphs used .additions) along)

@@ -27,7 +27,7 @@ use Rattle.kerning_machine.specs.declared.KerningStep.{KerningStep}
 use Rattle.kerning_machine.specs.declared.Kerning.{Kerning}
 use Rattle.kerning_machine.specs.declared.Opened.{Opened}
 use Rattle.kerning_machine.specs.declared.Opened.the-variants as Opened′
-use Rattle.kerning_machine.specs.Machine.{Stepped, stopped, next, isShort, areWithin, isRoomy, laterTests, stepTests, stepCall}
+use Rattle.kerning_machine.specs.Machine.{Stepped, stopped, next, ownClasses, isShort, areWithin, isRoomy, laterTests, stepTests, stepCall}
 use Rattle.kerning_machine.proofs.Acting.{Does}
 
 module _ (n used index : ℕ) (s : KerningState) (along : List ℤ) (headless : Bool) {r : Check} (e : r ≡ refuse (tableTest n ∷ [])) where
@@ -86,7 +86,7 @@ module _ (n : ℕ) (bytes : List ℕ) (opened : Opened) (s : KerningState) (used
   step-headless f o g = rw (sym tests ∙ f, stepCall) (rw o (record { steps = g; leaves = refl }))
 
   pub step-works : {kerning : Kerning} {step : KerningStep} {along′ : List ℤ} → check ≡ Passed → opened ≡ Opened′.Ready kerning
-      → step ≡ next bytes kerning s used index glyph .step → along′ ≡ addAll (next bytes kerning s used index glyph .additions) along
+      → step ≡ next (ownClasses bytes kerning) bytes kerning s used index glyph .step → along′ ≡ addAll (next (ownClasses bytes kerning) bytes kerning s used index glyph .additions) along
       → Does (stepCall n bytes opened s used index glyph along) along step along′
   unfolding stepCall
   step-works f o g a = rw (sym tests ∙ f, stepCall) (rw o (record { steps = g; leaves = a }))

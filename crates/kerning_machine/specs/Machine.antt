@@ -156,18 +156,18 @@ acted bytes reading s orders used index =
     (let on : KerningState = stacked (entered s orders) (orders .pushes) (orders .clears) index in
     listed orders on (walkedFrom bytes reading (orders .start) (on .stack) (on .depth) used))
 
--- a step: class, then entry, then what the entry does
-unfoldable pub next : List ℕ → Kerning → KerningState → (used index glyph : ℕ) → Stepped
-next bytes kerning s used index glyph =
-    onEntry (entryOf bytes (kerning .states) (s .state) (classOf bytes (kerning .states) glyph) (payloadOf (kerning .reading)))
+-- a step, with any classes: class, then entry, then what the entry does
+unfoldable pub next : (classes : ℕ → ℕ) → List ℕ → Kerning → KerningState → (used index glyph : ℕ) → Stepped
+next classes bytes kerning s used index glyph =
+    onEntry (entryOf bytes (kerning .states) (s .state) (classes glyph) (payloadOf (kerning .reading)))
     (λ entry. acted bytes (kerning .reading) s (ordersOf bytes (kerning .reading) entry) used index)
     (record { step = stopped s Answer′.Ended; additions = [] })
 
 -- The pass over the places of a line.
-module _ (bytes : List ℕ) (kerning : Kerning) (glyphs : List ℕ) (used : ℕ) where
+module _ (classes : ℕ → ℕ) (bytes : List ℕ) (kerning : Kerning) (glyphs : List ℕ) (used : ℕ) where
   -- the step at a place of the line, with the glyph that stands there
   abbrev pub stepAt : KerningState → ℕ → Stepped
-  stepAt s i = next bytes kerning s used i (getD glyphs i 0)
+  stepAt s i = next classes bytes kerning s used i (getD glyphs i 0)
 
   -- from place i on: the step at each place below the used length; one that is not DONE ends the pass. There is no end call. `turns` bounds how many
   -- steps there are
@@ -187,9 +187,17 @@ module _ (bytes : List ℕ) (kerning : Kerning) (glyphs : List ℕ) (used : ℕ)
 abbrev pub rest : (used : ℕ) → KerningState → ℕ → ℕ
 rest used s i = (used - i) * 18 + (18 - s .cycles)
 
--- the pass over a line: from the fresh state and the first place
+-- the pass over a line, by any classes: from the fresh state and the first place
+unfoldable pub passedBy : (classes : ℕ → ℕ) → List ℕ → Kerning → (glyphs : List ℕ) → (used : ℕ) → Kerned
+passedBy classes bytes kerning glyphs used = passFrom classes bytes kerning glyphs used (rest used fresh 0) fresh 0
+
+-- the classes of the machine's own class table
+abbrev pub ownClasses : List ℕ → Kerning → ℕ → ℕ
+ownClasses bytes kerning = classOf bytes (kerning .states)
+
+-- the pass over a line
 unfoldable pub passed : List ℕ → Kerning → (glyphs : List ℕ) → (used : ℕ) → Kerned
-passed bytes kerning glyphs used = passFrom bytes kerning glyphs used (rest used fresh 0) fresh 0
+passed bytes kerning glyphs used = passedBy (ownClasses bytes kerning) bytes kerning glyphs used
 
 abbrev pub isShort : Opened → Bool
 isShort (Opened′.Ready kerning) = false
@@ -239,4 +247,4 @@ onOpened Opened′.Short s work = refusedStep s (Answer′.Refused Refusal′.He
 unfoldable pub stepCall : (tableLength : ℕ) → List ℕ → Opened → KerningState → (used index glyph : ℕ) → List ℤ → Stepped
 stepCall tableLength bytes opened s used index glyph along =
     steppedBy (refuse (stepTests tableLength used index s along (isShort opened))) s
-    (onOpened opened s (λ kerning. next bytes kerning s used index glyph))
+    (onOpened opened s (λ kerning. next (ownClasses bytes kerning) bytes kerning s used index glyph))

@@ -20,7 +20,7 @@ ghost use Rattle.answers.specs.Refuse.{refuse};
 ghost use Rattle.answers.specs.declared.Answer.the-variants.{Ended};
 ghost use Rattle.kerning.specs.Additions.{addAll};
 ghost use Rattle.kerning.specs.Bounds.{Within};
-ghost use Rattle.kerning_machine.specs.Machine.{fresh, payloadOf, tupleSize, kernStart, kerxStart, ordersOf, isFull, stacked, stopped, settled, walkedFrom, behind, acted, next, passed, isRoomy, isShort, areWithin, stepTests, stepCall, workedBy};
+ghost use Rattle.kerning_machine.specs.Machine.{fresh, payloadOf, tupleSize, kernStart, kerxStart, ordersOf, isFull, stacked, stopped, settled, walkedFrom, behind, acted, next, passed, ownClasses, isRoomy, isShort, areWithin, stepTests, stepCall, workedBy};
 ghost use Rattle.kerning_machine.specs.Work.{standing, stepOf};
 
 // How a machine reads its entries: kern's flags hold where the list begins, and its subtable may go across the stream; kerx's entries hold
@@ -311,8 +311,8 @@ fn next(
     along: &mut [i64],
 ) -> Moved
     requires { ⌜ (depth ≤ 8) × (used ≤ length (now along)) × Within (2 ^ 61) (now along) ⌝ }
-    ensures step { λ r. ⌜ stepOf r (now (stack .exit)) ≡ next (now (bytes .entry)) kerning (standing state (now (stack .entry)) depth cycles) used index glyph .step ⌝ }
-    ensures along { λ _. ⌜ now (along .exit) ≡ addAll (next (now (bytes .entry)) kerning (standing state (now (stack .entry)) depth cycles) used index glyph .additions) (now (along .entry)) ⌝ }
+    ensures step { λ r. ⌜ stepOf r (now (stack .exit)) ≡ next (ownClasses (now (bytes .entry)) kerning) (now (bytes .entry)) kerning (standing state (now (stack .entry)) depth cycles) used index glyph .step ⌝ }
+    ensures along { λ _. ⌜ now (along .exit) ≡ addAll (next (ownClasses (now (bytes .entry)) kerning) (now (bytes .entry)) kerning (standing state (now (stack .entry)) depth cycles) used index glyph .additions) (now (along .entry)) ⌝ }
 {
     let states = kerning.states;
     let reading = kerning.reading;

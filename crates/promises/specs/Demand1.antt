@@ -50,9 +50,9 @@ pub record Demand1 : Type 0 where
   pub contextual-turns : (l : Line) → Bounded contextual l
   pub ligature-turns : (l : Line) → Bounded ligature l
   pub insertion-turns : (l : Line) → Valid l → Bounded insertion l
-  pub kerning-turns : (bytes : List ℕ) (kerning : Kerning) (glyphs : List ℕ) (used more : ℕ)
-      → KerningMachine.passFrom bytes kerning glyphs used (more + KerningMachine.rest used KerningMachine.fresh 0) KerningMachine.fresh 0
-      ≡ KerningMachine.passed bytes kerning glyphs used
+  pub kerning-turns : (classes : ℕ → ℕ) (bytes : List ℕ) (kerning : Kerning) (glyphs : List ℕ) (used more : ℕ)
+      → KerningMachine.passFrom classes bytes kerning glyphs used (more + KerningMachine.rest used KerningMachine.fresh 0) KerningMachine.fresh 0
+      ≡ KerningMachine.passedBy classes bytes kerning glyphs used
   -- nor are those on the entries of a ligature's step and on a list of its actions
   pub entry-turns : (bytes : List ℕ) (states : States) (index glyph class more state : ℕ) (stack : Ligature.Stack) (cycles : ℕ) (made : List Ligature.Ligation)
       → cycles ≤ 17
