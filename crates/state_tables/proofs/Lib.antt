@@ -3,6 +3,7 @@ mod Products
 mod Replies
 mod Heads
 mod Readings
+pub mod Rows
 pub mod Laws
 pub mod Manual
 pub mod Differences

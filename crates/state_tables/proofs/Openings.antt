@@ -168,6 +168,12 @@ pub words-class : (bytes : List ℕ) (opened : Classes) (base first count glyph 
 unfolding classBy
 words-class bytes opened base first count glyph e = rw e
 
+-- and in one of bytes
+pub bytes-class : (bytes : List ℕ) (opened : Classes) (base first count glyph : ℕ) → opened ≡ Bytes base first count
+    → byteClassIn bytes base first count glyph ≡ classBy bytes opened glyph
+unfolding classBy
+bytes-class bytes opened base first count glyph e = rw e
+
 -- a deleted glyph's class is 2 in every class table
 pub deleted-class : (bytes : List ℕ) (opened : Classes) → classBy bytes opened 65535 ≡ 2
 unfolding classBy wordClass byteClassIn

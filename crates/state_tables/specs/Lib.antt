@@ -3,4 +3,5 @@ pub mod States
 pub mod Classes
 pub mod Entries
 pub mod Opened
+pub mod Rows
 pub mod Manual

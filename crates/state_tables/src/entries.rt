@@ -3,10 +3,11 @@ use crate::Edition;
 use crate::States;
 use parse::ReadU16;
 ghost use mathlib.Core.Path.{_≡_};
-ghost use Prim.Native.Nat.{_+_, _*_, _<_, _≤_, _^_};
+ghost use Prim.Native.Nat.{_+_, _*_, _/_, _<_, _≤_, _^_};
 ghost use lib.ListN.{length};
 ghost use Rattle.parse.specs.Reads.{u16At};
 ghost use Rattle.state_tables.specs.Entries.{readNarrow, entryNumber, entryAt, byRow, resolved, entryOf};
+ghost use Rattle.state_tables.specs.Rows.{reachedIn};
 
 // An entry: the state that it leads to, its flags, and where its payload begins.
 pub struct Entry {
@@ -18,6 +19,12 @@ pub struct Entry {
 // What a state and a class give. `Ended` is the crate's None, and class count 0, where the crate panics.
 pub enum Entered {
     At(Entry),
+    Ended,
+}
+
+// What a row and a class of a classic table give: the row that the entry leads to, by the number of its first cell, and the entry's flags.
+pub enum Reached {
+    At { row: u32, flags: u16 },
     Ended,
 }
 
@@ -137,5 +144,45 @@ pub fn two_numbers(bytes: &[u8], payload: usize) -> Two
     Two {
         first: parse::u16_at(bytes, payload),
         second: parse::u16_at(bytes, payload + 2),
+    }
+}
+
+// The first cell of the row that a cell is in. One turn is enough; as a loop it is a branch, which is foretold where entries name the first
+// cell, as they should, so that nobody waits for the division.
+fn row_of(cell: u32, classes: u32) -> u32
+    requires { ⌜ 0 < classes ⌝ }
+    ensures { λ r. ⌜ r ≡ cell / classes * classes ⌝ }
+{
+    let mut row = cell;
+    while row % classes != 0 {
+        row -= row % classes;
+    }
+    row
+}
+
+// The entry of a row and a class, in a classic table whose entries have no payload: what `entry_of` gives for the row's state.
+pub fn reach(bytes: &[u8], states: States, row: u32, class: u16) -> Reached
+    ensures { λ r. ⌜ r ≡ reachedIn (now (bytes .entry)) states row class ⌝ }
+{
+    let array = states.array;
+    let classes = states.classes;
+    let cell = row as usize + class as usize;
+    let ReadU16::Got(number) = read_narrow(bytes, array as usize + cell) else {
+        return Reached::Ended;
+    };
+    let place = entry_place(states.entries, number, 0);
+    let Entered::At(entry) = entry_at(bytes, place, 0) else {
+        return Reached::Ended;
+    };
+    let begins = entry.state as u32;
+    if begins < array {
+        return Reached::Ended;
+    }
+    if classes == 0 {
+        return Reached::Ended;
+    }
+    Reached::At {
+        row: row_of(begins - array, classes),
+        flags: entry.flags,
     }
 }
