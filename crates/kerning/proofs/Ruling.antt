@@ -99,3 +99,13 @@ number-inside bytes rule place {z} f = go (readU16 bytes place) refl
     go : (r : ReadU16) → readU16 bytes place ≡ r → place + 2 ≤ length bytes
     go (U16.Got n) e = u16-value bytes place e .0
     go U16.Short e = let g : numberAt bytes rule place ≡ Short = rw (e, numberAt) in let z′ : _≡_ {A = ℕ} 0 1 = cc in absurd (omega arith)
+
+-- a number of kerx's, from what was read
+module _ (bytes : List ℕ) (place : ℕ) {r : ReadU16} (e : r ≡ readU16 bytes place) where
+  pub never-short : r ≡ U16.Short → Short ≡ numberAt bytes Never place
+  unfolding numberAt
+  never-short f = rw (sym e ∙ f, numberAt)
+
+  pub never-more : {n : ℕ} → r ≡ U16.Got n → More (signed16 n) ≡ numberAt bytes Never place
+  unfolding numberAt ruled
+  never-more f = rw (sym e ∙ f, numberAt, ruled)

@@ -134,3 +134,36 @@ pub fn walk(
         depth: 0,
     }
 }
+
+// The same of a list of kerx's, in a function of its own: no number of such a list is the last, and its one caller takes it in whole.
+pub fn walk_kerx(
+    bytes: &[u8],
+    stride: usize,
+    place: usize,
+    stack: &[usize; DEPTH],
+    depth: usize,
+    used: usize,
+    along: &mut [i64],
+) -> Walked
+    requires { ⌜ (stride ≤ 2 ^ 40) × (depth ≤ 8) × (used ≤ length (now along)) × Within (2 ^ 61) (now along) ⌝ }
+    ensures left { λ r. ⌜ r ≡ walk (now (bytes .entry)) Rule.Never stride (now (stack .entry)) used depth place .left ⌝ }
+    ensures along { λ _. ⌜ now (along .exit) ≡ addAll (walk (now (bytes .entry)) Rule.Never stride (now (stack .entry)) used depth place .additions) (now (along .entry)) ⌝ }
+{
+    let mut next = place;
+    let mut left = depth;
+    while 0 < left {
+        let ReadU16::Got(number) = parse::read_u16(bytes, next) else {
+            return Walked {
+                ended: true,
+                depth: left,
+            };
+        };
+        add_in_line(along, used, stack[left - 1], parse::to_signed16(number));
+        left -= 1;
+        next += stride;
+    }
+    Walked {
+        ended: false,
+        depth: 0,
+    }
+}

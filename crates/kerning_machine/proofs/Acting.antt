@@ -50,20 +50,20 @@ act-deep orders stack depth index k f g =
 
 module _ (bytes : List ℕ) (reading : Reading) (orders : Orders) (stack : List ℕ) (depth used index : ℕ) (along : List ℤ) {full : Bool}
     (f : full ≡ isFull (orders .pushes) depth) where
-  abbrev led : ℕ → KerningState
-  led cycles = standing (orders .state) stack depth cycles
+  abbrev does : (state cycles : ℕ) → Stepped
+  does state cycles = acted bytes reading (standing state stack depth cycles) orders used index
 
-  -- what the push and the list leave is what the entry does, however many steps in a row did not advance
+  -- what the push and the list leave is what the entry does, in any state and however many steps in a row did not advance
   pub record Acts (walked : Walked) (stack′ : List ℕ) (along′ : List ℤ) : Type 0 where
-    pub steps : (cycles : ℕ) → behind orders (standing (orders .state) stack′ (walked .depth) cycles) walked ≡ acted bytes reading (led cycles) orders used index .step
-    pub leaves : (cycles : ℕ) → along′ ≡ addAll (acted bytes reading (led cycles) orders used index .additions) along
+    pub steps : (state cycles : ℕ) → behind orders (standing state stack′ (walked .depth) cycles) walked ≡ does state cycles .step
+    pub leaves : (state cycles : ℕ) → along′ ≡ addAll (does state cycles .additions) along
 
   pub act-full : full ≡ true → Acts (record { ended = true; depth = depth }) stack along
   unfolding acted behind
   act-full h =
       record {
-        steps = λ cycles. rw (sym f ∙ h, acted);
-        leaves = λ cycles. sym (ap (λ (xs : List Addition). addAll xs along) (rw (sym f ∙ h, acted)) ∙ addAll-none along);
+        steps = λ state cycles. rw (sym f ∙ h, acted);
+        leaves = λ state cycles. sym (ap (λ (xs : List Addition). addAll xs along) (rw (sym f ∙ h, acted)) ∙ addAll-none along);
       }
 
   module _ {stack′ : List ℕ} {deep : ℕ} (h : full ≡ false)
@@ -71,41 +71,35 @@ module _ (bytes : List ℕ) (reading : Reading) (orders : Orders) (stack : List 
     abbrev list : Walk
     list = walkedFrom bytes reading (orders .start) stack′ deep used
 
-    acts : (cycles : ℕ) → acted bytes reading (led cycles) orders used index ≡ listed orders (standing (orders .state) stack′ deep cycles) list
+    acts : (state cycles : ℕ) → does state cycles ≡ listed orders (standing state stack′ deep cycles) list
     unfolding acted
-    acts cycles =
+    acts state cycles =
         rw (sym f ∙ h, acted)
-        (ap (λ (x : KerningState). listed orders x (walkedFrom bytes reading (orders .start) (x .stack) (x .depth) used)) (sym (g (orders .state) cycles)))
+        (ap (λ (x : KerningState). listed orders x (walkedFrom bytes reading (orders .start) (x .stack) (x .depth) used)) (sym (g state cycles)))
 
     pub act-follows : {walked : Walked} {along′ : List ℤ} → walked ≡ list .left → along′ ≡ addAll (list .additions) along → Acts walked stack′ along′
     unfolding listed behind
     act-follows w a =
         record {
-          steps = λ cycles. ap (λ (x : Walked). behind orders (standing (orders .state) stack′ deep cycles) x) w ∙ sym (ap (λ (x : Stepped). x .step) (acts cycles));
-          leaves = λ cycles. a ∙ sym (ap (λ (x : Stepped). addAll (x .additions) along) (acts cycles));
+          steps = λ state cycles. ap (λ (x : Walked). behind orders (standing state stack′ deep cycles) x) w ∙ sym (ap (λ (x : Stepped). x .step) (acts state cycles));
+          leaves = λ state cycles. a ∙ sym (ap (λ (x : Stepped). addAll (x .additions) along) (acts state cycles));
         }
 
 -- a list that ended the step, and one that did not
-module _ (orders : Orders) (stack : List ℕ) (cycles : ℕ) (walked : Walked) {step : KerningStep} where
-  pub behind-ended : walked .ended ≡ true → step ≡ stopped (standing (orders .state) stack (walked .depth) cycles) Answer′.Ended
-      → step ≡ behind orders (standing (orders .state) stack (walked .depth) cycles) walked
+module _ (orders : Orders) (state : ℕ) (stack : List ℕ) (cycles : ℕ) (walked : Walked) {step : KerningStep} where
+  pub behind-ended : walked .ended ≡ true → step ≡ stopped (standing state stack (walked .depth) cycles) Answer′.Ended
+      → step ≡ behind orders (standing state stack (walked .depth) cycles) walked
   unfolding behind
   behind-ended t e = e ∙ rw (t, behind)
 
-  pub behind-settled : walked .ended ≡ false → step ≡ settled (standing (orders .state) stack (walked .depth) cycles) (orders .resets) (orders .stays)
-      → step ≡ behind orders (standing (orders .state) stack (walked .depth) cycles) walked
+  pub behind-settled : walked .ended ≡ false → step ≡ settled (standing state stack (walked .depth) cycles) (orders .resets) (orders .stays)
+      → step ≡ behind orders (standing state stack (walked .depth) cycles) walked
   unfolding behind
   behind-settled t e = e ∙ rw (t, behind)
 
 pub settled-done : (s : KerningState) (resets stays : Bool) {step : KerningStep} → step ≡ settled s resets stays → isDone (step .answer) ≡ true
 unfolding settled
 settled-done s resets stays e = rw (e, settled)
-
--- the entry's state is in the place of the one before
-led-anew : (bytes : List ℕ) (reading : Reading) (s : KerningState) (orders : Orders) (used index : ℕ)
-    → acted bytes reading (entered s orders) orders used index ≡ acted bytes reading s orders used index
-unfolding acted
-led-anew bytes reading s orders used index = refl
 
 module _ (classes : ℕ → ℕ) (bytes : List ℕ) (kerning : Kerning) (s : KerningState) (used index glyph : ℕ) (along : List ℤ) {class payload : ℕ}
     {r : Entered} (k : class ≡ classes glyph) (p : payload ≡ payloadOf (kerning .reading))
@@ -122,13 +116,13 @@ module _ (classes : ℕ → ℕ) (bytes : List ℕ) (kerning : Kerning) (s : Ker
       }
 
   pub next-acts : {entry : Entry} {orders : Orders} {step : KerningStep} {along′ : List ℤ} → r ≡ Entered′.At entry
-      → orders ≡ ordersOf bytes (kerning .reading) entry → step ≡ acted bytes (kerning .reading) (entered s orders) orders used index .step
-      → along′ ≡ addAll (acted bytes (kerning .reading) (entered s orders) orders used index .additions) along
+      → orders ≡ ordersOf bytes (kerning .reading) entry → step ≡ acted bytes (kerning .reading) (entered s (entry .state)) orders used index .step
+      → along′ ≡ addAll (acted bytes (kerning .reading) (entered s (entry .state)) orders used index .additions) along
       → Does (next classes bytes kerning s used index glyph) along step along′
   unfolding next
   next-acts {entry} {orders} f o q a =
-      let n : acted bytes (kerning .reading) (entered s orders) orders used index ≡ next classes bytes kerning s used index glyph =
-      led-anew bytes (kerning .reading) s orders used index ∙ ap (λ (x : Orders). acted bytes (kerning .reading) s x used index) o ∙ sym (rw (sym found ∙ f, next)) in
+      let n : acted bytes (kerning .reading) (entered s (entry .state)) orders used index ≡ next classes bytes kerning s used index glyph =
+      ap (λ (x : Orders). acted bytes (kerning .reading) (entered s (entry .state)) x used index) o ∙ sym (rw (sym found ∙ f, next)) in
       record {
         steps = q ∙ ap (λ (x : Stepped). x .step) n;
         leaves = a ∙ ap (λ (x : Stepped). addAll (x .additions) along) n;

@@ -3,6 +3,8 @@ mod Readings
 mod Acting
 pub mod Sound
 mod Passes
+mod Loops
 mod Steps
 pub mod Calls
+mod Classes
 pub mod Turns

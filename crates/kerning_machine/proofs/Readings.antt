@@ -1,7 +1,8 @@
 -- The entries of the two readings, from what the code has read.
 use Prim.Native.Nat.{ℕ, zero, suc, _+_, _*_, _/_, _%_, _<_, _≤_, _^_}
 use mathlib.Core.Path.{_≡_, refl, sym, _∙_, ap}
-use mathlib.Core.Bool.{Bool, true, false}
+use mathlib.Core.Bool.{Bool, true, false, cond}
+use mathlib.Core.List.{List}
 use mathlib.Core.Logic.{_↔_}
 use native.Mathlib.Omega.{arith}
 use native.Mathlib.Nat.{div-lt-iff-lt-mul}
@@ -11,8 +12,12 @@ use Rattle.laws.proofs.Numbers.{lt-or-ge}
 use Rattle.laws.proofs.Choices.{ifLt-yes, ifLt-no, ifEq-yes, ifEq-no}
 use Rattle.laws.specs.Lists.{both}
 use mathlib.Core.Logic.{_⊎_, ⊎-elim}
+use Rattle.parse.specs.Reads.{u16At}
+use Rattle.state_tables.specs.declared.entries.Entry.{Entry}
 use Rattle.kerning_machine.specs.declared.Start.the-variants as Start′
-use Rattle.kerning_machine.specs.Machine.{tupleSize, kerxStart, isFull}
+use Rattle.kerning_machine.specs.declared.Reading.the-variants.{Kern, Kerx}
+use Rattle.kerning_machine.specs.declared.Orders.{Orders}
+use Rattle.kerning_machine.specs.Machine.{tupleSize, kerxStart, kernOrders, kerxOrders, ordersOf, isFull}
 
 -- a product is a 64-bit number exactly when the quotient says so
 product-past : (size number : ℕ) → 2 ≤ size → 0xFFFFFFFFFFFFFFFF / size < number → 2 ^ 64 ≤ number * size
@@ -53,3 +58,19 @@ room-left depth {pushes} h f e =
     let n : eqb depth 8 ≡ false = rw e at f in
     let k = eqb-false depth 8 n in
     ⊎-elim (λ (l : depth < 8). l) (λ (l : 8 ≤ depth). absurd (k (omega arith))) (lt-or-ge depth 8)
+
+-- what an entry says, from its flags and its index
+module _ (bytes : List ℕ) (entry : Entry) where
+  pub kern-says : (crossed : Bool) {flags : ℕ} {orders : Orders} → orders ≡ kernOrders flags → flags ≡ entry .flags → orders ≡ ordersOf bytes (Kern crossed) entry
+  unfolding ordersOf
+  kern-says crossed o e = o ∙ ap kernOrders e
+
+  pub kerx-says : (values tuples : ℕ) {index : ℕ} {orders : Orders} → orders ≡ kerxOrders values tuples (entry .flags) index → index ≡ u16At bytes (entry .payload)
+      → orders ≡ ordersOf bytes (Kerx values tuples) entry
+  unfolding ordersOf
+  kerx-says values tuples o e = o ∙ ap (kerxOrders values tuples (entry .flags)) e
+
+-- kern has no reset
+pub kern-keeps : (flags depth : ℕ) {orders : Orders} → orders ≡ kernOrders flags → depth ≡ cond (orders .resets) 0 depth
+unfolding kernOrders
+kern-keeps flags depth o = rw (o, kernOrders)

@@ -86,17 +86,17 @@ unfolding acted
 acted-sound bytes reading s orders used index h = go (isFull (orders .pushes) (s .depth)) refl
   where
     on : KerningState
-    on = stacked (entered s orders) (orders .pushes) (orders .clears) index
+    on = stacked s (orders .pushes) (orders .clears) index
 
     w : Walk
     w = walkedFrom bytes reading (orders .start) (on .stack) (on .depth) used
 
     go : (t : Bool) → isFull (orders .pushes) (s .depth) ≡ t
-        → Sound (s .cycles) (cond t (record { step = record { answer = Answer′.Ended; state = entered s orders; advance = 0 }; additions = [] }) (listed orders on w))
+        → Sound (s .cycles) (cond t (record { step = record { answer = Answer′.Ended; state = s; advance = 0 }; additions = [] }) (listed orders on w))
     go true e = record { deep = h; small = small-none; few = omega arith; stays = false; stalls = λ d. never d }
     go false e =
-        subst⁻¹ (λ (n : ℕ). Sound n (listed orders on w)) (sym (stacked-cycles (entered s orders) (orders .pushes) (orders .clears) index))
-        (listed-sound orders on w (stacked-deep (entered s orders) (orders .pushes) (orders .clears) index h e)
+        subst⁻¹ (λ (n : ℕ). Sound n (listed orders on w)) (sym (stacked-cycles s (orders .pushes) (orders .clears) index))
+        (listed-sound orders on w (stacked-deep s (orders .pushes) (orders .clears) index h e)
         (followed-bounded bytes reading (orders .start) (on .stack) (on .depth) used))
 
 pub next-sound : (classes : ℕ → ℕ) (bytes : List ℕ) (kerning : Kerning) (s : KerningState) (used index glyph : ℕ) → s .depth ≤ 8
@@ -107,7 +107,7 @@ next-sound classes bytes kerning s used index glyph h =
   where
     go : (e : Entered) → entryOf bytes (kerning .states) (s .state) (classes glyph) (payloadOf (kerning .reading)) ≡ e
         → Sound (s .cycles) (next classes bytes kerning s used index glyph)
-    go (Entered′.At entry) f = rw (f, next) (acted-sound bytes (kerning .reading) s (ordersOf bytes (kerning .reading) entry) used index h)
+    go (Entered′.At entry) f = rw (f, next) (acted-sound bytes (kerning .reading) (entered s (entry .state)) (ordersOf bytes (kerning .reading) entry) used index h)
     go Entered′.Ended f = rw (f, next) (record { deep = h; small = small-none; few = omega arith; stays = false; stalls = λ d. never d })
 
 -- a pass of so many steps adds at most eight numbers in each

@@ -72,25 +72,23 @@ kerxStart values tuples index =
 
 -- an entry's flags: 0x8000 pushes the index, 0x4000 is don't advance; in kern, a whole flags word of 0 empties the stack, and in kerx 0x2000 does so
 -- behind the list
-unfoldable pub ordersOf : List ℕ → Reading → Entry → Orders
-ordersOf bytes (Kern crossed) entry =
+unfoldable pub kernOrders : (flags : ℕ) → Orders
+kernOrders flags =
+    record { pushes = isSet flags 0x8000; clears = eqb flags 0; start = kernStart flags; resets = false; stays = isSet flags 0x4000 }
+
+unfoldable pub kerxOrders : (values tuples flags index : ℕ) → Orders
+kerxOrders values tuples flags index =
     record {
-      state = entry .state;
-      pushes = isSet (entry .flags) 0x8000;
-      clears = eqb (entry .flags) 0;
-      start = kernStart (entry .flags);
-      resets = false;
-      stays = isSet (entry .flags) 0x4000;
-    }
-ordersOf bytes (Kerx values tuples) entry =
-    record {
-      state = entry .state;
-      pushes = isSet (entry .flags) 0x8000;
+      pushes = isSet flags 0x8000;
       clears = false;
-      start = kerxStart values tuples (u16At bytes (entry .payload));
-      resets = isSet (entry .flags) 0x2000;
-      stays = isSet (entry .flags) 0x4000;
+      start = kerxStart values tuples index;
+      resets = isSet flags 0x2000;
+      stays = isSet flags 0x4000;
     }
+
+unfoldable pub ordersOf : List ℕ → Reading → Entry → Orders
+ordersOf bytes (Kern crossed) entry = kernOrders (entry .flags)
+ordersOf bytes (Kerx values tuples) entry = kerxOrders values tuples (entry .flags) (u16At bytes (entry .payload))
 
 -- the 9th push
 abbrev pub isFull : (pushes : Bool) → (depth : ℕ) → Bool
@@ -144,23 +142,23 @@ behind orders s left =
 unfoldable pub listed : Orders → KerningState → Walk → Stepped
 listed orders s w = record { step = behind orders s (w .left); additions = w .additions }
 
--- the state that the entry leads to
-abbrev pub entered : KerningState → Orders → KerningState
-entered s orders = record { state = orders .state; stack = s .stack; depth = s .depth; cycles = s .cycles }
+-- the state that an entry leads to
+abbrev pub entered : KerningState → (state : ℕ) → KerningState
+entered s state = record { state = state; stack = s .stack; depth = s .depth; cycles = s .cycles }
 
--- what an entry does: the new state, the push (the 9th ends the step), the list, the reset, the stall rule
+-- what an entry does then: the push (the 9th ends the step), the list, the reset, the stall rule
 unfoldable pub acted : List ℕ → Reading → KerningState → Orders → (used index : ℕ) → Stepped
 acted bytes reading s orders used index =
     cond (isFull (orders .pushes) (s .depth))
-    (record { step = stopped (entered s orders) Answer′.Ended; additions = [] })
-    (let on : KerningState = stacked (entered s orders) (orders .pushes) (orders .clears) index in
+    (record { step = stopped s Answer′.Ended; additions = [] })
+    (let on : KerningState = stacked s (orders .pushes) (orders .clears) index in
     listed orders on (walkedFrom bytes reading (orders .start) (on .stack) (on .depth) used))
 
--- a step, with any classes: class, then entry, then what the entry does
+-- a step, with any classes: class, then entry, then the new state and what the entry does
 unfoldable pub next : (classes : ℕ → ℕ) → List ℕ → Kerning → KerningState → (used index glyph : ℕ) → Stepped
 next classes bytes kerning s used index glyph =
     onEntry (entryOf bytes (kerning .states) (s .state) (classes glyph) (payloadOf (kerning .reading)))
-    (λ entry. acted bytes (kerning .reading) s (ordersOf bytes (kerning .reading) entry) used index)
+    (λ entry. acted bytes (kerning .reading) (entered s (entry .state)) (ordersOf bytes (kerning .reading) entry) used index)
     (record { step = stopped s Answer′.Ended; additions = [] })
 
 -- The pass over the places of a line.

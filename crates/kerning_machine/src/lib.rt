@@ -10,18 +10,23 @@ use state_tables::classes;
 use state_tables::entries;
 use state_tables::entries::Entered;
 use state_tables::entries::Entry;
+use state_tables::entries::Reached;
+use state_tables::opened;
+use state_tables::opened::Classes;
 ghost use mathlib.Core.Path.{_≡_};
-ghost use mathlib.Core.Bool.{false, cond};
+ghost use mathlib.Core.Bool.{true, false, cond};
 ghost use mathlib.Core.List.{List};
-ghost use Prim.Native.Nat.{ℕ, _+_, _<_, _≤_, _^_};
+ghost use Prim.Native.Nat.{ℕ, _+_, _-_, _<_, _≤_, _^_};
 ghost use lib.ListN.{length};
 ghost use Rattle.answers.specs.Limits.{roomLimit};
 ghost use Rattle.answers.specs.Refuse.{refuse};
 ghost use Rattle.answers.specs.declared.Answer.the-variants.{Ended};
+ghost use Rattle.state_tables.specs.Opened.{byteClassIn, classBy, LiesIn, Remembers};
+ghost use Rattle.state_tables.specs.Rows.{isClassic};
 ghost use Rattle.kerning.specs.Additions.{addAll};
 ghost use Rattle.kerning.specs.Bounds.{Within};
-ghost use Rattle.kerning_machine.specs.Machine.{fresh, payloadOf, tupleSize, kernStart, kerxStart, ordersOf, isFull, stacked, stopped, settled, walkedFrom, behind, acted, next, passed, ownClasses, isRoomy, isShort, areWithin, stepTests, stepCall, workedBy};
-ghost use Rattle.kerning_machine.specs.Work.{standing, stepOf};
+ghost use Rattle.kerning_machine.specs.Machine.{fresh, payloadOf, tupleSize, kernStart, kerxStart, kernOrders, kerxOrders, ordersOf, isFull, stacked, stopped, settled, walkedFrom, behind, acted, next, passedBy, passed, ownClasses, isRoomy, isShort, areWithin, stepTests, stepCall, workedBy};
+ghost use Rattle.kerning_machine.specs.Work.{standing, stepOf, kernOf, kerxOf};
 
 // How a machine reads its entries: kern's flags hold where the list begins, and its subtable may go across the stream; kerx's entries hold
 // an index, which counts from the value table in tuples.
@@ -49,9 +54,8 @@ pub enum Start {
     Nowhere,
 }
 
-// What an entry says.
+// What an entry says, but for the state that it leads to.
 pub struct Orders {
-    pub state: u16,
     pub pushes: bool,
     pub clears: bool,
     pub start: Start,
@@ -129,31 +133,42 @@ fn kerx_start(values: u32, tuples: u32, index: u16) -> Start
     Start::At(number * size)
 }
 
-// What an entry says.
-fn orders_of(bytes: &[u8], reading: Reading, entry: Entry) -> Orders
-    requires { ⌜ entry .payload + payloadOf reading ≤ length (now bytes) ⌝ }
-    ensures { λ r. ⌜ r ≡ ordersOf (now (bytes .entry)) reading entry ⌝ }
+// What the flags of an entry of kern's say.
+fn kern_orders(flags: u16) -> Orders
+    ensures { λ r. ⌜ r ≡ kernOrders flags ⌝ }
 {
-    let flags = entry.flags;
-    let Reading::Kerx { values, tuples } = reading else {
-        return Orders {
-            state: entry.state,
-            pushes: machine::is_set(flags, KerningState::PUSH),
-            clears: flags == 0,
-            start: kern_start(flags),
-            resets: false,
-            stays: machine::is_set(flags, KerningState::DONT_ADVANCE),
-        };
-    };
-    let index = entries::one_number(bytes, entry.payload);
     Orders {
-        state: entry.state,
+        pushes: machine::is_set(flags, KerningState::PUSH),
+        clears: flags == 0,
+        start: kern_start(flags),
+        resets: false,
+        stays: machine::is_set(flags, KerningState::DONT_ADVANCE),
+    }
+}
+
+// What the flags of an entry of kerx's and its index say.
+fn kerx_orders(values: u32, tuples: u32, flags: u16, index: u16) -> Orders
+    ensures { λ r. ⌜ r ≡ kerxOrders values tuples flags index ⌝ }
+{
+    Orders {
         pushes: machine::is_set(flags, KerningState::PUSH),
         clears: false,
         start: kerx_start(values, tuples, index),
         resets: machine::is_set(flags, KerningState::RESET),
         stays: machine::is_set(flags, KerningState::DONT_ADVANCE),
     }
+}
+
+// What an entry says.
+fn orders_of(bytes: &[u8], reading: Reading, entry: Entry) -> Orders
+    requires { ⌜ entry .payload + payloadOf reading ≤ length (now bytes) ⌝ }
+    ensures { λ r. ⌜ r ≡ ordersOf (now (bytes .entry)) reading entry ⌝ }
+{
+    let Reading::Kerx { values, tuples } = reading else {
+        return kern_orders(entry.flags);
+    };
+    let index = entries::one_number(bytes, entry.payload);
+    kerx_orders(values, tuples, entry.flags, index)
 }
 
 // The list of an entry, over a stack of so many places.
@@ -286,8 +301,8 @@ fn act(
     along: &mut [i64],
 ) -> Walked
     requires { ⌜ (depth ≤ 8) × (used ≤ length (now along)) × Within (2 ^ 61) (now along) ⌝ }
-    ensures step { λ r. ⌜ ((cycles : ℕ) → behind orders (standing (orders .state) (now (stack .exit)) (r .depth) cycles) r ≡ acted (now (bytes .entry)) reading (standing (orders .state) (now (stack .entry)) depth cycles) orders used index .step) ⌝ }
-    ensures along { λ _. ⌜ ((cycles : ℕ) → now (along .exit) ≡ addAll (acted (now (bytes .entry)) reading (standing (orders .state) (now (stack .entry)) depth cycles) orders used index .additions) (now (along .entry))) ⌝ }
+    ensures step { λ r. ⌜ ((state cycles : ℕ) → behind orders (standing state (now (stack .exit)) (r .depth) cycles) r ≡ acted (now (bytes .entry)) reading (standing state (now (stack .entry)) depth cycles) orders used index .step) ⌝ }
+    ensures along { λ _. ⌜ ((state cycles : ℕ) → now (along .exit) ≡ addAll (acted (now (bytes .entry)) reading (standing state (now (stack .entry)) depth cycles) orders used index .additions) (now (along .entry))) ⌝ }
 {
     if is_full(orders.pushes, depth) {
         return Walked { ended: true, depth };
@@ -295,6 +310,59 @@ fn act(
     let deep = push(stack, depth, orders.pushes, orders.clears, index);
     let start = orders.start;
     follow(bytes, reading, start, stack, deep, used, along)
+}
+
+// The list of an entry of kerx's; its lists are at the same place for any value table.
+fn follow_kerx(
+    bytes: &[u8],
+    tuples: u32,
+    start: Start,
+    stack: &[usize; KerningState::DEPTH],
+    depth: usize,
+    used: usize,
+    along: &mut [i64],
+) -> Walked
+    requires { ⌜ (depth ≤ 8) × (used ≤ length (now along)) × Within (2 ^ 61) (now along) ⌝ }
+    ensures left { λ r. ⌜ ((values : ℕ) → r ≡ walkedFrom (now (bytes .entry)) (Reading.Kerx values tuples) start (now (stack .entry)) depth used .left) ⌝ }
+    ensures along { λ _. ⌜ ((values : ℕ) → now (along .exit) ≡ addAll (walkedFrom (now (bytes .entry)) (Reading.Kerx values tuples) start (now (stack .entry)) depth used .additions) (now (along .entry))) ⌝ }
+{
+    match start {
+        Start::None => {
+            return Walked {
+                ended: false,
+                depth,
+            };
+        }
+        Start::Nowhere => {
+            return Walked { ended: true, depth };
+        }
+        Start::At(place) => {
+            return lists::walk_kerx(bytes, size_of(tuples), place, stack, depth, used, along);
+        }
+    }
+}
+
+// What `act` does for an entry of kerx's, with the list's walk in it.
+fn act_kerx(
+    bytes: &[u8],
+    tuples: u32,
+    orders: Orders,
+    stack: &mut [usize; KerningState::DEPTH],
+    depth: usize,
+    used: usize,
+    index: usize,
+    along: &mut [i64],
+) -> Walked
+    requires { ⌜ (depth ≤ 8) × (used ≤ length (now along)) × Within (2 ^ 61) (now along) ⌝ }
+    ensures step { λ r. ⌜ ((values state cycles : ℕ) → behind orders (standing state (now (stack .exit)) (r .depth) cycles) r ≡ acted (now (bytes .entry)) (Reading.Kerx values tuples) (standing state (now (stack .entry)) depth cycles) orders used index .step) ⌝ }
+    ensures along { λ _. ⌜ ((values state cycles : ℕ) → now (along .exit) ≡ addAll (acted (now (bytes .entry)) (Reading.Kerx values tuples) (standing state (now (stack .entry)) depth cycles) orders used index .additions) (now (along .entry))) ⌝ }
+{
+    if is_full(orders.pushes, depth) {
+        return Walked { ended: true, depth };
+    }
+    let depth = push(stack, depth, orders.pushes, orders.clears, index);
+    let start = orders.start;
+    follow_kerx(bytes, tuples, start, stack, depth, used, along)
 }
 
 // The crate's `next`, over the bytes from the state table on, with the stack in a lent array.
@@ -324,10 +392,10 @@ fn next(
     let orders = orders_of(bytes, reading, entry);
     let walked = act(bytes, reading, orders, stack, depth, used, index, along);
     if walked.ended {
-        return ended(orders.state, walked.depth, cycles);
+        return ended(entry.state, walked.depth, cycles);
     }
     settle(
-        orders.state,
+        entry.state,
         walked.depth,
         cycles,
         orders.resets,
@@ -499,8 +567,119 @@ impl KerningState {
     }
 }
 
-// The pass over a line that LINE has taken, with the bytes from the state table on.
-fn pass_line(
+// The class of a glyph in an extended table.
+fn class_now(bytes: &[u8], table: Classes, memo: &mut [u32; 64], glyph: u16) -> u16
+    requires { ⌜ LiesIn (now bytes) table × Remembers (classBy (now bytes) table) (now memo) ⌝ }
+    ensures class { λ r. ⌜ r ≡ classBy (now (bytes .entry)) table glyph ⌝ }
+    ensures memo { λ _. ⌜ Remembers (classBy (now (bytes .entry)) table) (now (memo .exit)) ⌝ }
+{
+    let Classes::Words { base, first, count } = table else {
+        return opened::remembered(bytes, table, memo, glyph);
+    };
+    opened::class_in_words(bytes, base, first, count, glyph)
+}
+
+// The pass of kern's machine, over a classic table. The steps at a place are a loop of their own, so that the next place's glyph is
+// read before it is known that the place is left; a state is kept by its row. What `next` does is written out: all but the list is inlined.
+fn pass_kern(
+    bytes: &[u8],
+    states: States,
+    crossed: bool,
+    base: usize,
+    first: u16,
+    count: usize,
+    glyphs: &[u16],
+    used: usize,
+    along: &mut [i64],
+) -> Answer
+    requires { ⌜ (isClassic (states .edition) ≡ true) × (count ≤ length (now bytes) - base) × (used ≤ length (now glyphs)) × (used ≤ length (now along)) × (used ≤ roomLimit) × Within (2 ^ 60) (now along) ⌝ }
+    ensures answer { λ r. ⌜ r ≡ passedBy (byteClassIn (now (bytes .entry)) base first count) (now (bytes .entry)) (kernOf states crossed) (now (glyphs .entry)) used .answer ⌝ }
+    ensures along { λ _. ⌜ now (along .exit) ≡ addAll (passedBy (byteClassIn (now (bytes .entry)) base first count) (now (bytes .entry)) (kernOf states crossed) (now (glyphs .entry)) used .additions) (now (along .entry)) ⌝ }
+{
+    let mut stack = [0; KerningState::DEPTH];
+    let mut row = 0;
+    let mut depth = 0;
+    let mut cycles = 0;
+    let mut place = 0;
+    while place < used {
+        let class = opened::class_in_bytes(bytes, base, first, count, glyphs[place]);
+        let mut stays = true;
+        while stays {
+            let Reached::At { row: next, flags } = entries::reach(bytes, states, row, class) else {
+                return Answer::Ended;
+            };
+            let orders = kern_orders(flags);
+            let walked = act(
+                bytes,
+                Reading::Kern { crossed },
+                orders,
+                &mut stack,
+                depth,
+                used,
+                place,
+                along,
+            );
+            if walked.ended {
+                return Answer::Ended;
+            }
+            let stalled = machine::stall(cycles, orders.stays);
+            row = next;
+            depth = walked.depth;
+            cycles = stalled.cycles;
+            stays = stalled.advance == 0;
+        }
+        place += 1;
+    }
+    Answer::Done
+}
+
+// The pass of kerx's machine.
+fn pass_kerx(
+    bytes: &[u8],
+    states: States,
+    values: u32,
+    tuples: u32,
+    table: Classes,
+    glyphs: &[u16],
+    used: usize,
+    along: &mut [i64],
+) -> Answer
+    requires { ⌜ LiesIn (now bytes) table × (used ≤ length (now glyphs)) × (used ≤ length (now along)) × (used ≤ roomLimit) × Within (2 ^ 60) (now along) ⌝ }
+    ensures answer { λ r. ⌜ r ≡ passedBy (classBy (now (bytes .entry)) table) (now (bytes .entry)) (kerxOf states values tuples) (now (glyphs .entry)) used .answer ⌝ }
+    ensures along { λ _. ⌜ now (along .exit) ≡ addAll (passedBy (classBy (now (bytes .entry)) table) (now (bytes .entry)) (kerxOf states values tuples) (now (glyphs .entry)) used .additions) (now (along .entry)) ⌝ }
+{
+    let mut memo = opened::nothing_found();
+    let mut stack = [0; KerningState::DEPTH];
+    let mut state = 0;
+    let mut depth = 0;
+    let mut cycles = 0;
+    let mut place = 0;
+    while place < used {
+        let class = class_now(bytes, table, &mut memo, glyphs[place]);
+        let mut stays = true;
+        while stays {
+            let Entered::At(entry) = entries::entry_of(bytes, states, state, class, 2) else {
+                return Answer::Ended;
+            };
+            let index = entries::one_number(bytes, entry.payload);
+            let orders = kerx_orders(values, tuples, entry.flags, index);
+            let walked = act_kerx(bytes, tuples, orders, &mut stack, depth, used, place, along);
+            if walked.ended {
+                return Answer::Ended;
+            }
+            let stalled = machine::stall(cycles, orders.stays);
+            state = entry.state;
+            depth = kept(orders.resets, walked.depth);
+            cycles = stalled.cycles;
+            stays = stalled.advance == 0;
+        }
+        place += 1;
+    }
+    Answer::Done
+}
+
+// The pass by lone steps, for kern's entries in an extended table, which no head gives.
+fn pass_plain(
     bytes: &[u8],
     kerning: Kerning,
     glyphs: &[u16],
@@ -518,41 +697,66 @@ fn pass_line(
     let mut cycles = fresh.cycles;
     let mut place = 0;
     while place < used {
-        // What `next` does, written out: all but the lists is inlined here, and a step's numbers stay in registers.
-        let states = kerning.states;
-        let reading = kerning.reading;
-        let class = classes::class_of(bytes, states, glyphs[place]);
-        let Entered::At(entry) = entries::entry_of(bytes, states, state, class, payload_of(reading))
-        else {
-            return Answer::Ended;
-        };
-        let orders = orders_of(bytes, reading, entry);
-        let walked = act(
+        let moved = next(
             bytes,
-            reading,
-            orders,
+            kerning,
+            state,
             &mut stack,
             depth,
+            cycles,
             used,
             place,
+            glyphs[place],
             along,
         );
-        if walked.ended {
-            return Answer::Ended;
+        let answer = moved.answer;
+        if !machine::is_done(answer) {
+            return answer;
         }
-        let moved = settle(
-            orders.state,
-            walked.depth,
-            cycles,
-            orders.resets,
-            orders.stays,
-        );
         state = moved.state;
         depth = moved.depth;
         cycles = moved.cycles;
         place += moved.advance;
     }
     Answer::Done
+}
+
+// The pass over a line that LINE has taken, with the bytes from the state table on.
+fn pass_line(
+    bytes: &[u8],
+    kerning: Kerning,
+    glyphs: &[u16],
+    used: usize,
+    along: &mut [i64],
+) -> Answer
+    requires { ⌜ (used ≤ length (now glyphs)) × (used ≤ length (now along)) × (used ≤ roomLimit) × Within (2 ^ 60) (now along) ⌝ }
+    ensures answer { λ r. ⌜ r ≡ passed (now (bytes .entry)) kerning (now (glyphs .entry)) used .answer ⌝ }
+    ensures along { λ _. ⌜ now (along .exit) ≡ addAll (passed (now (bytes .entry)) kerning (now (glyphs .entry)) used .additions) (now (along .entry)) ⌝ }
+{
+    let states = kerning.states;
+    let reading = kerning.reading;
+    let opened = opened::open(bytes, states);
+    match reading {
+        Reading::Kern { crossed } => {
+            let Classes::Bytes { base, first, count } = opened else {
+                return pass_plain(bytes, kerning, glyphs, used, along);
+            };
+            return pass_kern(
+                bytes,
+                states,
+                crossed,
+                base,
+                first,
+                count,
+                glyphs,
+                used,
+                along,
+            );
+        }
+        Reading::Kerx { values, tuples } => {
+            return pass_kerx(bytes, states, values, tuples, opened, glyphs, used, along);
+        }
+    }
 }
 
 // The pass by what a head gives; HEAD where it gives none.

@@ -56,7 +56,7 @@ returns-2 c =
     let at-entry-of = at-entry .before .before in
     let at-payload-of = at-entry-of .before in
     let at-class-of = at-payload-of .before in
-    let e = next-acts (classOf _ _) _ _ (standing _ _ _ _) _ _ _ _ (at-class-of .class-of .ensures) (at-payload-of .payload-of .ensures) (at-entry-of .entry-of .ensures) (at-entry .entry .given .1) (at-orders-of .orders-of .ensures) (behind-ended _ _ _ _ (at-if1 .if1 .taken) (c .ended2 .ensures _) ∙ at-act .act .ensures .0 _) (at-act .act .ensures .1 _) in
+    let e = next-acts (classOf _ _) _ _ (standing _ _ _ _) _ _ _ _ (at-class-of .class-of .ensures) (at-payload-of .payload-of .ensures) (at-entry-of .entry-of .ensures) (at-entry .entry .given .1) (at-orders-of .orders-of .ensures) (behind-ended _ _ _ _ _ (at-if1 .if1 .taken) (c .ended2 .ensures _) ∙ at-act .act .ensures .0 _ _) (at-act .act .ensures .1 _ _) in
     (e .steps, e .leaves)
 
 settle-requires : tie.Need-settle-requires
@@ -74,7 +74,7 @@ returns-3 c =
     let at-entry-of = at-entry .before .before in
     let at-payload-of = at-entry-of .before in
     let at-class-of = at-payload-of .before in
-    let e = next-acts (classOf _ _) _ _ (standing _ _ _ _) _ _ _ _ (at-class-of .class-of .ensures) (at-payload-of .payload-of .ensures) (at-entry-of .entry-of .ensures) (at-entry .entry .given .1) (at-orders-of .orders-of .ensures) (behind-settled _ _ _ _ (at-if1 .if1 .left) (c .settle .ensures _) ∙ at-act .act .ensures .0 _) (at-act .act .ensures .1 _) in
+    let e = next-acts (classOf _ _) _ _ (standing _ _ _ _) _ _ _ _ (at-class-of .class-of .ensures) (at-payload-of .payload-of .ensures) (at-entry-of .entry-of .ensures) (at-entry .entry .given .1) (at-orders-of .orders-of .ensures) (behind-settled _ _ _ _ _ (at-if1 .if1 .left) (c .settle .ensures _) ∙ at-act .act .ensures .0 _ _) (at-act .act .ensures .1 _ _) in
     (e .steps, e .leaves)
 
 pub next-spec : {M : Type 1} → statement M
