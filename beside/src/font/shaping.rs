@@ -30,34 +30,20 @@ const START: u64 = ALONE_AT as u64;
 /// A line as one side left it.
 #[derive(PartialEq)]
 pub struct Shaped {
-    line: Line,
+    pub line: Line,
     /// Each run's table, answer and heads.
-    runs: Vec<(&'static str, u32, u32)>,
+    pub runs: Vec<(&'static str, u32, u32)>,
     /// The adjustments by each table of kerning.
-    along: Vec<(&'static str, Vec<i64>)>,
+    pub along: Vec<(&'static str, Vec<i64>)>,
 }
 
-const ANSWERS: [&str; 10] = ["DONE", "NOTHING", "TABLE", "LINE", "PLACE", "STATE", "HEAD", "FULL", "ENDED", "LIMIT"];
+/// The answers by their numbers.
+pub const ANSWERS: [&str; 10] = ["DONE", "NOTHING", "TABLE", "LINE", "PLACE", "STATE", "HEAD", "FULL", "ENDED", "LIMIT"];
 
 impl Shaped {
-    /// The runs and the line in words: of each place its glyph, its tag, its adjustments, and the characters that belong
-    /// to it.
-    pub fn columns(&self) -> Vec<String> {
-        let answer = |run: &(&str, u32, u32)| format!("{}: {}, heads {}", run.0, ANSWERS[run.1 as usize], run.2);
-        let mut lines: Vec<String> = self.runs.iter().map(answer).collect();
-        let names: String = self.along.iter().map(|(name, _)| format!("{:>8}", name)).collect();
-        lines.push(format!("place  glyph    tag{}  characters", names));
-        for place in 0..self.line.length() {
-            let along: String = self.along.iter().map(|(_, along)| format!("{:>8}", along[place])).collect();
-            let (glyph, tag) = (self.line.glyphs[place], self.line.tags[place]);
-            lines.push(format!("{:>5} {:>6} {:>6}{}  {}", place, glyph, tag, along, self.characters(tag)));
-        }
-        lines
-    }
-
-    fn characters(&self, tag: u16) -> String {
-        let homes = self.line.homes.iter().enumerate().filter(|home| *home.1 == tag);
-        homes.map(|home| home.0.to_string()).collect::<Vec<_>>().join(" ")
+    /// The characters that belong to a tag.
+    pub fn characters(&self, tag: u16) -> impl Iterator<Item = usize> + '_ {
+        self.line.homes.iter().enumerate().filter(move |home| *home.1 == tag).map(|home| home.0)
     }
 }
 

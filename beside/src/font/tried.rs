@@ -1,0 +1,51 @@
+//! The tables of beside/tried, each with a line and the rows of docs/DIFFERENCES.md that it meets.
+
+use crate::font::sfnt::{wrap, Font};
+use crate::font::shaping::Tables;
+use crate::font::wish::{glyphs_of, USAGE};
+use crate::font::{by_box, by_crate, start, tag};
+use crate::wire::hex;
+use crate::wire::pipe::TheBox;
+use std::collections::BTreeSet;
+
+/// Wraps each table of a list into a font and shapes its line: both sides have to say the same, and the rows that are
+/// met have to be those that the list names.
+pub fn try_all(words: &[String]) -> Result<bool, String> {
+    let (list, command) = words.split_first().ok_or(USAGE)?;
+    let list = std::fs::read_to_string(list).map_err(|error| format!("{}: {}", list, error))?;
+    let mut the_box = start(command)?;
+    let mut failed = 0;
+    let tried = list.lines().filter(|line| !line.is_empty() && !line.starts_with('#'));
+    for line in tried.clone() {
+        let (said, is_right) = try_one(line, &mut the_box)?;
+        println!("{}", said);
+        failed += usize::from(!is_right);
+    }
+    println!("{} tables, {} failed", tried.count(), failed);
+    Ok(failed == 0)
+}
+
+/// One of the list: rows, table's name, line, table, and a language to look for. The font has 100 glyphs.
+fn try_one(line: &str, the_box: &mut TheBox) -> Result<(String, bool), String> {
+    let parts: Vec<&str> = line.split("; ").collect();
+    let (named, name, glyphs, table, language) = match parts[..] {
+        [named, name, glyphs, table] => (named, name, glyphs, table, None),
+        [named, name, glyphs, table, language] => (named, name, glyphs, table, Some(language.trim_matches('"'))),
+        _ => return Err(format!("no table to try: {}", line)),
+    };
+    let named: BTreeSet<u32> = named.split(' ').filter_map(|row| row.parse().ok()).collect();
+    let bytes = hex::parse(table).ok_or_else(|| format!("no hex: {}", table))?;
+    let file = wrap(&[(tag(name)?, bytes), (*b"maxp", vec![0, 1, 0, 0, 0, 100])]);
+    let font = Font::open(&file, None)?;
+    let tables = Tables::of(&font)?;
+    let glyphs = glyphs_of(&glyphs.split_whitespace().collect::<Vec<_>>())?;
+    let mut is_same = by_crate(&tables, &glyphs, false)? == by_box(&tables, &glyphs, false, the_box)?;
+    if let Some(language) = language {
+        let [theirs, ours] = tables.language(language, the_box)?;
+        is_same &= theirs == ours;
+    }
+    let met = tables.met(&glyphs, false, language);
+    let same = if is_same { "the same" } else { "NOT the same" };
+    let said = format!("{}, line {:?}: {}; rows {:?}, met {:?}", name, glyphs, same, named, met);
+    Ok((said, is_same && met == named))
+}
