@@ -4,15 +4,63 @@
 use crate::font::sfnt::{long, word};
 use crate::reference::oracle::{aat, Answer, Bytes};
 use crate::reference::survey::{survey, Verdict};
-use std::collections::{BTreeSet, HashMap};
+use std::collections::{BTreeMap, HashMap};
+use std::fmt;
 
 /// A table whose reads are watched, and the rows that they met.
 pub struct Met<'a> {
     pub table: &'a [u8],
     /// The font's glyph count, where it is known.
     glyphs: Option<u16>,
-    pub rows: BTreeSet<u32>,
+    /// What is at work.
+    pub spot: Spot,
+    pub rows: Rows,
     unsorted: HashMap<usize, bool>,
+}
+
+/// The rows that were met, and where.
+pub type Rows = BTreeMap<u32, Vec<Spot>>;
+
+/// A subtable at work, and the place of its step in the line as it lies for it.
+#[derive(Clone, Copy, Default, PartialEq)]
+pub struct Spot {
+    pub subtable: Subtable,
+    pub place: Option<usize>,
+}
+
+/// A subtable by its numbers, counted from 0: in morx that of its chain, too. None where the table itself is at work.
+#[derive(Clone, Copy, Default, PartialEq)]
+pub struct Subtable {
+    pub table: &'static str,
+    pub chain: Option<u32>,
+    pub number: Option<u32>,
+}
+
+impl Subtable {
+    /// One of morx, by the numbers of its chain and its own.
+    pub fn of_morx((chain, number): (u32, u32)) -> Self {
+        Subtable { table: "morx", chain: Some(chain), number: Some(number) }
+    }
+
+    /// One of a table whose subtables stand in one list.
+    pub fn of_list(table: &'static str, number: u32) -> Self {
+        Subtable { table, chain: None, number: Some(number) }
+    }
+}
+
+impl fmt::Display for Subtable {
+    fn fmt(&self, to: &mut fmt::Formatter) -> fmt::Result {
+        write!(to, "{}", self.table)?;
+        self.chain.map_or(Ok(()), |chain| write!(to, " chain {}", chain))?;
+        self.number.map_or(Ok(()), |number| write!(to, " subtable {}", number))
+    }
+}
+
+impl fmt::Display for Spot {
+    fn fmt(&self, to: &mut fmt::Formatter) -> fmt::Result {
+        write!(to, "{}", self.subtable)?;
+        self.place.map_or(Ok(()), |place| write!(to, " place {}", place))
+    }
 }
 
 /// A glyph that is deleted.
@@ -30,13 +78,14 @@ pub const MOST_CYCLES: u64 = 17;
 impl<'a> Met<'a> {
     /// Nothing is read yet.
     pub fn new(table: &'a [u8], glyphs: Option<u16>) -> Self {
-        Met { table, glyphs, rows: BTreeSet::new(), unsorted: HashMap::new() }
+        Met { table, glyphs, spot: Spot::default(), rows: Rows::new(), unsorted: HashMap::new() }
     }
 
     /// Meets a row where it applies.
     pub fn row(&mut self, number: u32, applies: bool) {
-        if applies {
-            self.rows.insert(number);
+        let spots = if applies { self.rows.entry(number).or_default() } else { return };
+        if spots.last() != Some(&self.spot) {
+            spots.push(self.spot);
         }
     }
 

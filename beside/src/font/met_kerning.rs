@@ -1,6 +1,6 @@
 //! Which rows of docs/DIFFERENCES.md a line meets in the run of a kern or kerx table.
 
-use crate::font::met::{Entry, Met, DELETED, MOST_CYCLES, NONE};
+use crate::font::met::{self, Entry, Met, Spot, DELETED, MOST_CYCLES, NONE};
 use crate::font::sfnt::{long, word};
 use crate::reference::kerning::{make_steps, Kerning, Subtable};
 use crate::reference::kerning_by_copy::{open, DEEPEST, STATE};
@@ -36,7 +36,8 @@ impl Watched<'_> {
             Some(head) => head,
             None => return,
         };
-        for _ in 0..count.min(MOST_HEADS) {
+        for number in 0..count.min(MOST_HEADS) {
+            met.spot = Spot { subtable: met::Subtable::of_list(self.kerning.name(), number), place: None };
             match self.listed(met.table, version, at) {
                 Some((subtable, size)) => {
                     met.row(48, met.table.len() < subtable.body);
@@ -108,7 +109,8 @@ impl Watched<'_> {
             }
             Ok(Some(pairs)) => {
                 met.row(35, subtable.coverage & REVERSE != 0 && !is_kern);
-                for pair in glyphs.windows(2) {
+                for (place, pair) in glyphs.windows(2).enumerate() {
+                    met.spot.place = Some(place);
                     let is_found = matches!(pairs.get(pair[0], pair[1]), Answer::Done(_));
                     met.row(34, is_found && subtable.tuples != 0);
                     if let Subtable::KerxClasses(_) = pairs {
@@ -123,6 +125,7 @@ impl Watched<'_> {
             }
             _ => return,
         }
+        met.spot.place = None;
         met.row(36, is_kern && subtable.version != 0 && subtable.coverage & 0x2000 != 0);
         met.row(43, is_kern && subtable.version == 0 && subtable.coverage & 0xA != 0);
         met.row(44, is_kern && (subtable.version > 1 || subtable.version == 0 && subtable.format == 1));
@@ -136,10 +139,12 @@ impl Watched<'_> {
         let mut state = [0; STATE];
         let mut along = vec![0; glyphs.len()];
         let answer = make_steps(glyphs, |place, glyph| {
+            met.spot.place = Some(place);
             self.watch_step(met, subtable, &state, glyph);
             machine.step(&mut state, place, glyph, &mut along).ok()?.done()
         });
         if answer == Answer::Done(()) {
+            met.spot.place = Some(glyphs.len());
             self.watch_end(met, subtable, &state);
         }
     }

@@ -6,6 +6,7 @@ use crate::font::sfnt::{long, word};
 /// Watches the search for a name in the table that begins here; None where the crate's search ends with nothing.
 pub fn watch(met: &mut Met, start: usize, name: &[u8]) -> Option<()> {
     let table = &met.table[start..];
+    met.spot.subtable.table = "ltag";
     for number in 0..long(table, 8)? as usize {
         let range = 12 + 4 * number;
         let (offset, length) = (usize::from(word(table, range)?), usize::from(word(table, range + 2)?));

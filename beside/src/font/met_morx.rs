@@ -5,7 +5,7 @@
 //! actions that the rows ask for, and rows 38 and 39 ask for some that it leaves unread. To tell of them it would have to be
 //! changed, and then it would be another crate than the one compared.
 
-use crate::font::met::{Entry, Met, MOST_CYCLES, NONE};
+use crate::font::met::{Entry, Met, Subtable, MOST_CYCLES, NONE};
 use crate::font::sfnt::{long, word};
 use crate::reference::line::Line;
 use crate::reference::opened::aat::morx::SubtableKind;
@@ -22,6 +22,7 @@ pub fn watch(met: &mut Met, run: &Run, line: &Line) {
             if visit.is_turned {
                 line.reverse();
             }
+            met.spot.subtable = Subtable::of_morx(visit.number);
             watch_subtable(met, at + SUBTABLE_HEAD, opened, visit.is_turned, run.table, line);
         }
     };
@@ -35,7 +36,8 @@ fn watch_subtable(met: &mut Met, body: usize, opened: SubtableKind, is_turned: b
         SubtableKind::Contextual(_) => 1,
         SubtableKind::Ligature(_) => 2,
         SubtableKind::NonContextual(_) => {
-            for glyph in &line.glyphs[..line.length()] {
+            for (place, glyph) in line.glyphs[..line.length()].iter().enumerate() {
+                met.spot.place = Some(place);
                 met.lookup(body, *glyph);
             }
             return;
@@ -47,6 +49,7 @@ fn watch_subtable(met: &mut Met, body: usize, opened: SubtableKind, is_turned: b
         None => return,
     };
     let _ = machine.pass(&mut line, &mut |told, state, line| {
+        met.spot.place = Some(told.index as usize);
         let mut step = Step { met, body, is_turned, told, state, line };
         match number {
             0 => step.rearrangement(),

@@ -2,6 +2,7 @@
 //! docs/DIFFERENCES.md that the line met.
 
 mod characters;
+mod history;
 mod met;
 mod met_kerning;
 mod met_language;
@@ -14,10 +15,10 @@ mod tried;
 mod wish;
 
 use crate::font::characters::Characters;
-use crate::font::met::rows;
+use crate::font::met::{rows, Rows};
 use crate::font::sfnt::{wrap, Font};
 use crate::font::shaping::{Shaped, Tables};
-use crate::font::show::{as_hb_shape, print, Column, Look};
+use crate::font::show::{as_hb_shape, more, print, Column, Look};
 use crate::font::tried::try_all;
 use crate::font::wish::{Typed, Wish, USAGE};
 use crate::reference::oracle;
@@ -62,10 +63,14 @@ fn shape(words: &[String]) -> Result<bool, String> {
     println!("{}: {}", wish.file, tables.describe());
     let look = Look::new(&font, wish.is_whole);
     let mut is_same = true;
-    let mut met = BTreeSet::new();
+    let mut met = Rows::new();
     for right_to_left in wish.ways() {
         is_same &= show(&tables, &glyphs, right_to_left, &look, &mut the_box)?;
-        met.append(&mut tables.met(&glyphs, right_to_left, wish.language.as_deref()));
+        let rows = tables.met(&glyphs, right_to_left, wish.language.as_deref());
+        if wish.traces {
+            tables.trace(&glyphs, right_to_left, &look, &rows)?;
+        }
+        rows.into_iter().for_each(|(row, mut spots)| met.entry(row).or_default().append(&mut spots));
     }
     if let Some([theirs, ours]) = languages {
         println!("language: {} | {}", theirs, ours);
@@ -136,10 +141,12 @@ fn by_box(tables: &Tables, glyphs: &[u16], right_to_left: bool, the_box: &mut Th
     tables.by_box(glyphs, right_to_left, the_box).map_err(|error| format!("the box: {}", error))
 }
 
-fn show_rows(met: &BTreeSet<u32>, looked_at: &BTreeSet<u32>) {
+fn show_rows(met: &Rows, looked_at: &BTreeSet<u32>) {
     println!("rows of docs/DIFFERENCES.md that the line met:{}", if met.is_empty() { " none" } else { "" });
-    for (number, what) in rows().into_iter().filter(|row| met.contains(&row.0)) {
-        println!("  {}: {}", number, what);
+    for (number, what) in rows() {
+        if let Some([first, others @ ..]) = met.get(&number).map(Vec::as_slice) {
+            println!("  {}: {} ({}{})", number, what, first, more(others.len()));
+        }
     }
     let others = rows().into_iter().filter(|row| !looked_at.contains(&row.0));
     let others: Vec<String> = others.map(|row| row.0.to_string()).collect();

@@ -1,8 +1,10 @@
 //! A font's tables for shaping, and what the crate and the box make of a line by them.
 
-use crate::font::met::Met;
+use crate::font::history::{tell_kerning, tell_morx};
+use crate::font::met::{Met, Rows};
 use crate::font::met_kerning::{self, Watched};
 use crate::font::sfnt::Font;
+use crate::font::show::Look;
 use crate::font::{met_language, met_morx};
 use crate::reference::kerning::{Kerned, Kerning, ALONE_AT};
 use crate::reference::line::{Line, LARGEST_ROOM};
@@ -38,7 +40,8 @@ pub struct Shaped {
 }
 
 /// The answers by their numbers.
-pub const ANSWERS: [&str; 10] = ["DONE", "NOTHING", "TABLE", "LINE", "PLACE", "STATE", "HEAD", "FULL", "ENDED", "LIMIT"];
+pub const ANSWERS: [&str; 10] =
+    ["DONE", "NOTHING", "TABLE", "LINE", "PLACE", "STATE", "HEAD", "FULL", "ENDED", "LIMIT"];
 
 impl Shaped {
     /// The characters that belong to a tag.
@@ -150,8 +153,8 @@ impl Tables {
     }
 
     /// The rows of docs/DIFFERENCES.md that the line and the language meet.
-    pub fn met(&self, glyphs: &[u16], right_to_left: bool, language: Option<&str>) -> BTreeSet<u32> {
-        let mut rows = BTreeSet::new();
+    pub fn met(&self, glyphs: &[u16], right_to_left: bool, language: Option<&str>) -> Rows {
+        let mut rows = Rows::new();
         let mut line = line_of(glyphs, LARGEST_ROOM);
         if let Some(table) = &self.morx {
             let mut met = Met::new(table, self.glyphs);
@@ -173,6 +176,21 @@ impl Tables {
             rows.append(&mut met.rows);
         }
         rows
+    }
+
+    /// Tells what each subtable does, by the crate's copy, which has to leave the line as the crate does.
+    pub fn trace(&self, glyphs: &[u16], right_to_left: bool, look: &Look, rows: &Rows) -> Result<(), String> {
+        let in_words = |fault: Fault| fault.describe().to_string();
+        let mut line = line_of(glyphs, LARGEST_ROOM);
+        if let Some(table) = &self.morx {
+            let run = run::Run { table, start: START, right_to_left };
+            tell_morx(&run, &mut line, look, rows).map_err(in_words)?;
+        }
+        for (kerning, table) in self.kernings() {
+            let run = kerning_run::Run { kerning, table, start: START, right_to_left };
+            tell_kerning(&run, &mut unkerned(&line), look, rows).map_err(in_words)?;
+        }
+        Ok(())
     }
 
     /// The rows that can be met, or are known not to be, as their tables are not there.

@@ -22,6 +22,15 @@ impl<'a> Look<'a> {
         Look { font, names: Names::of(font), most: if is_whole { usize::MAX } else { PLACES_SHOWN } }
     }
 
+    /// A glyph's number, and its name where the font has names.
+    pub fn called(&self, glyph: u16) -> String {
+        match glyph {
+            DELETED => "(deleted)".into(),
+            _ if !self.names.are_there() => glyph.to_string(),
+            _ => format!("{} ({})", glyph, self.names.name(glyph)),
+        }
+    }
+
     /// A glyph's name in a column, where the font has names.
     fn name(&self, glyph: u16) -> String {
         match glyph {
@@ -29,6 +38,15 @@ impl<'a> Look<'a> {
             DELETED => format!(" {:<12}", "(deleted)"),
             _ => format!(" {:<12}", self.names.name(glyph)),
         }
+    }
+}
+
+/// How many more there are, in words; nothing where there are none.
+pub fn more(count: usize) -> String {
+    if count == 0 {
+        String::new()
+    } else {
+        format!(", and {} more", count)
     }
 }
 

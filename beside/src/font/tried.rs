@@ -44,7 +44,7 @@ fn try_one(line: &str, the_box: &mut TheBox) -> Result<(String, bool), String> {
         let [theirs, ours] = tables.language(language, the_box)?;
         is_same &= theirs == ours;
     }
-    let met = tables.met(&glyphs, false, language);
+    let met: BTreeSet<u32> = tables.met(&glyphs, false, language).into_keys().collect();
     let same = if is_same { "the same" } else { "NOT the same" };
     let said = format!("{}, line {:?}: {}; rows {:?}, met {:?}", name, glyphs, same, named, met);
     Ok((said, is_same && met == named))

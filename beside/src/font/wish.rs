@@ -7,7 +7,7 @@ use crate::reference::line::LARGEST_ROOM;
 pub const USAGE: &str = "usage: font [OPTION..] FILE GLYPH.. | FILE --text TEXT | FILE -u UNICODES
        font --wrap FONT NAME=FILE..
        font --test
-options: --font N, --right-to-left, --both-ways, --language NAME, --whole";
+options: --font N, --right-to-left, --both-ways, --language NAME, --trace, --whole";
 
 /// A font's file, a line, and what to do with them.
 #[derive(Default)]
@@ -18,6 +18,8 @@ pub struct Wish {
     pub language: Option<String>,
     pub file: String,
     pub typed: Typed,
+    /// Whether what each subtable did is shown.
+    pub traces: bool,
     /// Whether long lines are shown to their end.
     pub is_whole: bool,
 }
@@ -74,6 +76,7 @@ impl Wish {
         match option {
             "--right-to-left" => self.told_ways = Some(vec![true]),
             "--both-ways" => self.told_ways = Some(vec![false, true]),
+            "--trace" => self.traces = true,
             "--whole" => self.is_whole = true,
             _ => return false,
         }

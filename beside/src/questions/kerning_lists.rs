@@ -180,7 +180,8 @@ fn ask_list(asked: &mut dyn Ask, table: &Rc<[u8]>, kerning: Kerning, start: u64)
     let mut visits = Visit::all(kerning, table, start as u32, false);
     for _ in 0..ELEMENTS {
         let visit = visits.next();
-        let told = visit.as_ref().map_or([0; 3], |visit| [1, visit.is_passed_over.into(), visit.is_turned.into()]);
+        let told =
+            visit.as_ref().map_or([0; 3], |visit| [1, visit.passed_over.is_some().into(), visit.is_turned.into()]);
         asked.ask(table, Box::new(Next { kerning, cursor, told: Some(told.to_vec()) }));
         match (visit, next(kerning, table, cursor)) {
             (Some(_), Some((_, behind))) => cursor = behind,

@@ -15,7 +15,8 @@ pub struct Run<'a> {
 
 /// A subtable on the way of a run.
 pub struct Visit<'a> {
-    pub is_passed_over: bool,
+    /// Why it is passed over, if it is.
+    pub passed_over: Option<&'static str>,
     /// Whether line and adjustments are turned round for it.
     pub is_turned: bool,
     pub subtable: Option<Subtable<'a>>,
@@ -53,6 +54,11 @@ impl<'a> Run<'a> {
     }
 }
 
+/// The first reason that holds.
+fn first_of<const N: usize>(reasons: [(bool, &'static str); N]) -> Option<&'static str> {
+    reasons.into_iter().find(|reason| reason.0).map(|reason| reason.1)
+}
+
 /// The subtables of a list, one after the other.
 pub type Visits<'a> = Box<dyn Iterator<Item = Visit<'a>> + 'a>;
 
@@ -61,12 +67,19 @@ impl<'a> Visit<'a> {
     pub fn all(kerning: Kerning, table: &'a [u8], start: u32, right_to_left: bool) -> Visits<'a> {
         match kerning {
             Kerning::Kern => Box::new(kern::subtables(table, start).map(|subtable| Visit {
-                is_passed_over: !subtable.is_horizontal() || subtable.cross_stream(),
+                passed_over: first_of([
+                    (!subtable.is_horizontal(), "not for horizontal text"),
+                    (subtable.cross_stream(), "across the line"),
+                ]),
                 is_turned: false,
                 subtable: Subtable::of_kern(&subtable),
             })),
             Kerning::Kerx => Box::new(kerx::subtables(table, start, 0).map(move |subtable| Visit {
-                is_passed_over: subtable.is_vertical() || subtable.is_cross_stream() || subtable.has_variations(),
+                passed_over: first_of([
+                    (subtable.is_vertical(), "for vertical text"),
+                    (subtable.is_cross_stream(), "across the line"),
+                    (subtable.has_variations(), "for variations"),
+                ]),
                 is_turned: subtable.should_reverse(right_to_left),
                 subtable: Subtable::of_kerx(&subtable),
             })),
@@ -76,7 +89,7 @@ impl<'a> Visit<'a> {
     /// The pass, the line turned round before and after where that is asked for.
     fn make(&self, lent: &mut Kerned) -> Result<(), Fault> {
         let subtable = match &self.subtable {
-            Some(subtable) if !self.is_passed_over => subtable,
+            Some(subtable) if self.passed_over.is_none() => subtable,
             _ => return Ok(()),
         };
         if self.is_turned {

@@ -22,11 +22,11 @@ pub fn describe_run(run: &Run, lent: &Kerned) -> Vec<String> {
     let mut copies = machines(run.kerning, run.table, run.start as u32);
     let show = &mut |visit: &Visit, lent: &Kerned| {
         let machine = copies.next().flatten();
-        let over = if visit.is_passed_over { ", passed over" } else { "" };
+        let over = if visit.passed_over.is_some() { ", passed over" } else { "" };
         let turned = if visit.is_turned { ", turned" } else { "" };
         let name = visit.subtable.as_ref().map_or("nothing that can be read", Subtable::name);
         steps.push(format!("subtable of {} with {}{}{}", run.kerning.name(), name, over, turned));
-        if let (Some(subtable), false) = (&visit.subtable, visit.is_passed_over) {
+        if let (Some(subtable), false) = (&visit.subtable, visit.passed_over.is_some()) {
             let mut lent = lent.clone();
             if visit.is_turned {
                 lent.reverse();
@@ -41,7 +41,8 @@ pub fn describe_run(run: &Run, lent: &Kerned) -> Vec<String> {
 }
 
 impl Subtable<'_> {
-    fn name(&self) -> &'static str {
+    /// What it has, in words.
+    pub fn name(&self) -> &'static str {
         match self {
             Subtable::KernPairs(_) | Subtable::KerxPairs(_) => "ordered pairs",
             Subtable::KerxClasses(_) => "class pairs",

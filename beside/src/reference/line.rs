@@ -171,6 +171,12 @@ const VERBS: [(&str, &str); 16] = [
     ("ABxCD", "DCxBA"),
 ];
 
+/// The verb of this number modulo 16, as it is drawn.
+pub fn drawn(verb: u16) -> String {
+    let (before, after) = VERBS[verb as usize % 16];
+    format!("{} becomes {}", before, after)
+}
+
 /// A window after the verb of this number modulo 16; one that is too short for the letters stays.
 fn rearranged(window: &[u16], verb: u16) -> Vec<u16> {
     let (before, after) = VERBS[verb as usize % 16];

@@ -11,6 +11,9 @@ pub const MOST_HEADS: u32 = 65_535;
 
 /// A subtable on the way of a run.
 pub struct Visit<'a> {
+    /// The number of its chain, and its own among the chain's.
+    pub number: (u32, u32),
+    pub default_flags: u32,
     pub coverage: u32,
     pub flags: u32,
     /// Whether the run makes its pass, if it is of a kind that can be read.
@@ -47,7 +50,7 @@ impl Run<'_> {
     /// The answer and the heads that were counted; each subtable is shown before its pass, with the line.
     pub fn make(&self, line: &mut Line, show: &mut dyn FnMut(Visit, &Line)) -> Result<(Answer<()>, u32), Fault> {
         let start = self.start as u32;
-        let mut heads = 0;
+        let (mut heads, mut number) = (0, (0, 0));
         let mut copies = opened::chains(self.table, start);
         let mut left = chains(self.table, start);
         while let Some(chain) = caught(|| left.next())? {
@@ -65,26 +68,35 @@ impl Run<'_> {
                 }
                 heads += 1;
                 let opened = copy.and_then(|copy| Some((self.start as usize + copy.offset, copy.kind()?)));
-                let visit = self.visit(&chain, &subtable, opened);
+                let visit = self.visit(number, &chain, &subtable, opened);
                 let (is_chosen, is_turned) = (visit.is_chosen, visit.is_turned);
                 show(visit, line);
                 if is_chosen && self.pass(&subtable, is_turned, line)? == Answer::Full {
                     return Ok((Answer::Full, heads));
                 }
+                number.1 += 1;
             }
+            number = (number.0 + 1, 0);
         }
         Ok((Answer::Done(()), heads))
     }
 
     fn visit<'a>(
         &self,
+        number: (u32, u32),
         chain: &Chain,
         subtable: &Subtable,
         opened: Option<(usize, opened::SubtableKind<'a>)>,
     ) -> Visit<'a> {
-        let (coverage, flags) = (subtable.coverage(), subtable.flags());
-        let is_chosen = is_chosen(chain, subtable);
-        Visit { coverage, flags, is_chosen, is_turned: subtable.should_reverse(self.right_to_left), opened }
+        Visit {
+            number,
+            default_flags: chain.default_flags(),
+            coverage: subtable.coverage(),
+            flags: subtable.flags(),
+            is_chosen: is_chosen(chain, subtable),
+            is_turned: subtable.should_reverse(self.right_to_left),
+            opened,
+        }
     }
 
     /// The pass by a subtable that was chosen, the line turned round before and after where that is asked for.

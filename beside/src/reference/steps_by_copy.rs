@@ -102,7 +102,7 @@ fn rearrangement(machine: &Rearrangement, told: Told, lent: &mut Lent) -> Result
 }
 
 /// The verb whose groups these are: the glyphs taken from the left and from the right, 3 for two that change places.
-fn verb_of(rearrange: &Rearrange) -> u64 {
+pub fn verb_of(rearrange: &Rearrange) -> u64 {
     const GROUPS: [usize; 16] =
         [0x00, 0x10, 0x01, 0x11, 0x20, 0x30, 0x02, 0x03, 0x12, 0x13, 0x21, 0x31, 0x22, 0x32, 0x23, 0x33];
     let left = rearrange.l + usize::from(rearrange.reverse_l);

@@ -1,0 +1,316 @@
+//! What each subtable did to a line, in the words of its history.
+
+use crate::font::met::{Rows, Subtable};
+use crate::font::show::{more, Look};
+use crate::reference::kerning::{self, Kerned};
+use crate::reference::kerning_by_copy::{machines, Machine};
+use crate::reference::line::Line;
+use crate::reference::opened::aat::morx::{
+    ContextualState, InsertionState, LigatureState, RearrangementState, SubtableKind,
+};
+use crate::reference::oracle::{caught_as_none, Answer, Fault};
+use crate::reference::pass::{make_steps, stepped};
+use crate::reference::run::{Run, Visit};
+use crate::reference::steps_by_copy::verb_of;
+use crate::reference::{kerning_run, line};
+
+/// An edit of a line, the glyph that a write puts over another, or the number that kerning adds.
+enum Edit {
+    Window { first: usize, last: usize, verb: u16 },
+    Reversal,
+    Insertion { place: usize, glyphs: Vec<u16> },
+    Ligature { place: usize, glyph: u16, components: Vec<usize> },
+    Write { place: usize, before: u16, glyph: u16 },
+    Addition { place: usize, number: i64 },
+}
+
+impl Edit {
+    fn describe(&self, look: &Look) -> String {
+        let named = |glyphs: &[u16]| glyphs.iter().map(|glyph| look.called(*glyph)).collect::<Vec<_>>().join(" ");
+        match self {
+            Edit::Window { first, last, verb } => {
+                format!("window {} to {}, verb {}: {}", first, last, verb, line::drawn(*verb))
+            }
+            Edit::Reversal => "reversal of the line".into(),
+            Edit::Insertion { place, glyphs } => {
+                format!("insertion at {} of {}: {}", place, glyphs.len(), named(glyphs))
+            }
+            Edit::Ligature { place, glyph, components } => {
+                let components: Vec<String> = components.iter().map(usize::to_string).collect();
+                format!("ligature at {}: {}, components {}", place, named(&[*glyph]), components.join(" "))
+            }
+            Edit::Write { place, before, glyph } => {
+                format!("write at {}: {} over {}", place, named(&[*glyph]), named(&[*before]))
+            }
+            Edit::Addition { place, number } => format!("addition at {}: {}", place, number),
+        }
+    }
+}
+
+/// What a subtable did: which it is, whether it was at work, and its edits, each with the place of its step.
+struct Told {
+    subtable: Subtable,
+    about: String,
+    edits: Vec<(usize, Edit)>,
+    /// How its pass went, if not to the end of the line.
+    end: Option<String>,
+}
+
+impl Told {
+    fn print(&self, look: &Look, rows: &Rows) {
+        println!("{}: {}", self.subtable, self.about);
+        for (place, edit) in self.edits.iter().take(look.most) {
+            match edit {
+                Edit::Reversal => println!("  {}", edit.describe(look)),
+                _ => println!("  step at {}: {}", place, edit.describe(look)),
+            }
+        }
+        if self.edits.len() > look.most {
+            println!("  .. {} of {} edits are not shown", self.edits.len() - look.most, self.edits.len());
+        }
+        if let Some(end) = &self.end {
+            println!("  {}", end);
+        }
+        for (row, spots) in rows {
+            let here: Vec<_> = spots.iter().filter(|spot| spot.subtable == self.subtable).collect();
+            if let [first, others @ ..] = &here[..] {
+                let place = first.place.map_or(String::new(), |place| format!(" at {}", place));
+                println!("  meets row {}{}{}", row, place, more(others.len()));
+            }
+        }
+    }
+}
+
+/// Tells the runs' subtables, as many as are shown.
+struct Teller<'a> {
+    look: &'a Look<'a>,
+    rows: &'a Rows,
+    told: usize,
+}
+
+impl Teller<'_> {
+    fn tell(&mut self, told: &Told) {
+        if self.told < self.look.most {
+            told.print(self.look, self.rows);
+        }
+        self.told += 1;
+    }
+
+    fn end(&self) {
+        if self.told > self.look.most {
+            println!(".. {} of {} subtables are not shown", self.told - self.look.most, self.told);
+        }
+    }
+}
+
+/// Tells the run of a morx table by the crate; disputed where a pass that was told left another line.
+pub fn tell_morx(run: &Run, line: &mut Line, look: &Look, rows: &Rows) -> Result<(), Fault> {
+    let mut teller = Teller { look, rows, told: 0 };
+    let (mut left, mut fault) = (line.clone(), None);
+    let show = &mut |visit: Visit, line: &Line| {
+        if left != *line {
+            fault = Some(Fault::Disputed);
+        }
+        left.clone_from(line);
+        match tell_visit(&visit, &mut left) {
+            Ok(told) => teller.tell(&told),
+            Err(other) => fault = Some(other),
+        }
+    };
+    run.make(line, show)?;
+    teller.end();
+    fault.or((left != *line).then_some(Fault::Disputed)).map_or(Ok(()), Err)
+}
+
+fn tell_visit(visit: &Visit, line: &mut Line) -> Result<Told, Fault> {
+    const KINDS: [&str; 6] = ["rearrangement", "contextual", "ligature", "kind 3", "non-contextual", "insertion"];
+    let kind = visit.coverage & 0xFF;
+    let kind = KINDS.get(kind as usize).map_or_else(|| format!("kind {}", kind), |kind| kind.to_string());
+    let head = format!("{}, coverage {:08X}, flags {:08X}", kind, visit.coverage, visit.flags);
+    let mut told =
+        Told { subtable: Subtable::of_morx(visit.number), about: String::new(), edits: Vec::new(), end: None };
+    let verdict = match &visit.opened {
+        _ if visit.default_flags & visit.flags == 0 => {
+            format!("passed over, as the chain's default flags {:08X} have none of its own", visit.default_flags)
+        }
+        _ if !visit.is_chosen => "passed over, as it is for vertical text".into(),
+        None => "passed over, as it can't be opened".into(),
+        Some(_) if visit.is_turned => "chosen, turned".into(),
+        Some(_) => "chosen".into(),
+    };
+    told.about = format!("{}: {}", head, verdict);
+    if let (Some((_, subtable)), true) = (&visit.opened, visit.is_chosen) {
+        let see = &mut |place, edit| told.edits.push((place, edit));
+        if visit.is_turned {
+            line.reverse();
+            see(0, Edit::Reversal);
+        }
+        let mut at = 0;
+        let answer = caught_as_none(|| Some(pass(subtable, line, &mut at, see)))?.unwrap_or(Answer::Ended);
+        if visit.is_turned {
+            line.reverse();
+            see(0, Edit::Reversal);
+        }
+        told.end = end(answer, at, line.glyphs.len());
+    }
+    Ok(told)
+}
+
+/// How a pass whose last step was at a place ended, if not at the end of the line.
+fn end(answer: Answer<()>, at: usize, room: usize) -> Option<String> {
+    match answer {
+        Answer::Done(()) => None,
+        Answer::Full => Some(format!("FULL in the step at {}: the room has {} places; the run ends", at, room)),
+        _ => Some(format!("ENDED in the step at {}", at)),
+    }
+}
+
+/// The pass by the crate's copy, as `passes_by_crate` has it for the crate; it tells the place of its last step, and each edit.
+fn pass(subtable: &SubtableKind, line: &mut Line, at: &mut usize, see: &mut dyn FnMut(usize, Edit)) -> Answer<()> {
+    let mut steps = |line: &mut Line, step: &mut dyn FnMut(&mut Line, usize, u16, bool) -> Answer<usize>| {
+        make_steps(line, |line, place, glyph, is_end| {
+            *at = place;
+            step(line, place, glyph, is_end)
+        })
+    };
+    match subtable {
+        SubtableKind::Rearrangement(machine) => {
+            let mut state = RearrangementState::new();
+            steps(line, &mut |line, place, glyph, is_end| {
+                stepped(machine.next(&mut state, place, glyph, is_end, |window| {
+                    let (first, last, verb) = (window.start, window.end, verb_of(window) as u16);
+                    see(place, Edit::Window { first, last, verb });
+                    line.rearrange(first, last, verb);
+                    Some(())
+                }))
+            })
+        }
+        SubtableKind::Contextual(machine) => {
+            let mut state = ContextualState::new();
+            steps(line, &mut |line, place, glyph, is_end| {
+                let write = |at: usize, glyph| {
+                    if let Some(before) = line.glyphs[..line.length()].get(at) {
+                        see(place, Edit::Write { place: at, before: *before, glyph });
+                    }
+                    line.write(at, glyph);
+                    Some(())
+                };
+                stepped(machine.next(&mut state, place, glyph, is_end, write).map(|()| 1))
+            })
+        }
+        SubtableKind::Ligature(machine) => {
+            let mut state = LigatureState::new();
+            steps(line, &mut |line, place, glyph, is_end| {
+                let ligate = |at, glyph, components: &[usize]| {
+                    see(place, Edit::Ligature { place: at, glyph, components: components.to_vec() });
+                    line.ligate(at, glyph, components);
+                    Some(())
+                };
+                stepped(machine.next(&mut state, place, glyph, is_end, ligate).map(|()| 1))
+            })
+        }
+        SubtableKind::NonContextual(lookup) => {
+            for place in 0..line.length() {
+                let before = line.glyphs[place];
+                if let Some(glyph) = lookup.substitute(before) {
+                    see(place, Edit::Write { place, before, glyph });
+                    line.write(place, glyph);
+                }
+            }
+            Answer::Done(())
+        }
+        SubtableKind::Insertion(machine) => {
+            let mut state = InsertionState::new();
+            steps(line, &mut |line, place, glyph, is_end| {
+                let mut fits = true;
+                let given = machine.next(&mut state, place, glyph, is_end, |at, glyphs| {
+                    fits = line.insert(at, glyphs.len(), glyphs.iter());
+                    if fits {
+                        see(place, Edit::Insertion { place: at, glyphs: glyphs.iter().collect() });
+                    }
+                    fits.then_some(())
+                });
+                if fits {
+                    stepped(given)
+                } else {
+                    Answer::Full
+                }
+            })
+        }
+    }
+}
+
+/// Tells the run of a kern or kerx table.
+pub fn tell_kerning(run: &kerning_run::Run, lent: &mut Kerned, look: &Look, rows: &Rows) -> Result<(), Fault> {
+    let mut teller = Teller { look, rows, told: 0 };
+    let mut fault = None;
+    let mut copies = machines(run.kerning, run.table, run.start as u32);
+    let mut number = 0;
+    let show = &mut |visit: &kerning_run::Visit, lent: &Kerned| {
+        let subtable = Subtable::of_list(run.kerning.name(), number);
+        match tell_kerning_visit(subtable, visit, copies.next().flatten(), lent) {
+            Ok(told) => teller.tell(&told),
+            Err(other) => fault = Some(other),
+        }
+        number += 1;
+    };
+    run.make_showing(lent, show)?;
+    teller.end();
+    fault.map_or(Ok(()), Err)
+}
+
+fn tell_kerning_visit(
+    subtable: Subtable,
+    visit: &kerning_run::Visit,
+    machine: Option<Machine>,
+    lent: &Kerned,
+) -> Result<Told, Fault> {
+    let head = visit.subtable.as_ref().map_or("nothing that can be read", kerning::Subtable::name);
+    let mut told = Told { subtable, about: String::new(), edits: Vec::new(), end: None };
+    let verdict = match (visit.passed_over, &visit.subtable) {
+        (Some(why), _) => format!("passed over, as it is {}", why),
+        (None, None) => "passed over".into(),
+        (None, Some(_)) if visit.is_turned => "chosen, turned".into(),
+        (None, Some(_)) => "chosen".into(),
+    };
+    told.about = format!("{}: {}", head, verdict);
+    if let (Some(pairs), None) = (&visit.subtable, visit.passed_over) {
+        let mut lent = lent.clone();
+        if visit.is_turned {
+            lent.reverse();
+            told.edits.push((0, Edit::Reversal));
+        }
+        let (glyphs, along) = lent.used();
+        match machine {
+            Some(machine) => add_steps(&machine, glyphs, along, &mut told)?,
+            None => told.edits.extend(glyphs.windows(2).enumerate().filter_map(|(place, pair)| {
+                let number = pairs.get(pair[0], pair[1]).done()?.into();
+                Some((place, Edit::Addition { place, number }))
+            })),
+        }
+        if visit.is_turned {
+            told.edits.push((0, Edit::Reversal));
+        }
+    }
+    Ok(told)
+}
+
+/// What each step of a machine adds.
+fn add_steps(machine: &Machine, glyphs: &[u16], along: &mut [i64], told: &mut Told) -> Result<(), Fault> {
+    let (mut before, mut at) = (along.to_vec(), 0);
+    let mut see = |step: usize, along: &[i64]| {
+        for (place, (before, now)) in before.iter_mut().zip(along).enumerate() {
+            if before != now {
+                told.edits.push((step, Edit::Addition { place, number: *now - *before }));
+                *before = *now;
+            }
+        }
+    };
+    let answer = machine.pass(glyphs, along, &mut |_, place, along| {
+        see(at, along);
+        at = place;
+    })?;
+    see(at, along);
+    told.end = end(answer, at, glyphs.len());
+    Ok(())
+}
