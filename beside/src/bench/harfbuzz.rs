@@ -1,7 +1,6 @@
 //! HarfBuzz, where its library is there: lines shaped by a font of given tables.
 
-use crate::font::sfnt::wrap;
-use crate::tables::lookup::words;
+use crate::font::sfnt::typed_font;
 use std::ffi::{c_void, CStr};
 use std::os::raw::c_char;
 use std::ptr::null;
@@ -73,9 +72,6 @@ const COPIED: i32 = 0;
 const LEFT_TO_RIGHT: i32 = 4;
 const LATIN: u32 = u32::from_be_bytes(*b"Latn");
 
-/// The characters of a font's glyphs begin here, where no character has properties of its own.
-const PRIVATE: u32 = 0xF0000;
-
 /// A font and a buffer, which stay as long as the program.
 pub struct Harfbuzz {
     library: Library,
@@ -88,7 +84,7 @@ impl Harfbuzz {
     /// A font of so many glyphs and of these tables.
     pub fn open(glyphs: u16, morx: &[u8], kerx: &[u8]) -> Option<Self> {
         let library = Library::open()?;
-        let file = font(glyphs, morx, kerx);
+        let file = typed_font(glyphs, vec![(*b"morx", morx.to_vec()), (*b"kerx", kerx.to_vec())]);
         let blob = (library.blob_create)(
             file.as_ptr(),
             file.len() as u32,
@@ -104,11 +100,6 @@ impl Harfbuzz {
     /// The library's version.
     pub fn version(&self) -> String {
         unsafe { CStr::from_ptr((self.library.version_string)()) }.to_string_lossy().into_owned()
-    }
-
-    /// The characters of these glyphs.
-    pub fn typed(glyphs: &[u16]) -> Vec<u32> {
-        glyphs.iter().map(|glyph| PRIVATE + u32::from(*glyph)).collect()
     }
 
     /// Shapes a line of characters.
@@ -129,29 +120,4 @@ impl Harfbuzz {
         let infos = (self.library.buffer_get_glyph_infos)(self.buffer, &mut count);
         unsafe { std::slice::from_raw_parts(infos, count as usize) }.iter().map(|info| info[0] as u16).collect()
     }
-}
-
-/// A font with the least that HarfBuzz asks for: 1,000 units, and glyphs that are all 500 wide.
-fn font(glyphs: u16, morx: &[u8], kerx: &[u8]) -> Vec<u8> {
-    let longs = |numbers: &[u32]| -> Vec<u8> { numbers.iter().flat_map(|number| number.to_be_bytes()).collect() };
-    let mut head = longs(&[0x1_0000, 0x1_0000, 0, 0x5F0F_3CF5, 1_000]);
-    head.resize(54, 0);
-    let mut hhea = words(&[1, 0, 800, 0xFF38]);
-    hhea.resize(34, 0);
-    hhea.extend(words(&[1]));
-    let mut hmtx = words(&[500]);
-    hmtx.resize(2 + 2 * usize::from(glyphs), 0);
-    let last = PRIVATE + u32::from(glyphs) - 1;
-    let cmap = [words(&[0, 1, 3, 10, 0, 12, 12, 0]), longs(&[28, 0, 1, PRIVATE, last, 0])].concat();
-    let maxp = words(&[0, 0x5000, glyphs]);
-    let tables = [
-        (*b"head", head),
-        (*b"hhea", hhea),
-        (*b"hmtx", hmtx),
-        (*b"cmap", cmap),
-        (*b"maxp", maxp),
-        (*b"morx", morx.to_vec()),
-        (*b"kerx", kerx.to_vec()),
-    ];
-    wrap(&tables)
 }

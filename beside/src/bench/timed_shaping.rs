@@ -7,6 +7,7 @@ use crate::bench::timed_kerning::{class_pairs, KERX};
 use crate::bench::timed_passes::{contextual, inserting, ligating, rearranging};
 use crate::bench::timed_text::{LINES, PLACES};
 use crate::bench::timing::{Group, Subject};
+use crate::font::sfnt::typed_characters;
 use crate::reference::kerning::{Kerned, ALONE_AT};
 use crate::reference::line::{Line, DELETED};
 use crate::reference::pass::line_of;
@@ -38,7 +39,7 @@ fn beside_harfbuzz(name: String, tables: Rc<Tables>, lines: &[Kerned]) -> (Optio
         Some(harfbuzz) => harfbuzz,
         None => return (None, "HarfBuzz was not measured, as its library is not there".into()),
     };
-    let typed = |kerned: &Kerned| Harfbuzz::typed(&kerned.line.glyphs[..kerned.line.length()]);
+    let typed = |kerned: &Kerned| typed_characters(&kerned.line.glyphs[..kerned.line.length()]);
     let characters: Vec<Vec<u32>> = lines.iter().map(typed).collect();
     let mut line = lines[0].clone();
     let mut differ = (lines.iter().zip(&characters)).filter_map(|(fresh, typed)| {

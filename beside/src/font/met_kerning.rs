@@ -1,11 +1,11 @@
 //! Which rows of docs/DIFFERENCES.md a line meets in the run of a kern or kerx table.
 
+use crate::font::kerning_heads::{subtables, Listed};
 use crate::font::met::{self, Entry, Met, Spot, DELETED, MOST_CYCLES, NONE};
 use crate::font::sfnt::{long, word};
 use crate::reference::kerning::{make_steps, Kerning, Subtable};
 use crate::reference::kerning_by_copy::{open, DEEPEST, STATE};
 use crate::reference::oracle::Answer;
-use crate::reference::run::MOST_HEADS;
 
 /// A run to be watched.
 pub struct Watched<'a> {
@@ -15,81 +15,23 @@ pub struct Watched<'a> {
     pub glyphs: &'a [u16],
 }
 
-/// A subtable of the list.
-struct Listed {
-    at: usize,
-    body: usize,
-    coverage: u32,
-    format: u32,
-    tuples: u32,
-    version: u16,
-}
-
 const PUSH: u16 = 0x8000;
 const RESET: u16 = 0x2000;
-const REVERSE: u32 = 0x1000_0000;
 
 impl Watched<'_> {
     /// Watches the run.
     pub fn watch(&self, met: &mut Met) {
-        let (version, count, mut at) = match self.head(met.table) {
-            Some(head) => head,
-            None => return,
-        };
-        for number in 0..count.min(MOST_HEADS) {
-            met.spot = Spot { subtable: met::Subtable::of_list(self.kerning.name(), number), place: None };
-            match self.listed(met.table, version, at) {
-                Some((subtable, size)) => {
-                    met.row(48, met.table.len() < subtable.body);
-                    if !self.passes_over(&subtable) {
-                        self.watch_subtable(met, &subtable);
-                    }
-                    at += size as usize;
-                }
-                None => return,
+        for (number, subtable) in subtables(self.kerning, met.table, self.start).enumerate() {
+            met.spot = Spot { subtable: met::Subtable::of_list(self.kerning.name(), number as u32), place: None };
+            met.row(48, met.table.len() < subtable.body);
+            if !subtable.is_passed_over {
+                self.watch_subtable(met, &subtable);
             }
-        }
-    }
-
-    /// The list's version and count, and where its first subtable begins.
-    fn head(&self, table: &[u8]) -> Option<(u16, u32, usize)> {
-        let version = word(table, self.start)?;
-        if self.kerning == Kerning::Kern && version == 0 {
-            return Some((version, word(table, self.start + 2)?.into(), self.start + 4));
-        }
-        Some((version, long(table, self.start + 4)?, self.start + 8))
-    }
-
-    /// A subtable and its size.
-    fn listed(&self, table: &[u8], version: u16, at: usize) -> Option<(Listed, u32)> {
-        let of = |body, coverage, format, tuples| Listed { at, body: at + body, coverage, format, tuples, version };
-        match self.kerning {
-            Kerning::Kern if version == 0 => {
-                let coverage = u32::from(word(table, at + 4)?);
-                Some((of(6, coverage, coverage >> 8, 0), word(table, at + 2)?.into()))
-            }
-            Kerning::Kern => {
-                let coverage = u32::from(word(table, at + 4)?);
-                Some((of(8, coverage, coverage & 0xFF, 0), long(table, at)?))
-            }
-            Kerning::Kerx => {
-                let coverage = long(table, at + 4)?;
-                let tuples = if version >= 4 { long(table, at + 8)? } else { 0 };
-                Some((of(12, coverage, coverage & 0xFF, tuples), long(table, at)?))
-            }
-        }
-    }
-
-    fn passes_over(&self, subtable: &Listed) -> bool {
-        match self.kerning {
-            Kerning::Kern if subtable.version == 0 => subtable.coverage & 5 != 1,
-            Kerning::Kern => subtable.coverage & 0xC000 != 0,
-            Kerning::Kerx => subtable.coverage & 0xE000_0000 != 0,
         }
     }
 
     fn is_turned(&self, subtable: &Listed) -> bool {
-        self.kerning == Kerning::Kerx && (subtable.coverage & REVERSE != 0) != self.right_to_left
+        self.kerning == Kerning::Kerx && subtable.reverses != self.right_to_left
     }
 
     fn watch_subtable(&self, met: &mut Met, subtable: &Listed) {
@@ -108,7 +50,7 @@ impl Watched<'_> {
                 self.watch_machine(met, subtable, &alone, &glyphs)
             }
             Ok(Some(pairs)) => {
-                met.row(35, subtable.coverage & REVERSE != 0 && !is_kern);
+                met.row(35, subtable.reverses);
                 for (place, pair) in glyphs.windows(2).enumerate() {
                     met.spot.place = Some(place);
                     let is_found = matches!(pairs.get(pair[0], pair[1]), Answer::Done(_));

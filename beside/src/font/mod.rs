@@ -2,7 +2,9 @@
 //! docs/DIFFERENCES.md that the line met.
 
 mod characters;
+mod hb_shape;
 mod history;
+mod kerning_heads;
 mod met;
 mod met_kerning;
 mod met_language;
@@ -15,6 +17,7 @@ mod tried;
 mod wish;
 
 use crate::font::characters::Characters;
+use crate::font::hb_shape::HbShape;
 use crate::font::met::{rows, Rows};
 use crate::font::sfnt::{wrap, Font};
 use crate::font::shaping::{Shaped, Tables};
@@ -62,11 +65,19 @@ fn shape(words: &[String]) -> Result<bool, String> {
         wish.language.as_ref().map(|name| tables.language(name, &mut the_box)).transpose().map_err(in_file)?;
     println!("{}: {}", wish.file, tables.describe());
     let look = Look::new(&font, wish.is_whole);
+    let hb_shape = HbShape::find();
+    if hb_shape.is_none() {
+        println!("HarfBuzz is not shown, as hb-shape is not in the path (Debian has it in libharfbuzz-bin)");
+    }
     let mut is_same = true;
     let mut met = Rows::new();
     for right_to_left in wish.ways() {
-        is_same &= show(&tables, &glyphs, right_to_left, &look, &mut the_box)?;
+        let (is_one, parts) = show(&tables, &glyphs, right_to_left, &look, &mut the_box, hb_shape.as_ref())?;
+        is_same &= is_one;
         let rows = tables.met(&glyphs, right_to_left, wish.language.as_deref());
+        if let Some(places) = parts {
+            println!("{}", told_of_harfbuzz(&places, &rows));
+        }
         if wish.traces {
             tables.trace(&glyphs, right_to_left, &look, &rows)?;
         }
@@ -79,6 +90,18 @@ fn shape(words: &[String]) -> Result<bool, String> {
     println!("{}", if is_same { "crate and box say the same" } else { "crate and box DIFFER" });
     show_rows(&met, &tables.looked_at(wish.language.is_some()));
     Ok(is_same)
+}
+
+/// Where HarfBuzz says otherwise, and the rows by which that can be.
+fn told_of_harfbuzz(places: &[usize], rows: &Rows) -> String {
+    let first = match places.first() {
+        Some(first) => first,
+        None => return "HarfBuzz says the same".into(),
+    };
+    let rows: Vec<String> = rows.keys().map(u32::to_string).collect();
+    let why =
+        if rows.is_empty() { "NO row that was met tells why".into() } else { format!("see row {}", rows.join(", ")) };
+    format!("HarfBuzz says otherwise at place {}{}: {}", first, more(places.len() - 1), why)
 }
 
 /// The glyphs of the line that is typed, each one of the font's; glyph 0, and a word on it, where a character has none.
@@ -114,23 +137,34 @@ fn start(command: &[String]) -> Result<TheBox, String> {
     TheBox::start(command).map_err(|error| format!("the box: {}", error))
 }
 
-/// Shows what both sides make of the line; whether it is the same.
+/// Shows what both sides and HarfBuzz make of the line; whether it is the same by both, and where HarfBuzz says otherwise.
 fn show(
     tables: &Tables,
     glyphs: &[u16],
     right_to_left: bool,
     look: &Look,
     the_box: &mut TheBox,
-) -> Result<bool, String> {
+    hb_shape: Option<&HbShape>,
+) -> Result<(bool, Option<Vec<usize>>), String> {
     let crates = by_crate(tables, glyphs, right_to_left)?;
     let boxes = by_box(tables, glyphs, right_to_left, the_box)?;
-    println!("from {}, crate | box", if right_to_left { "right to left" } else { "left to right" });
-    let columns = [&crates, &boxes].map(|shaped| Column::of(shaped, look));
+    let harfbuzz = if hb_shape.is_some() { " | HarfBuzz" } else { "" };
+    println!("from {}, crate | box{}", if right_to_left { "right to left" } else { "left to right" }, harfbuzz);
+    let mut columns = vec![Column::of(&crates, look), Column::of(&boxes, look)];
     let differs = |place: &usize| columns[0].places.get(*place) != columns[1].places.get(*place);
     let longest = columns[0].places.len().max(columns[1].places.len());
-    print(&columns, look.most, (0..longest).find(differs));
+    let mut notable = (0..longest).find(differs);
+    let mut parts = None;
+    if let Some(hb_shape) = hb_shape {
+        let reading = hb_shape.shape(tables, glyphs, right_to_left)?;
+        let (column, places) = reading.column(&boxes, look, &hb_shape.version);
+        notable = notable.or_else(|| places.first().copied());
+        columns.push(column);
+        parts = Some(places);
+    }
+    print(&columns, look.most, notable);
     println!("in the form of hb-shape: {}", as_hb_shape(&boxes, look, right_to_left));
-    Ok(crates == boxes)
+    Ok((crates == boxes, parts))
 }
 
 fn by_crate(tables: &Tables, glyphs: &[u16], right_to_left: bool) -> Result<Shaped, String> {

@@ -1,5 +1,7 @@
 //! Font files: the tables of a TrueType or OpenType font or of one in a collection, and a smallest font around tables.
 
+use crate::tables::lookup::words;
+
 /// Where each of a font's tables lies in its file.
 pub struct Font<'a> {
     file: &'a [u8],
@@ -75,6 +77,35 @@ pub fn wrap(tables: &[([u8; 4], Vec<u8>)]) -> Vec<u8> {
         font.resize((font.len() + 3) / 4 * 4, 0);
     }
     font
+}
+
+/// The characters of a typed font's glyphs begin here, where no character has properties of its own.
+const PRIVATE: u32 = 0xF0000;
+
+/// So wide are the glyphs of a typed font.
+pub const TYPED_WIDTH: u16 = 500;
+
+/// The characters of a typed font that are these glyphs.
+pub fn typed_characters(glyphs: &[u16]) -> Vec<u32> {
+    glyphs.iter().map(|glyph| PRIVATE + u32::from(*glyph)).collect()
+}
+
+/// A font of these tables, with the least that HarfBuzz asks for besides: 1,000 units, so many glyphs, all of one width, and a
+/// character for each number of a glyph.
+pub fn typed_font(glyphs: u16, mut tables: Vec<([u8; 4], Vec<u8>)>) -> Vec<u8> {
+    let longs = |numbers: &[u32]| -> Vec<u8> { numbers.iter().flat_map(|number| number.to_be_bytes()).collect() };
+    let mut head = longs(&[0x1_0000, 0x1_0000, 0, 0x5F0F_3CF5, 1_000]);
+    head.resize(54, 0);
+    let mut hhea = words(&[1, 0, 800, 0xFF38]);
+    hhea.resize(34, 0);
+    hhea.extend(words(&[1]));
+    let mut hmtx = words(&[TYPED_WIDTH]);
+    hmtx.resize(2 + 2 * usize::from(glyphs), 0);
+    let last = PRIVATE + u32::from(u16::MAX);
+    let cmap = [words(&[0, 1, 3, 10, 0, 12, 12, 0]), longs(&[28, 0, 1, PRIVATE, last, 0])].concat();
+    let maxp = words(&[0, 0x5000, glyphs]);
+    tables.extend([(*b"head", head), (*b"hhea", hhea), (*b"hmtx", hmtx), (*b"cmap", cmap), (*b"maxp", maxp)]);
+    wrap(&tables)
 }
 
 /// The 16-bit number at a place.

@@ -78,7 +78,14 @@ impl Tables {
         format!("{}; {}", glyphs, sizes.join(", "))
     }
 
-    fn kernings(&self) -> impl Iterator<Item = (Kerning, &Vec<u8>)> {
+    /// Those for shaping with their names, as a font has them.
+    pub fn named(&self) -> Vec<([u8; 4], Vec<u8>)> {
+        let tables = [(*b"morx", &self.morx), (*b"kerx", &self.kerx), (*b"kern", &self.kern)];
+        tables.into_iter().filter_map(|(name, table)| Some((name, table.as_ref()?[ALONE_AT..].to_vec()))).collect()
+    }
+
+    /// The tables of kerning; HarfBuzz takes the first alone.
+    pub fn kernings(&self) -> impl Iterator<Item = (Kerning, &Vec<u8>)> {
         let tables = [(Kerning::Kerx, &self.kerx), (Kerning::Kern, &self.kern)];
         tables.into_iter().filter_map(|(kerning, table)| Some((kerning, table.as_ref()?)))
     }

@@ -31,12 +31,21 @@ impl<'a> Look<'a> {
         }
     }
 
-    /// A glyph's name in a column, where the font has names.
-    fn name(&self, glyph: u16) -> String {
+    /// A glyph's number and name as a column has them.
+    pub fn in_column(&self, glyph: u16) -> String {
         match glyph {
-            _ if !self.names.are_there() => String::new(),
-            DELETED => format!(" {:<12}", "(deleted)"),
-            _ => format!(" {:<12}", self.names.name(glyph)),
+            _ if !self.names.are_there() => format!("{:>6}", glyph),
+            DELETED => format!("{:>6} {:<12}", glyph, "(deleted)"),
+            _ => format!("{:>6} {:<12}", glyph, self.names.name(glyph)),
+        }
+    }
+
+    /// What stands above these.
+    pub fn above(&self) -> String {
+        if self.names.are_there() {
+            format!("{:>6} {:<12}", "glyph", "name")
+        } else {
+            format!("{:>6}", "glyph")
         }
     }
 }
@@ -62,13 +71,12 @@ impl Column {
         let answer = |run: &(&str, u32, u32)| format!("{}: {}, heads {}", run.0, ANSWERS[run.1 as usize], run.2);
         let mut above: Vec<String> = shaped.runs.iter().map(answer).collect();
         let tables: String = shaped.along.iter().map(|(table, _)| format!("{:>8}", table)).collect();
-        let names = if look.names.are_there() { format!(" {:<12}", "name") } else { String::new() };
-        above.push(format!("place  glyph{}    tag{}  characters", names, tables));
+        above.push(format!("place {}    tag{}  characters", look.above(), tables));
         let place = |place: usize| {
             let along: String = shaped.along.iter().map(|(_, along)| format!("{:>8}", along[place])).collect();
             let (glyph, tag) = (shaped.line.glyphs[place], shaped.line.tags[place]);
             let characters: Vec<String> = shaped.characters(tag).map(|character| character.to_string()).collect();
-            format!("{:>5} {:>6}{} {:>6}{}  {}", place, glyph, look.name(glyph), tag, along, characters.join(" "))
+            format!("{:>5} {} {:>6}{}  {}", place, look.in_column(glyph), tag, along, characters.join(" "))
         };
         Column { above, places: (0..shaped.line.length()).map(place).collect() }
     }

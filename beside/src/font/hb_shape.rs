@@ -1,0 +1,173 @@
+//! HarfBuzz's reading of the tables, by its program hb-shape, where that is there.
+
+use crate::font::kerning_heads::subtables;
+use crate::font::sfnt::{typed_characters, typed_font, TYPED_WIDTH};
+use crate::font::shaping::{Shaped, Tables};
+use crate::font::show::{Column, Look};
+use crate::reference::kerning::ALONE_AT;
+use crate::reference::line::DELETED;
+use std::io::Write;
+use std::process::{Command, Stdio};
+
+/// The program.
+pub struct HbShape {
+    pub version: String,
+}
+
+/// A line as HarfBuzz leaves it, without the glyphs that were deleted.
+pub struct Reading {
+    pub glyphs: Vec<u16>,
+    /// What kerning added at each glyph, where that can be told.
+    pub along: Option<Vec<i64>>,
+}
+
+impl HbShape {
+    /// The program, if it is in the path.
+    pub fn find() -> Option<Self> {
+        let said = Command::new("hb-shape").arg("--version").stderr(Stdio::null()).output().ok()?;
+        let said = String::from_utf8(said.stdout).ok()?;
+        Some(HbShape { version: said.lines().next()?.rsplit(' ').next()?.into() })
+    }
+
+    /// What it makes of a line by these tables alone: a font around them has a character of no properties for each glyph.
+    pub fn shape(&self, tables: &Tables, glyphs: &[u16], right_to_left: bool) -> Result<Reading, String> {
+        if glyphs.is_empty() {
+            return Ok(Reading { glyphs: Vec::new(), along: Some(Vec::new()) });
+        }
+        let characters: Vec<String> =
+            typed_characters(glyphs).iter().map(|character| format!("U+{:X}", character)).collect();
+        let font = typed_font(tables.glyphs.unwrap_or(u16::MAX), tables.named());
+        // Scripts have a way of their own, into which HarfBuzz turns the line before it works.
+        let way =
+            if right_to_left { ["--direction=rtl", "--script=Hebr"] } else { ["--direction=ltr", "--script=Latn"] };
+        let words = ["--font-file=/dev/stdin", "--language=en", "--no-glyph-names", "--no-clusters"];
+        let mut command = Command::new("hb-shape");
+        command.args(words).args(way).arg(format!("--unicodes={}", characters.join(",")));
+        let said = run(command, &font).map_err(|error| format!("hb-shape: {}", error))?;
+        let read = said.trim().strip_prefix('[').and_then(|said| said.strip_suffix(']'));
+        let places: Option<Vec<Place>> = read.and_then(|read| read.split('|').map(Place::of).collect());
+        let mut places = places.ok_or_else(|| format!("hb-shape said: {}", said))?;
+        if right_to_left {
+            places.reverse();
+        }
+        let along = tables.kerned_by(right_to_left).map(|kerned| kerned.along(&places));
+        Ok(Reading { glyphs: places.iter().map(|place| place.glyph).collect(), along })
+    }
+}
+
+/// Runs a command with this input; what it says.
+fn run(mut command: Command, input: &[u8]) -> std::io::Result<String> {
+    let mut process = command.stdin(Stdio::piped()).stdout(Stdio::piped()).spawn()?;
+    let mut stdin = process.stdin.take().expect("a piped input");
+    let sent = std::thread::scope(|both| {
+        let sent = both.spawn(move || stdin.write_all(input));
+        let said = process.wait_with_output();
+        (sent.join().expect("the writer"), said)
+    });
+    sent.0?;
+    Ok(String::from_utf8_lossy(&sent.1?.stdout).into_owned())
+}
+
+/// A glyph as hb-shape prints it: number, offset where there is one, and advance.
+struct Place {
+    glyph: u16,
+    offset: i64,
+    advance: i64,
+}
+
+impl Place {
+    fn of(said: &str) -> Option<Self> {
+        let (glyph, advance) = said.split_once('+')?;
+        let (glyph, offset) = glyph.split_once('@').unwrap_or((glyph, "0"));
+        let first = |numbers: &str| numbers.split(',').next()?.parse().ok();
+        Some(Place { glyph: glyph.parse().ok()?, offset: first(offset)?, advance: first(advance)? })
+    }
+}
+
+/// What kind of subtables the table of kerning has that HarfBuzz takes.
+enum Kerned {
+    /// There is no kerning.
+    Not,
+    ByMachines,
+    /// By pairs, in the line's order or from its end.
+    ByPairs {
+        is_turned: bool,
+    },
+}
+
+impl Kerned {
+    /// What was added at each place: a machine moves its glyph by the number, and all behind it; a pair's number is parted between
+    /// its glyphs, and the second is moved by its part.
+    fn along(&self, places: &[Place]) -> Vec<i64> {
+        let width = i64::from(TYPED_WIDTH);
+        match self {
+            Kerned::Not => vec![0; places.len()],
+            Kerned::ByMachines => places.iter().map(|place| place.advance - width).collect(),
+            Kerned::ByPairs { is_turned } => {
+                let moved =
+                    |place: Option<usize>| place.and_then(|place| places.get(place)).map_or(0, |next| next.offset);
+                let second = |place: usize| if *is_turned { place.checked_sub(1) } else { Some(place + 1) };
+                let number = |(place, at): (usize, &Place)| at.advance - width - at.offset + moved(second(place));
+                places.iter().enumerate().map(number).collect()
+            }
+        }
+    }
+}
+
+impl Tables {
+    /// How HarfBuzz kerns by these tables: by kerx, or by kern where there is no kerx. None where the numbers of pairs and machines,
+    /// or of both orders, can't be told apart.
+    fn kerned_by(&self, right_to_left: bool) -> Option<Kerned> {
+        let (kerning, table) = match self.kernings().next() {
+            Some(kerned) => kerned,
+            None => return Some(Kerned::Not),
+        };
+        let mut ways =
+            subtables(kerning, table, ALONE_AT).filter(|subtable| !subtable.is_passed_over).map(|subtable| {
+                let is_turned = subtable.reverses != right_to_left;
+                match subtable.format {
+                    1 => (true, false),
+                    _ => (false, is_turned),
+                }
+            });
+        let first = ways.next();
+        let kerned = match first {
+            None => Kerned::Not,
+            Some((true, _)) => Kerned::ByMachines,
+            Some((false, is_turned)) => Kerned::ByPairs { is_turned },
+        };
+        ways.all(|way| Some(way) == first).then_some(kerned)
+    }
+}
+
+impl Reading {
+    /// Its column beside a line that was shaped: its glyphs stand beside those that were not deleted. With it, the places where it
+    /// says otherwise.
+    pub fn column(&self, shaped: &Shaped, look: &Look, version: &str) -> (Column, Vec<usize>) {
+        let length = shaped.line.length();
+        let mut stand: Vec<usize> = (0..length).filter(|place| shaped.line.glyphs[*place] != DELETED).collect();
+        stand.extend(length..length + self.glyphs.len().saturating_sub(stand.len()));
+        let kerned = shaped.along.first();
+        let mut differ = Vec::new();
+        let mut places = vec![String::new(); stand.last().map_or(length, |last| length.max(last + 1))];
+        for (number, place) in stand.into_iter().enumerate() {
+            let ours = (place < length).then(|| shaped.line.glyphs[place]);
+            let our_number = kerned.and_then(|(_, along)| along.get(place)).copied().unwrap_or(0);
+            let its_number = self.along.as_ref().and_then(|along| along.get(number)).copied();
+            let is_same = ours == self.glyphs.get(number).copied() && its_number.map_or(true, |its| its == our_number);
+            if !is_same {
+                differ.push(place);
+            }
+            let glyph = self.glyphs.get(number).map_or(format!("{:>6}", "-"), |glyph| look.in_column(*glyph));
+            let added = match (kerned, its_number) {
+                (None, _) => String::new(),
+                (Some(_), Some(number)) => format!("{:>8}", number),
+                (Some(_), None) => format!("{:>8}", "?"),
+            };
+            places[place] = format!("{}{}{}", glyph, added, if is_same { "" } else { "  *" });
+        }
+        let table = kerned.map_or(String::new(), |(table, _)| format!("{:>8}", table));
+        let above = vec![format!("HarfBuzz {}", version), format!("{}{}", look.above(), table)];
+        (Column { above, places }, differ)
+    }
+}
