@@ -164,10 +164,10 @@ impl Reading {
                 (Some(_), Some(number)) => format!("{:>8}", number),
                 (Some(_), None) => format!("{:>8}", "?"),
             };
-            places[place] = format!("{}{}{}", glyph, added, if is_same { "" } else { "  *" });
+            places[place] = format!("{:>5} {}{}{}", number, glyph, added, if is_same { "" } else { "  *" });
         }
         let table = kerned.map_or(String::new(), |(table, _)| format!("{:>8}", table));
-        let above = vec![format!("HarfBuzz {}", version), format!("{}{}", look.above(), table)];
+        let above = vec![format!("HarfBuzz {}", version), format!("place {}{}", look.above(), table)];
         (Column { above, places }, differ)
     }
 }

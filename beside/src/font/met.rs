@@ -50,7 +50,7 @@ impl Subtable {
 
 impl fmt::Display for Subtable {
     fn fmt(&self, to: &mut fmt::Formatter) -> fmt::Result {
-        write!(to, "{}", self.table)?;
+        write!(to, "{}", if self.table.is_empty() { "the line itself" } else { self.table })?;
         self.chain.map_or(Ok(()), |chain| write!(to, " chain {}", chain))?;
         self.number.map_or(Ok(()), |number| write!(to, " subtable {}", number))
     }

@@ -3,24 +3,45 @@
 use crate::font::kerning_heads::{subtables, Listed};
 use crate::font::met::{self, Entry, Met, Spot, DELETED, MOST_CYCLES, NONE};
 use crate::font::sfnt::{long, word};
-use crate::reference::kerning::{make_steps, Kerning, Subtable};
+use crate::reference::kerning::{make_steps, Kerned, Kerning, Subtable};
 use crate::reference::kerning_by_copy::{open, DEEPEST, STATE};
+use crate::reference::kerning_run::Run;
+use crate::reference::line::Line;
 use crate::reference::oracle::Answer;
 
 /// A run to be watched.
-pub struct Watched<'a> {
-    pub kerning: Kerning,
-    pub start: usize,
-    pub right_to_left: bool,
-    pub glyphs: &'a [u16],
+struct Watched<'a> {
+    kerning: Kerning,
+    start: usize,
+    right_to_left: bool,
+    glyphs: &'a [u16],
+}
+
+/// Watches the run on a line.
+pub fn watch(met: &mut Met, run: &Run, line: &Line) {
+    let Run { kerning, start, right_to_left, .. } = *run;
+    let glyphs = &line.glyphs[..line.length()];
+    Watched { kerning, start: start as usize, right_to_left, glyphs }.watch(met);
+    // A fault is shown where the sides are compared.
+    let mut lent = Kerned { line: line.clone(), along: vec![0; line.glyphs.len()] };
+    let made = run.make(&mut lent);
+    met.spot = Spot { subtable: met::Subtable { table: kerning.name(), ..met::Subtable::default() }, place: None };
+    met.row(50, matches!(made, Ok((Answer::Limit, _))));
+    if kerning == Kerning::Kern && right_to_left {
+        let mut turned = lent.clone();
+        turned.reverse();
+        let made = run.make(&mut turned);
+        turned.reverse();
+        met.row(52, made.is_ok() && turned.along != lent.along);
+    }
 }
 
 const PUSH: u16 = 0x8000;
 const RESET: u16 = 0x2000;
 
 impl Watched<'_> {
-    /// Watches the run.
-    pub fn watch(&self, met: &mut Met) {
+    /// Watches each subtable.
+    fn watch(&self, met: &mut Met) {
         for (number, subtable) in subtables(self.kerning, met.table, self.start).enumerate() {
             met.spot = Spot { subtable: met::Subtable::of_list(self.kerning.name(), number as u32), place: None };
             met.row(48, met.table.len() < subtable.body);
@@ -207,5 +228,5 @@ fn is_class_array_empty(table: &[u8], body: usize) -> Option<bool> {
 }
 
 /// The rows that are looked at in these runs, with those of their lookups and state tables.
-pub const ROWS: [u32; 27] =
-    [1, 2, 3, 4, 5, 6, 7, 8, 9, 15, 25, 26, 27, 28, 29, 30, 31, 32, 33, 34, 35, 36, 37, 43, 44, 47, 48];
+pub const ROWS: [u32; 29] =
+    [1, 2, 3, 4, 5, 6, 7, 8, 9, 15, 25, 26, 27, 28, 29, 30, 31, 32, 33, 34, 35, 36, 37, 43, 44, 47, 48, 50, 52];

@@ -5,29 +5,33 @@
 //! actions that the rows ask for, and rows 38 and 39 ask for some that it leaves unread. To tell of them it would have to be
 //! changed, and then it would be another crate than the one compared.
 
-use crate::font::met::{Entry, Met, Subtable, MOST_CYCLES, NONE};
+use crate::font::met::{Entry, Met, Spot, Subtable, MOST_CYCLES, NONE};
 use crate::font::sfnt::{long, word};
 use crate::reference::line::Line;
 use crate::reference::opened::aat::morx::SubtableKind;
+use crate::reference::oracle::Answer;
 use crate::reference::run::{Run, Visit};
 use crate::reference::step::Told;
 use crate::reference::steps_by_copy::Opened;
 use crate::tables::morx::SUBTABLE_HEAD;
 
-/// Watches the run.
-pub fn watch(met: &mut Met, run: &Run, line: &Line) {
+/// Watches the run, which is made on the line.
+pub fn watch(met: &mut Met, run: &Run, line: &mut Line) {
     let mut show = |visit: Visit, line: &Line| {
         if let (Some((at, opened)), true) = (visit.opened, visit.is_chosen) {
             let mut line = line.clone();
             if visit.is_turned {
                 line.reverse();
             }
-            met.spot.subtable = Subtable::of_morx(visit.number);
+            met.spot = Spot { subtable: Subtable::of_morx(visit.number), place: None };
             watch_subtable(met, at + SUBTABLE_HEAD, opened, visit.is_turned, run.table, line);
         }
     };
     // A fault is shown where the sides are compared.
-    let _ = run.make(&mut line.clone(), &mut show);
+    let made = run.make(line, &mut show);
+    met.row(49, matches!(made, Ok((Answer::Full, _))));
+    met.spot = Spot { subtable: Subtable { table: "morx", ..Subtable::default() }, place: None };
+    met.row(50, matches!(made, Ok((Answer::Limit, _))));
 }
 
 fn watch_subtable(met: &mut Met, body: usize, opened: SubtableKind, is_turned: bool, table: &[u8], mut line: Line) {
@@ -259,4 +263,4 @@ fn write(glyphs: &mut [u16], place: usize, glyph: u16) {
 }
 
 /// The rows that are looked at in a morx run, with those of its lookups and state tables.
-pub const ROWS: [u32; 22] = [1, 2, 3, 4, 5, 6, 14, 15, 16, 17, 18, 19, 20, 21, 22, 23, 24, 38, 39, 40, 41, 42];
+pub const ROWS: [u32; 24] = [1, 2, 3, 4, 5, 6, 14, 15, 16, 17, 18, 19, 20, 21, 22, 23, 24, 38, 39, 40, 41, 42, 49, 50];

@@ -1,11 +1,10 @@
 //! A font's tables for shaping, and what the crate and the box make of a line by them.
 
 use crate::font::history::{tell_kerning, tell_morx};
-use crate::font::met::{Met, Rows};
-use crate::font::met_kerning::{self, Watched};
+use crate::font::met::{Met, Rows, Spot};
 use crate::font::sfnt::Font;
 use crate::font::show::Look;
-use crate::font::{met_language, met_morx};
+use crate::font::{met_kerning, met_language, met_morx};
 use crate::reference::kerning::{Kerned, Kerning, ALONE_AT};
 use crate::reference::line::{Line, LARGEST_ROOM};
 use crate::reference::oracle::{self, Fault, LONGEST_TABLE};
@@ -92,16 +91,22 @@ impl Tables {
 
     /// The line by the crate: first morx, then each table of kerning on what it left.
     pub fn by_crate(&self, glyphs: &[u16], right_to_left: bool) -> Result<Shaped, Fault> {
-        let mut shaped = Shaped { line: line_of(glyphs, LARGEST_ROOM), runs: Vec::new(), along: Vec::new() };
+        let mut shaped = Shaped { line: lent_line(glyphs), runs: Vec::new(), along: Vec::new() };
         if let Some(table) = &self.morx {
             let run = run::Run { table, start: START, right_to_left };
-            let (answer, heads) = run.make(&mut shaped.line, &mut |_, _| {})?;
+            let (answer, heads) = match run.refusal(&shaped.line) {
+                Some(refusal) => (refusal, 0),
+                None => run.make(&mut shaped.line, &mut |_, _| {})?,
+            };
             shaped.runs.push(("morx", answer.number(), heads));
         }
         for (kerning, table) in self.kernings() {
             let mut lent = unkerned(&shaped.line);
             let run = kerning_run::Run { kerning, table, start: START, right_to_left };
-            let (answer, heads) = run.make(&mut lent)?;
+            let (answer, heads) = match run.refusal(&lent) {
+                Some(refusal) => (refusal, 0),
+                None => run.make(&mut lent)?,
+            };
             shaped.runs.push((kerning.name(), answer.number(), heads));
             shaped.along.push((kerning.name(), lent.along));
         }
@@ -110,7 +115,7 @@ impl Tables {
 
     /// The same by the box.
     pub fn by_box(&self, glyphs: &[u16], right_to_left: bool, the_box: &mut TheBox) -> io::Result<Shaped> {
-        let mut shaped = Shaped { line: line_of(glyphs, LARGEST_ROOM), runs: Vec::new(), along: Vec::new() };
+        let mut shaped = Shaped { line: lent_line(glyphs), runs: Vec::new(), along: Vec::new() };
         let direction = u32::from(right_to_left).to_le_bytes();
         if let Some(table) = &self.morx {
             let mut call = call_of(table, Entry::MorxRun);
@@ -162,25 +167,27 @@ impl Tables {
     /// The rows of docs/DIFFERENCES.md that the line and the language meet.
     pub fn met(&self, glyphs: &[u16], right_to_left: bool, language: Option<&str>) -> Rows {
         let mut rows = Rows::new();
-        let mut line = line_of(glyphs, LARGEST_ROOM);
+        let mut line = lent_line(glyphs);
+        if !line.is_line() {
+            return Rows::from([(51, vec![Spot::default()])]);
+        }
+        let mut add = |met: Met| {
+            met.rows.into_iter().for_each(|(row, mut spots)| rows.entry(row).or_default().append(&mut spots))
+        };
         if let Some(table) = &self.morx {
             let mut met = Met::new(table, self.glyphs);
-            let run = run::Run { table, start: START, right_to_left };
-            met_morx::watch(&mut met, &run, &line);
-            rows.append(&mut met.rows);
-            // A fault is shown where the sides are compared.
-            let _ = run.make(&mut line, &mut |_, _| {});
+            met_morx::watch(&mut met, &run::Run { table, start: START, right_to_left }, &mut line);
+            add(met);
         }
         for (kerning, table) in self.kernings() {
             let mut met = Met::new(table, self.glyphs);
-            let glyphs = &line.glyphs[..line.length()];
-            Watched { kerning, start: ALONE_AT, right_to_left, glyphs }.watch(&mut met);
-            rows.append(&mut met.rows);
+            met_kerning::watch(&mut met, &kerning_run::Run { kerning, table, start: START, right_to_left }, &line);
+            add(met);
         }
         if let (Some(table), Some(name)) = (&self.ltag, language) {
             let mut met = Met::new(table, self.glyphs);
             met_language::watch(&mut met, ALONE_AT, name.as_bytes());
-            rows.append(&mut met.rows);
+            add(met);
         }
         rows
     }
@@ -188,7 +195,10 @@ impl Tables {
     /// Tells what each subtable does, by the crate's copy, which has to leave the line as the crate does.
     pub fn trace(&self, glyphs: &[u16], right_to_left: bool, look: &Look, rows: &Rows) -> Result<(), String> {
         let in_words = |fault: Fault| fault.describe().to_string();
-        let mut line = line_of(glyphs, LARGEST_ROOM);
+        let mut line = lent_line(glyphs);
+        if !line.is_line() {
+            return Ok(());
+        }
         if let Some(table) = &self.morx {
             let run = run::Run { table, start: START, right_to_left };
             tell_morx(&run, &mut line, look, rows).map_err(in_words)?;
@@ -202,10 +212,16 @@ impl Tables {
 
     /// The rows that can be met, or are known not to be, as their tables are not there.
     pub fn looked_at(&self, has_language: bool) -> BTreeSet<u32> {
-        let rows = met_morx::ROWS.into_iter().chain(met_kerning::ROWS);
+        let rows = met_morx::ROWS.into_iter().chain(met_kerning::ROWS).chain([51]);
         let of_language = met_language::ROWS.into_iter().filter(|_| has_language);
         rows.chain(of_language).filter(|row| *row != 4 || self.glyphs.is_some()).collect()
     }
+}
+
+/// A line in the largest room; in one that is refused where it is longer, with as many of its glyphs as that takes.
+fn lent_line(glyphs: &[u16]) -> Line {
+    let glyphs = &glyphs[..glyphs.len().min(LARGEST_ROOM + 1)];
+    line_of(glyphs, glyphs.len().max(LARGEST_ROOM))
 }
 
 fn unkerned(line: &Line) -> Kerned {

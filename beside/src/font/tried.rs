@@ -25,7 +25,8 @@ pub fn try_all(words: &[String]) -> Result<bool, String> {
     Ok(failed == 0)
 }
 
-/// One of the list: rows, table's name, line, table, and a language to look for. The font has 100 glyphs.
+/// One of the list: rows, table's name, line (behind a < where it runs from right to left), table, and a language to look for. The
+/// font has 100 glyphs.
 fn try_one(line: &str, the_box: &mut TheBox) -> Result<(String, bool), String> {
     let parts: Vec<&str> = line.split("; ").collect();
     let (named, name, glyphs, table, language) = match parts[..] {
@@ -38,14 +39,15 @@ fn try_one(line: &str, the_box: &mut TheBox) -> Result<(String, bool), String> {
     let file = wrap(&[(tag(name)?, bytes), (*b"maxp", vec![0, 1, 0, 0, 0, 100])]);
     let font = Font::open(&file, None)?;
     let tables = Tables::of(&font)?;
-    let glyphs = glyphs_of(&glyphs.split_whitespace().collect::<Vec<_>>())?;
-    let mut is_same = by_crate(&tables, &glyphs, false)? == by_box(&tables, &glyphs, false, the_box)?;
+    let (told, right_to_left) = (glyphs, glyphs.starts_with('<'));
+    let glyphs = glyphs_of(&glyphs.trim_start_matches('<').split_whitespace().collect::<Vec<_>>())?;
+    let mut is_same = by_crate(&tables, &glyphs, right_to_left)? == by_box(&tables, &glyphs, right_to_left, the_box)?;
     if let Some(language) = language {
         let [theirs, ours] = tables.language(language, the_box)?;
         is_same &= theirs == ours;
     }
-    let met: BTreeSet<u32> = tables.met(&glyphs, false, language).into_keys().collect();
+    let met: BTreeSet<u32> = tables.met(&glyphs, right_to_left, language).into_keys().collect();
     let same = if is_same { "the same" } else { "NOT the same" };
-    let said = format!("{}, line {:?}: {}; rows {:?}, met {:?}", name, glyphs, same, named, met);
+    let said = format!("{}, line {}: {}; rows {:?}, met {:?}", name, told, same, named, met);
     Ok((said, is_same && met == named))
 }

@@ -1,7 +1,6 @@
 //! What is asked for, by the words of the command.
 
 use crate::font::characters::{runs_to_left, unicodes};
-use crate::reference::line::LARGEST_ROOM;
 
 /// As the script has it, which puts in the box's command.
 pub const USAGE: &str = "usage: font [OPTION..] FILE GLYPH.. | FILE --text TEXT | FILE -u UNICODES
@@ -65,7 +64,7 @@ impl Wish {
         wish.file = file.to_string();
         wish.typed = match text {
             Some(_) if !glyphs.is_empty() => return Err(USAGE.into()),
-            Some(characters) => Typed::Characters(characters),
+            Some(characters) => check_length(characters.len()).map(|()| Typed::Characters(characters))?,
             None => Typed::Glyphs(glyphs_of(glyphs)?),
         };
         Ok(wish)
@@ -93,13 +92,25 @@ impl Wish {
     }
 }
 
-/// A line of glyphs by their numbers.
+/// The longest line that is taken, which is longer than the largest room.
+const LONGEST: usize = 10_000;
+
+/// A line of glyphs by their numbers; one that comes more than once in a row can be written with its count, as 5*7.
 pub fn glyphs_of(words: &[&str]) -> Result<Vec<u16>, String> {
-    let glyphs: Vec<u16> = words.iter().map(|word| glyph(word)).collect::<Result<_, _>>()?;
-    if glyphs.len() > LARGEST_ROOM {
-        return Err(format!("a line has at most {} glyphs", LARGEST_ROOM));
+    let mut glyphs = Vec::new();
+    for word in words {
+        let (number, count) = word.split_once('*').unwrap_or((word, "1"));
+        let count: usize = count.parse().map_err(|_| format!("{} is no count of glyphs", count))?;
+        glyphs.resize(glyphs.len() + count.min(LONGEST + 1), glyph(number)?);
     }
-    Ok(glyphs)
+    check_length(glyphs.len()).map(|()| glyphs)
+}
+
+fn check_length(length: usize) -> Result<(), String> {
+    if length > LONGEST {
+        return Err(format!("a line has at most {} glyphs", LONGEST));
+    }
+    Ok(())
 }
 
 fn glyph(word: &str) -> Result<u16, String> {
