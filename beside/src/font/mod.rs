@@ -10,6 +10,7 @@ mod met_kerning;
 mod met_language;
 mod met_morx;
 mod names;
+mod published;
 pub(crate) mod sfnt;
 mod shaping;
 mod show;
@@ -19,6 +20,7 @@ mod wish;
 use crate::font::characters::Characters;
 use crate::font::hb_shape::HbShape;
 use crate::font::met::{rows, Rows};
+use crate::font::published::try_published;
 use crate::font::sfnt::{wrap, Font};
 use crate::font::shaping::{Shaped, Tables};
 use crate::font::show::{as_hb_shape, more, print, Column, Look};
@@ -37,6 +39,7 @@ pub fn main() -> ExitCode {
     let done = match words.split_first() {
         Some((mode, words)) if mode == "shape" => shape(words),
         Some((mode, words)) if mode == "try" => try_all(words),
+        Some((mode, words)) if mode == "publish" => publish(words),
         Some((mode, words)) if mode == "wrap" => wrap_files(words),
         _ => Err(USAGE.into()),
     };
@@ -98,7 +101,7 @@ fn told_of_harfbuzz(places: &[usize], rows: &Rows) -> String {
         Some(first) => first,
         None => return "HarfBuzz says the same".into(),
     };
-    let rows: Vec<String> = rows.keys().map(u32::to_string).collect();
+    let rows = explaining(rows);
     let why =
         if rows.is_empty() { "NO row that was met tells why".into() } else { format!("see row {}", rows.join(", ")) };
     format!("HarfBuzz says otherwise at place {}{}: {}", first, more(places.len() - 1), why)
@@ -146,8 +149,7 @@ fn show(
     the_box: &mut TheBox,
     hb_shape: Option<&HbShape>,
 ) -> Result<(bool, Option<Vec<usize>>), String> {
-    let crates = by_crate(tables, glyphs, right_to_left)?;
-    let boxes = by_box(tables, glyphs, right_to_left, the_box)?;
+    let [crates, boxes] = both(tables, glyphs, right_to_left, the_box)?;
     let harfbuzz = if hb_shape.is_some() { " | HarfBuzz" } else { "" };
     println!("from {}, crate | box{}", if right_to_left { "right to left" } else { "left to right" }, harfbuzz);
     let mut columns = vec![Column::of(&crates, look), Column::of(&boxes, look)];
@@ -167,12 +169,16 @@ fn show(
     Ok((crates == boxes, parts))
 }
 
-fn by_crate(tables: &Tables, glyphs: &[u16], right_to_left: bool) -> Result<Shaped, String> {
-    tables.by_crate(glyphs, right_to_left).map_err(|fault| fault.describe().into())
+/// A line by the crate and by the box.
+fn both(tables: &Tables, glyphs: &[u16], right_to_left: bool, the_box: &mut TheBox) -> Result<[Shaped; 2], String> {
+    let crates = tables.by_crate(glyphs, right_to_left).map_err(|fault| fault.describe().to_string())?;
+    let boxes = tables.by_box(glyphs, right_to_left, the_box).map_err(|error| format!("the box: {}", error))?;
+    Ok([crates, boxes])
 }
 
-fn by_box(tables: &Tables, glyphs: &[u16], right_to_left: bool, the_box: &mut TheBox) -> Result<Shaped, String> {
-    tables.by_box(glyphs, right_to_left, the_box).map_err(|error| format!("the box: {}", error))
+/// The rows that were met by which HarfBuzz can say otherwise.
+fn explaining(met: &Rows) -> Vec<String> {
+    met.keys().map(u32::to_string).collect()
 }
 
 fn show_rows(met: &Rows, looked_at: &BTreeSet<u32>) {
@@ -185,6 +191,12 @@ fn show_rows(met: &Rows, looked_at: &BTreeSet<u32>) {
     let others = rows().into_iter().filter(|row| !looked_at.contains(&row.0));
     let others: Vec<String> = others.map(|row| row.0.to_string()).collect();
     println!("rows not looked at: {}", others.join(" "));
+}
+
+/// Shapes the lines that HarfBuzz has published, in a folder with its tests.
+fn publish(words: &[String]) -> Result<bool, String> {
+    let (folder, command) = words.split_first().ok_or(USAGE)?;
+    try_published(folder, &mut start(command)?)
 }
 
 fn tag(name: &str) -> Result<[u8; 4], String> {

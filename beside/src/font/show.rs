@@ -26,15 +26,34 @@ impl<'a> Look<'a> {
     pub fn called(&self, glyph: u16) -> String {
         match glyph {
             DELETED => "(deleted)".into(),
-            _ if !self.names.are_there() => glyph.to_string(),
+            _ if !self.has_names() => glyph.to_string(),
             _ => format!("{} ({})", glyph, self.names.name(glyph)),
         }
+    }
+
+    /// Whether the font has names.
+    pub fn has_names(&self) -> bool {
+        self.names.are_there()
+    }
+
+    /// A glyph's name, where the font has names.
+    pub fn plain_name(&self, glyph: u16) -> String {
+        if self.has_names() {
+            self.names.name(glyph)
+        } else {
+            String::new()
+        }
+    }
+
+    /// A glyph's width, where the font tells it.
+    pub fn width(&self, glyph: u16) -> Option<i64> {
+        width(self.font, glyph)
     }
 
     /// A glyph's number and name as a column has them.
     pub fn in_column(&self, glyph: u16) -> String {
         match glyph {
-            _ if !self.names.are_there() => format!("{:>6}", glyph),
+            _ if !self.has_names() => format!("{:>6}", glyph),
             DELETED => format!("{:>6} {:<12}", glyph, "(deleted)"),
             _ => format!("{:>6} {:<12}", glyph, self.names.name(glyph)),
         }
@@ -42,7 +61,7 @@ impl<'a> Look<'a> {
 
     /// What stands above these.
     pub fn above(&self) -> String {
-        if self.names.are_there() {
+        if self.has_names() {
             format!("{:>6} {:<12}", "glyph", "name")
         } else {
             format!("{:>6}", "glyph")
@@ -113,7 +132,7 @@ pub fn as_hb_shape(shaped: &Shaped, look: &Look, right_to_left: bool) -> String 
     for place in (0..shaped.line.length()).filter(|place| shaped.line.glyphs[*place] != DELETED) {
         let glyph = shaped.line.glyphs[place];
         let adjusted = |width: i64| width + along.map_or(0, |along| along[place]);
-        let width = width(look.font, glyph).map_or(String::new(), |width| format!("+{}", adjusted(width)));
+        let width = look.width(glyph).map_or(String::new(), |width| format!("+{}", adjusted(width)));
         glyphs.push(format!("{}={}{}", look.names.name(glyph), firsts[place], width));
     }
     if right_to_left {

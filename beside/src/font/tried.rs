@@ -3,7 +3,7 @@
 use crate::font::sfnt::{wrap, Font};
 use crate::font::shaping::Tables;
 use crate::font::wish::{glyphs_of, USAGE};
-use crate::font::{by_box, by_crate, start, tag};
+use crate::font::{both, start, tag};
 use crate::wire::hex;
 use crate::wire::pipe::TheBox;
 use std::collections::BTreeSet;
@@ -41,7 +41,8 @@ fn try_one(line: &str, the_box: &mut TheBox) -> Result<(String, bool), String> {
     let tables = Tables::of(&font)?;
     let (told, right_to_left) = (glyphs, glyphs.starts_with('<'));
     let glyphs = glyphs_of(&glyphs.trim_start_matches('<').split_whitespace().collect::<Vec<_>>())?;
-    let mut is_same = by_crate(&tables, &glyphs, right_to_left)? == by_box(&tables, &glyphs, right_to_left, the_box)?;
+    let [crates, boxes] = both(&tables, &glyphs, right_to_left, the_box)?;
+    let mut is_same = crates == boxes;
     if let Some(language) = language {
         let [theirs, ours] = tables.language(language, the_box)?;
         is_same &= theirs == ours;

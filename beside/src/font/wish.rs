@@ -5,7 +5,7 @@ use crate::font::characters::{runs_to_left, unicodes};
 /// As the script has it, which puts in the box's command.
 pub const USAGE: &str = "usage: font [OPTION..] FILE GLYPH.. | FILE --text TEXT | FILE -u UNICODES
        font --wrap FONT NAME=FILE..
-       font --test
+       font --test [tried | published]
 options: --font N, --right-to-left, --both-ways, --language NAME, --trace, --whole";
 
 /// A font's file, a line, and what to do with them.
