@@ -4,6 +4,7 @@
 mod characters;
 mod hb_shape;
 mod history;
+mod inventory;
 mod kerning_heads;
 mod met;
 mod met_kerning;
@@ -19,6 +20,7 @@ mod wish;
 
 use crate::font::characters::Characters;
 use crate::font::hb_shape::HbShape;
+use crate::font::inventory::{list, Inventory};
 use crate::font::met::{rows, Rows};
 use crate::font::published::try_published;
 use crate::font::sfnt::{wrap, Font};
@@ -67,6 +69,9 @@ fn shape(words: &[String]) -> Result<bool, String> {
     let languages =
         wish.language.as_ref().map(|name| tables.language(name, &mut the_box)).transpose().map_err(in_file)?;
     println!("{}: {}", wish.file, tables.describe());
+    if wish.surveys {
+        return list(&font, &tables, &mut the_box).map(show_inventory);
+    }
     let look = Look::new(&font, wish.is_whole);
     let hb_shape = HbShape::find();
     if hb_shape.is_none() {
@@ -105,6 +110,14 @@ fn told_of_harfbuzz(places: &[usize], rows: &Rows) -> String {
     let why =
         if rows.is_empty() { "NO row that was met tells why".into() } else { format!("see row {}", rows.join(", ")) };
     format!("HarfBuzz says otherwise at place {}{}: {}", first, more(places.len() - 1), why)
+}
+
+/// Shows what a font's tables hold; whether nothing is out of order.
+fn show_inventory(Inventory { lines, faults }: Inventory) -> bool {
+    lines.iter().for_each(|line| println!("{}", line));
+    println!("{}", if faults.is_empty() { "nothing is out of order" } else { "out of order:" });
+    faults.iter().for_each(|fault| println!("  {}", fault));
+    faults.is_empty()
 }
 
 /// The glyphs of the line that is typed, each one of the font's; glyph 0, and a word on it, where a character has none.

@@ -33,6 +33,11 @@ impl<'a> Font<'a> {
         Some(&self.file[*offset..offset + length])
     }
 
+    /// The names and sizes of its tables.
+    pub fn sizes(&self) -> impl Iterator<Item = (String, usize)> + '_ {
+        self.tables.iter().map(|(name, _, size)| (String::from_utf8_lossy(name).into_owned(), *size))
+    }
+
     /// How many glyphs it has, where its table maxp says so.
     pub fn glyphs(&self) -> Option<u16> {
         word(self.table(b"maxp")?, 4)

@@ -66,13 +66,21 @@ impl Tables {
         Ok(Tables { glyphs: font.glyphs(), morx, kerx, kern, ltag })
     }
 
+    fn all(&self) -> [(&'static str, &Option<Vec<u8>>); 4] {
+        [("morx", &self.morx), ("kerx", &self.kerx), ("kern", &self.kern), ("ltag", &self.ltag)]
+    }
+
+    /// Those that are there, with their names, as they are lent.
+    pub fn lent(&self) -> impl Iterator<Item = (&'static str, &Vec<u8>)> {
+        self.all().into_iter().filter_map(|(name, table)| Some((name, table.as_ref()?)))
+    }
+
     /// Which there are.
     pub fn describe(&self) -> String {
-        let tables = [("morx", &self.morx), ("kerx", &self.kerx), ("kern", &self.kern), ("ltag", &self.ltag)];
         let size = |table: &Option<Vec<u8>>| {
             table.as_ref().map_or("none".into(), |table| format!("{} bytes", table.len() - ALONE_AT))
         };
-        let sizes: Vec<String> = tables.iter().map(|(name, table)| format!("{} {}", name, size(table))).collect();
+        let sizes: Vec<String> = self.all().iter().map(|(name, table)| format!("{} {}", name, size(table))).collect();
         let glyphs = self.glyphs.map_or("no glyph count".into(), |count| format!("{} glyphs", count));
         format!("{}; {}", glyphs, sizes.join(", "))
     }

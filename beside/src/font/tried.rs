@@ -1,5 +1,6 @@
 //! The tables of beside/tried, each with a line and the rows of docs/DIFFERENCES.md that it meets.
 
+use crate::font::inventory::list;
 use crate::font::sfnt::{wrap, Font};
 use crate::font::shaping::Tables;
 use crate::font::wish::{glyphs_of, USAGE};
@@ -48,7 +49,14 @@ fn try_one(line: &str, the_box: &mut TheBox) -> Result<(String, bool), String> {
         is_same &= theirs == ours;
     }
     let met: BTreeSet<u32> = tables.met(&glyphs, right_to_left, language).into_keys().collect();
+    let faults = list(&font, &tables, the_box)?.faults;
+    let is_named = |row: &u32| faults.iter().any(|fault| fault.ends_with(&format!("(row {})", row)));
+    let is_surveyed = named.iter().filter(|row| SURVEYED.contains(row)).all(is_named);
     let same = if is_same { "the same" } else { "NOT the same" };
-    let said = format!("{}, line {}: {}; rows {:?}, met {:?}", name, told, same, named, met);
-    Ok((said, is_same && met == named))
+    let surveyed = if is_surveyed { "" } else { "; NOT named by the survey" };
+    let said = format!("{}, line {}: {}; rows {:?}, met {:?}{}", name, told, same, named, met, surveyed);
+    Ok((said, is_same && met == named && is_surveyed))
 }
+
+/// The rows on tables that are out of order, which the survey has to name.
+const SURVEYED: [u32; 14] = [1, 2, 3, 5, 6, 7, 8, 9, 11, 12, 24, 44, 47, 48];

@@ -4,6 +4,7 @@ use crate::font::characters::{runs_to_left, unicodes};
 
 /// As the script has it, which puts in the box's command.
 pub const USAGE: &str = "usage: font [OPTION..] FILE GLYPH.. | FILE --text TEXT | FILE -u UNICODES
+       font [--font N] FILE --survey
        font --wrap FONT NAME=FILE..
        font --test [tried | published]
 options: --font N, --right-to-left, --both-ways, --language NAME, --trace, --whole";
@@ -19,6 +20,8 @@ pub struct Wish {
     pub typed: Typed,
     /// Whether what each subtable did is shown.
     pub traces: bool,
+    /// Whether its tables are listed instead.
+    pub surveys: bool,
     /// Whether long lines are shown to their end.
     pub is_whole: bool,
 }
@@ -75,6 +78,7 @@ impl Wish {
         match option {
             "--right-to-left" => self.told_ways = Some(vec![true]),
             "--both-ways" => self.told_ways = Some(vec![false, true]),
+            "--survey" => self.surveys = true,
             "--trace" => self.traces = true,
             "--whole" => self.is_whole = true,
             _ => return false,
