@@ -36,9 +36,9 @@ as_root() {
     if [ "$(id -u)" = 0 ]; then "$@"; else sudo -n "$@"; fi
 }
 
-install_rustc() {
+install_package() { # NAME
     export DEBIAN_FRONTEND=noninteractive
-    as_root apt-get install -y rustc || { as_root apt-get update && as_root apt-get install -y rustc; }
+    as_root apt-get install -y "$1" || { as_root apt-get update && as_root apt-get install -y "$1"; }
 }
 
 is_new_enough() { # RUSTC
@@ -58,7 +58,7 @@ find_rustc() {
     choose_rustc && return
     [ -n "${BESIDE_INSTALL:-}" ] || give_up 77 "there is no rustc 1.63 or newer, so nothing was done; BESIDE_INSTALL=1 lets this script install it"
     echo "installing rustc" >&2
-    install_rustc >"$built/log" 2>&1 || true
+    install_package rustc >"$built/log" 2>&1 || true
     choose_rustc || give_up 77 "there is no rustc 1.63 or newer and none could be installed, so nothing was done"
 }
 

@@ -44,8 +44,9 @@ impl HbShape {
         let mut command = Command::new("hb-shape");
         command.args(words).args(way).arg(format!("--unicodes={}", characters.join(",")));
         let said = run(command, &font).map_err(|error| format!("hb-shape: {}", error))?;
-        let read = said.trim().strip_prefix('[').and_then(|said| said.strip_suffix(']'));
-        let places: Option<Vec<Place>> = read.and_then(|read| read.split('|').map(Place::of).collect());
+        // Of a line whose glyphs are all deleted it says nothing.
+        let read = said.trim().trim_start_matches('[').trim_end_matches(']');
+        let places: Option<Vec<Place>> = read.split('|').filter(|place| !place.is_empty()).map(Place::of).collect();
         let mut places = places.ok_or_else(|| format!("hb-shape said: {}", said))?;
         if right_to_left {
             places.reverse();

@@ -147,14 +147,3 @@ impl Entry {
         self.flags & STAY != 0
     }
 }
-
-const DIFFERENCES: &str = include_str!("../../../docs/DIFFERENCES.md");
-
-/// The rows of docs/DIFFERENCES.md: their numbers, and what they say of the crate.
-pub fn rows() -> Vec<(u32, &'static str)> {
-    let row = |line: &'static str| {
-        let mut cells = line.strip_prefix("| ")?.split(" | ");
-        Some((cells.next()?.parse().ok()?, cells.next()?))
-    };
-    DIFFERENCES.lines().filter_map(row).collect()
-}

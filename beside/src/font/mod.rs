@@ -12,6 +12,7 @@ mod met_language;
 mod met_morx;
 mod names;
 mod published;
+mod rows;
 pub(crate) mod sfnt;
 mod shaping;
 mod show;
@@ -21,12 +22,13 @@ mod wish;
 use crate::font::characters::Characters;
 use crate::font::hb_shape::HbShape;
 use crate::font::inventory::{list, Inventory};
-use crate::font::met::{rows, Rows};
+use crate::font::met::Rows;
 use crate::font::published::try_published;
+use crate::font::rows::{rows, Row};
 use crate::font::sfnt::{wrap, Font};
 use crate::font::shaping::{Shaped, Tables};
 use crate::font::show::{as_hb_shape, more, print, Column, Look};
-use crate::font::tried::try_all;
+use crate::font::tried::{ask_harfbuzz, try_all};
 use crate::font::wish::{Typed, Wish, USAGE};
 use crate::reference::oracle;
 use crate::wire::hex;
@@ -42,6 +44,7 @@ pub fn main() -> ExitCode {
         Some((mode, words)) if mode == "shape" => shape(words),
         Some((mode, words)) if mode == "try" => try_all(words),
         Some((mode, words)) if mode == "publish" => publish(words),
+        Some((mode, words)) if mode == "harfbuzz" => ask_harfbuzz(words),
         Some((mode, words)) if mode == "wrap" => wrap_files(words),
         _ => Err(USAGE.into()),
     };
@@ -191,18 +194,22 @@ fn both(tables: &Tables, glyphs: &[u16], right_to_left: bool, the_box: &mut TheB
 
 /// The rows that were met by which HarfBuzz can say otherwise.
 fn explaining(met: &Rows) -> Vec<String> {
-    met.keys().map(u32::to_string).collect()
+    rows()
+        .into_iter()
+        .filter(|row| row.parts() && met.contains_key(&row.number))
+        .map(|row| row.number.to_string())
+        .collect()
 }
 
 fn show_rows(met: &Rows, looked_at: &BTreeSet<u32>) {
     println!("rows of docs/DIFFERENCES.md that the line met:{}", if met.is_empty() { " none" } else { "" });
-    for (number, what) in rows() {
+    for Row { number, what, .. } in rows() {
         if let Some([first, others @ ..]) = met.get(&number).map(Vec::as_slice) {
             println!("  {}: {} ({}{})", number, what, first, more(others.len()));
         }
     }
-    let others = rows().into_iter().filter(|row| !looked_at.contains(&row.0));
-    let others: Vec<String> = others.map(|row| row.0.to_string()).collect();
+    let others = rows().into_iter().filter(|row| !looked_at.contains(&row.number));
+    let others: Vec<String> = others.map(|row| row.number.to_string()).collect();
     println!("rows not looked at: {}", others.join(" "));
 }
 

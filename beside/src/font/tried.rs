@@ -1,62 +1,183 @@
 //! The tables of beside/tried, each with a line and the rows of docs/DIFFERENCES.md that it meets.
 
+use crate::font::hb_shape::{HbShape, Reading};
 use crate::font::inventory::list;
+use crate::font::rows::{rows, Row, NOT_RUN};
 use crate::font::sfnt::{wrap, Font};
-use crate::font::shaping::Tables;
+use crate::font::shaping::{Shaped, Tables, ANSWERS};
 use crate::font::wish::{glyphs_of, USAGE};
 use crate::font::{both, start, tag};
+use crate::reference::line::DELETED;
 use crate::wire::hex;
 use crate::wire::pipe::TheBox;
-use std::collections::BTreeSet;
+use std::collections::{BTreeMap, BTreeSet};
 
-/// Wraps each table of a list into a font and shapes its line: both sides have to say the same, and the rows that are
-/// met have to be those that the list names.
-pub fn try_all(words: &[String]) -> Result<bool, String> {
-    let (list, command) = words.split_first().ok_or(USAGE)?;
-    let list = std::fs::read_to_string(list).map_err(|error| format!("{}: {}", list, error))?;
-    let mut the_box = start(command)?;
-    let mut failed = 0;
-    let tried = list.lines().filter(|line| !line.is_empty() && !line.starts_with('#'));
-    for line in tried.clone() {
-        let (said, is_right) = try_one(line, &mut the_box)?;
-        println!("{}", said);
-        failed += usize::from(!is_right);
-    }
-    println!("{} tables, {} failed", tried.count(), failed);
-    Ok(failed == 0)
+/// One of the list: the rows that are named, a font of 100 glyphs with the table, the line, and the language to look for.
+struct Tried<'a> {
+    named: BTreeSet<u32>,
+    name: &'a str,
+    told: &'a str,
+    file: Vec<u8>,
+    glyphs: Vec<u16>,
+    right_to_left: bool,
+    language: Option<&'a str>,
 }
 
-/// One of the list: rows, table's name, line (behind a < where it runs from right to left), table, and a language to look for. The
-/// font has 100 glyphs.
-fn try_one(line: &str, the_box: &mut TheBox) -> Result<(String, bool), String> {
-    let parts: Vec<&str> = line.split("; ").collect();
-    let (named, name, glyphs, table, language) = match parts[..] {
-        [named, name, glyphs, table] => (named, name, glyphs, table, None),
-        [named, name, glyphs, table, language] => (named, name, glyphs, table, Some(language.trim_matches('"'))),
-        _ => return Err(format!("no table to try: {}", line)),
-    };
-    let named: BTreeSet<u32> = named.split(' ').filter_map(|row| row.parse().ok()).collect();
-    let bytes = hex::parse(table).ok_or_else(|| format!("no hex: {}", table))?;
-    let file = wrap(&[(tag(name)?, bytes), (*b"maxp", vec![0, 1, 0, 0, 0, 100])]);
-    let font = Font::open(&file, None)?;
-    let tables = Tables::of(&font)?;
-    let (told, right_to_left) = (glyphs, glyphs.starts_with('<'));
-    let glyphs = glyphs_of(&glyphs.trim_start_matches('<').split_whitespace().collect::<Vec<_>>())?;
-    let [crates, boxes] = both(&tables, &glyphs, right_to_left, the_box)?;
-    let mut is_same = crates == boxes;
-    if let Some(language) = language {
-        let [theirs, ours] = tables.language(language, the_box)?;
-        is_same &= theirs == ours;
+impl<'a> Tried<'a> {
+    /// Those of a list.
+    fn all(list: &'a str) -> impl Iterator<Item = Result<Tried<'a>, String>> + 'a {
+        list.lines().filter(|line| !line.is_empty() && !line.starts_with('#')).map(Tried::of)
     }
-    let met: BTreeSet<u32> = tables.met(&glyphs, right_to_left, language).into_keys().collect();
-    let faults = list(&font, &tables, the_box)?.faults;
-    let is_named = |row: &u32| faults.iter().any(|fault| fault.ends_with(&format!("(row {})", row)));
-    let is_surveyed = named.iter().filter(|row| SURVEYED.contains(row)).all(is_named);
-    let same = if is_same { "the same" } else { "NOT the same" };
-    let surveyed = if is_surveyed { "" } else { "; NOT named by the survey" };
-    let said = format!("{}, line {}: {}; rows {:?}, met {:?}{}", name, told, same, named, met, surveyed);
-    Ok((said, is_same && met == named && is_surveyed))
+
+    fn of(line: &'a str) -> Result<Self, String> {
+        let parts: Vec<&str> = line.split("; ").collect();
+        let (named, name, told, table, language) = match parts[..] {
+            [named, name, told, table] => (named, name, told, table, None),
+            [named, name, told, table, language] => (named, name, told, table, Some(language.trim_matches('"'))),
+            _ => return Err(format!("no table to try: {}", line)),
+        };
+        let bytes = hex::parse(table).ok_or_else(|| format!("no hex: {}", table))?;
+        Ok(Tried {
+            named: named.split(' ').filter_map(|row| row.parse().ok()).collect(),
+            name,
+            told,
+            file: wrap(&[(tag(name)?, bytes), (*b"maxp", vec![0, 1, 0, 0, 0, 100])]),
+            glyphs: glyphs_of(&told.trim_start_matches('<').split_whitespace().collect::<Vec<_>>())?,
+            right_to_left: told.starts_with('<'),
+            language,
+        })
+    }
+
+    /// Shapes its line: both sides have to say the same, and the rows that are met have to be those that are named; of those on tables
+    /// that are out of order the survey has to name each. With it, what the line becomes.
+    fn shape(&self, the_box: &mut TheBox) -> Result<(bool, String), String> {
+        let font = Font::open(&self.file, None)?;
+        let tables = Tables::of(&font)?;
+        let [crates, boxes] = both(&tables, &self.glyphs, self.right_to_left, the_box)?;
+        let (mut is_same, mut left) = (crates == boxes, left_of(&boxes));
+        if let Some(language) = self.language {
+            let [theirs, ours] = tables.language(language, the_box)?;
+            is_same &= theirs == ours;
+            left = ours;
+        }
+        let met: BTreeSet<u32> = tables.met(&self.glyphs, self.right_to_left, self.language).into_keys().collect();
+        let faults = list(&font, &tables, the_box)?.faults;
+        let is_told = |row: &u32| faults.iter().any(|fault| fault.ends_with(&format!("(row {})", row)));
+        let is_surveyed = self.named.iter().filter(|row| SURVEYED.contains(row)).all(is_told);
+        let same = if is_same { "the same" } else { "NOT the same" };
+        let surveyed = if is_surveyed { "" } else { "; NOT named by the survey" };
+        let Tried { named, name, told, .. } = self;
+        println!("{}, line {}: {}; rows {:?}, met {:?}{}", name, told, same, named, met, surveyed);
+        Ok((is_same && met == self.named && is_surveyed, left))
+    }
+
+    /// What HarfBuzz makes of the line, where it is one of glyphs.
+    fn by_harfbuzz(&self, hb_shape: &HbShape) -> Result<String, String> {
+        let font = Font::open(&self.file, None)?;
+        let tables = Tables::of(&font)?;
+        if self.language.is_some() {
+            return Ok(NOT_RUN.into());
+        }
+        let Reading { glyphs, along } = hb_shape.shape(&tables, &self.glyphs, self.right_to_left)?;
+        Ok(match along {
+            Some(along) if tables.kernings().next().is_some() => joined(&along),
+            _ => joined(&glyphs),
+        })
+    }
 }
 
 /// The rows on tables that are out of order, which the survey has to name.
 const SURVEYED: [u32; 14] = [1, 2, 3, 5, 6, 7, 8, 9, 11, 12, 24, 44, 47, 48];
+
+/// The glyphs of a line, or its adjustments where it was kerned; and the answer where it is not DONE.
+fn left_of(shaped: &Shaped) -> String {
+    let length = shaped.line.length();
+    let left = match shaped.along.first() {
+        Some((_, along)) => joined(&along[..length]),
+        None => joined(&shaped.line.glyphs[..length]).replace(&DELETED.to_string(), "FFFF"),
+    };
+    match shaped.runs.iter().map(|run| run.1).find(|answer| *answer != 0) {
+        Some(answer) => format!("{}, {}", left, ANSWERS[answer as usize]),
+        None => left,
+    }
+}
+
+/// Numbers in a row, with its count where one comes many times, as 5*7; where they are too many how many they are.
+fn joined<T: PartialEq + ToString>(numbers: &[T]) -> String {
+    const MANY: usize = 4;
+    const MOST: usize = 40;
+    let (mut words, mut left) = (Vec::new(), numbers);
+    while let [first, ..] = left {
+        let count = left.iter().take_while(|number| *number == first).count();
+        let shown = if count >= MANY {
+            vec![format!("{}*{}", first.to_string(), count)]
+        } else {
+            vec![first.to_string(); count]
+        };
+        words.extend(shown);
+        left = &left[count..];
+    }
+    match words.len() {
+        0 => "nothing".into(),
+        count if count > MOST => format!("{} glyphs", numbers.len()),
+        _ => words.join(" "),
+    }
+}
+
+fn read(list: &str) -> Result<String, String> {
+    std::fs::read_to_string(list).map_err(|error| format!("{}: {}", list, error))
+}
+
+/// Shapes the lines of a list by both sides; what they become has to stand in the rows' cells.
+pub fn try_all(words: &[String]) -> Result<bool, String> {
+    let (list, command) = words.split_first().ok_or(USAGE)?;
+    let (list, mut the_box) = (read(list)?, start(command)?);
+    let (mut count, mut failed, mut lines) = (0, 0, BTreeMap::new());
+    for tried in Tried::all(&list) {
+        let tried = tried?;
+        let (is_right, left) = tried.shape(&mut the_box)?;
+        count += 1;
+        failed += usize::from(!is_right);
+        note(&mut lines, &tried, left);
+    }
+    let cells = compare("Crate", &lines, |row| row.by_crate);
+    println!("{} tables, {} failed; {} cells of docs/DIFFERENCES.md, {} otherwise", count, failed, lines.len(), cells);
+    Ok(failed == 0 && cells == 0)
+}
+
+/// Puts the same lines to hb-shape; what HarfBuzz makes of them has to stand in the rows' cells.
+pub fn ask_harfbuzz(words: &[String]) -> Result<bool, String> {
+    let hb_shape = HbShape::find().ok_or("hb-shape is not in the path (Debian has it in libharfbuzz-bin)")?;
+    let list = read(words.first().ok_or(USAGE)?)?;
+    let mut lines = BTreeMap::new();
+    for tried in Tried::all(&list) {
+        let tried = tried?;
+        note(&mut lines, &tried, tried.by_harfbuzz(&hb_shape)?);
+    }
+    for (row, left) in &lines {
+        println!("{}: {}", row, left.join("; "));
+    }
+    let cells = compare("HarfBuzz", &lines, |row| row.by_harfbuzz);
+    println!("HarfBuzz {}: {} cells of docs/DIFFERENCES.md, {} otherwise", hb_shape.version, lines.len(), cells);
+    Ok(cells == 0)
+}
+
+/// What becomes of the lines of each row.
+type Lines = BTreeMap<u32, Vec<String>>;
+
+fn note(lines: &mut Lines, tried: &Tried, left: String) {
+    tried.named.iter().for_each(|row| lines.entry(*row).or_default().push(left.clone()));
+}
+
+/// How many rows have another cell than their lines say.
+fn compare(column: &str, lines: &Lines, cell: impl Fn(&Row) -> &'static str) -> usize {
+    let mut others = 0;
+    for row in rows() {
+        let left = lines.get(&row.number).map_or(NOT_RUN.into(), |left| left.join("; "));
+        if cell(&row) != left {
+            println!("row {}, {}: it says {}, and has to say {}", row.number, column, cell(&row), left);
+            others += 1;
+        }
+    }
+    others
+}

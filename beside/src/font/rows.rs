@@ -1,0 +1,43 @@
+//! The rows of docs/DIFFERENCES.md.
+
+/// A row: its number, what it says of the crate, and what its line in beside/tried becomes by the crate and by HarfBuzz.
+pub struct Row {
+    pub number: u32,
+    pub what: &'static str,
+    pub by_crate: &'static str,
+    pub by_harfbuzz: &'static str,
+}
+
+const DIFFERENCES: &str = include_str!("../../../docs/DIFFERENCES.md");
+
+/// What stands in a cell of a row that has no line which the box, or hb-shape, could be asked for.
+pub const NOT_RUN: &str = "-";
+
+/// All rows, each by the head of its table.
+pub fn rows() -> Vec<Row> {
+    let mut head = Vec::new();
+    let mut rows = Vec::new();
+    for line in DIFFERENCES.lines() {
+        let cells: Vec<&str> = line.trim_matches('|').split('|').map(str::trim).collect();
+        match cells[0].parse() {
+            Ok(number) => {
+                let cell = |name| head.iter().position(|column| *column == name).and_then(|column| cells.get(column));
+                // What stands in brackets is said of the result.
+                let result = |name| cell(name).map_or(NOT_RUN, |cell: &&str| cell.split(" (").next().unwrap_or(cell));
+                let what = cells.get(1).copied().unwrap_or("");
+                rows.push(Row { number, what, by_crate: result("Crate"), by_harfbuzz: result("HarfBuzz") });
+            }
+            Err(_) if cells[0] == "No." => head = cells,
+            Err(_) => {}
+        }
+    }
+    rows
+}
+
+impl Row {
+    /// Whether HarfBuzz says otherwise: of glyphs it does not show those that are deleted.
+    pub fn parts(&self) -> bool {
+        let glyphs = self.by_crate.split(' ').filter(|word| *word != "FFFF").collect::<Vec<_>>().join(" ");
+        self.by_harfbuzz != NOT_RUN && self.by_harfbuzz != glyphs
+    }
+}
