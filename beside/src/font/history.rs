@@ -96,9 +96,18 @@ impl Teller<'_> {
         self.told += 1;
     }
 
-    fn end(&self) {
+    fn say(&self, words: String) {
+        if self.told < self.look.most {
+            println!("{}", words);
+        }
+    }
+
+    fn end(&self, answer: Answer<()>, heads: u32) {
         if self.told > self.look.most {
             println!(".. {} of {} subtables are not shown", self.told - self.look.most, self.told);
+        }
+        if answer == Answer::Limit {
+            println!("LIMIT: {} heads are counted, and there are more; the run ends", heads);
         }
     }
 }
@@ -106,8 +115,12 @@ impl Teller<'_> {
 /// Tells the run of a morx table by the crate; disputed where a pass that was told left another line.
 pub fn tell_morx(run: &Run, line: &mut Line, look: &Look, rows: &Rows) -> Result<(), Fault> {
     let mut teller = Teller { look, rows, told: 0 };
-    let (mut left, mut fault) = (line.clone(), None);
+    let (mut left, mut fault, mut chain) = (line.clone(), None, None);
     let show = &mut |visit: Visit, line: &Line| {
+        if chain != Some(visit.number.0) {
+            chain = Some(visit.number.0);
+            teller.say(format!("morx chain {}: default flags {:08X}", visit.number.0, visit.default_flags));
+        }
         if left != *line {
             fault = Some(Fault::Disputed);
         }
@@ -117,8 +130,8 @@ pub fn tell_morx(run: &Run, line: &mut Line, look: &Look, rows: &Rows) -> Result
             Err(other) => fault = Some(other),
         }
     };
-    run.make(line, show)?;
-    teller.end();
+    let (answer, heads) = run.make(line, show)?;
+    teller.end(answer, heads);
     fault.or((left != *line).then_some(Fault::Disputed)).map_or(Ok(()), Err)
 }
 
@@ -254,8 +267,8 @@ pub fn tell_kerning(run: &kerning_run::Run, lent: &mut Kerned, look: &Look, rows
         }
         number += 1;
     };
-    run.make_showing(lent, show)?;
-    teller.end();
+    let (answer, heads) = run.make_showing(lent, show)?;
+    teller.end(answer, heads);
     fault.map_or(Ok(()), Err)
 }
 

@@ -100,6 +100,10 @@ fn shape(words: &[String]) -> Result<bool, String> {
     }
     println!("{}", if is_same { "crate and box say the same" } else { "crate and box DIFFER" });
     show_rows(&met, &tables.looked_at(wish.language.is_some()));
+    let faults = list(&font, &tables, &mut the_box)?.faults.len();
+    if faults > 0 {
+        println!("out of order in the tables, as --survey tells: {}", faults);
+    }
     Ok(is_same)
 }
 
@@ -192,13 +196,13 @@ fn both(tables: &Tables, glyphs: &[u16], right_to_left: bool, the_box: &mut TheB
     Ok([crates, boxes])
 }
 
-/// The rows that were met by which HarfBuzz can say otherwise.
+/// The rows that were met by which HarfBuzz can say otherwise: those whose line in beside/tried it reads otherwise, if there are such.
 fn explaining(met: &Rows) -> Vec<String> {
-    rows()
-        .into_iter()
-        .filter(|row| row.parts() && met.contains_key(&row.number))
-        .map(|row| row.number.to_string())
-        .collect()
+    let rows = rows();
+    let met: Vec<&Row> = rows.iter().filter(|row| met.contains_key(&row.number)).collect();
+    let parting: Vec<&Row> = met.iter().filter(|row| row.parts()).copied().collect();
+    let found = if parting.is_empty() { met } else { parting };
+    found.iter().map(|row| row.number.to_string()).collect()
 }
 
 fn show_rows(met: &Rows, looked_at: &BTreeSet<u32>) {
