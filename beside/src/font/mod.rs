@@ -2,6 +2,7 @@
 //! docs/DIFFERENCES.md that the line met.
 
 mod characters;
+mod desk;
 mod hb_shape;
 mod history;
 mod inventory;
@@ -20,20 +21,19 @@ mod tried;
 mod wish;
 
 use crate::font::characters::Characters;
+use crate::font::desk::Desk;
 use crate::font::hb_shape::HbShape;
-use crate::font::inventory::{list, Inventory};
 use crate::font::met::Rows;
 use crate::font::published::try_published;
 use crate::font::rows::{rows, Row};
 use crate::font::sfnt::{wrap, Font};
 use crate::font::shaping::{Shaped, Tables};
-use crate::font::show::{as_hb_shape, more, print, Column, Look};
+use crate::font::show::Look;
 use crate::font::tried::{ask_harfbuzz, try_all};
 use crate::font::wish::{Typed, Wish, USAGE};
 use crate::reference::oracle;
 use crate::wire::hex;
 use crate::wire::pipe::TheBox;
-use std::collections::BTreeSet;
 use std::process::ExitCode;
 
 /// The program of `beside/font`.
@@ -58,7 +58,7 @@ pub fn main() -> ExitCode {
     }
 }
 
-/// A font's file that is open: its line by both sides, shown.
+/// Opens a font's file, and shows what is asked for.
 fn shape(words: &[String]) -> Result<bool, String> {
     let mut parts = words.splitn(2, |word| word == "--");
     let (command, words) = (parts.next().unwrap_or(&[]), parts.next().unwrap_or(&[]));
@@ -72,59 +72,12 @@ fn shape(words: &[String]) -> Result<bool, String> {
     let languages =
         wish.language.as_ref().map(|name| tables.language(name, &mut the_box)).transpose().map_err(in_file)?;
     println!("{}: {}", wish.file, tables.describe());
-    if wish.surveys {
-        return list(&font, &tables, &mut the_box).map(show_inventory);
-    }
     let look = Look::new(&font, wish.is_whole);
-    let hb_shape = HbShape::find();
-    if hb_shape.is_none() {
-        println!("HarfBuzz is not shown, as hb-shape is not in the path (Debian has it in libharfbuzz-bin)");
+    let mut desk = Desk { font: &font, tables, look, the_box, hb_shape: HbShape::find() };
+    if wish.surveys {
+        return desk.survey();
     }
-    let mut is_same = true;
-    let mut met = Rows::new();
-    for right_to_left in wish.ways() {
-        let (is_one, parts) = show(&tables, &glyphs, right_to_left, &look, &mut the_box, hb_shape.as_ref())?;
-        is_same &= is_one;
-        let rows = tables.met(&glyphs, right_to_left, wish.language.as_deref());
-        if let Some(places) = parts {
-            println!("{}", told_of_harfbuzz(&places, &rows));
-        }
-        if wish.traces {
-            tables.trace(&glyphs, right_to_left, &look, &rows)?;
-        }
-        rows.into_iter().for_each(|(row, mut spots)| met.entry(row).or_default().append(&mut spots));
-    }
-    if let Some([theirs, ours]) = languages {
-        println!("language: {} | {}", theirs, ours);
-        is_same &= theirs == ours;
-    }
-    println!("{}", if is_same { "crate and box say the same" } else { "crate and box DIFFER" });
-    show_rows(&met, &tables.looked_at(wish.language.is_some()));
-    let faults = list(&font, &tables, &mut the_box)?.faults.len();
-    if faults > 0 {
-        println!("out of order in the tables, as --survey tells: {}", faults);
-    }
-    Ok(is_same)
-}
-
-/// Where HarfBuzz says otherwise, and the rows by which that can be.
-fn told_of_harfbuzz(places: &[usize], rows: &Rows) -> String {
-    let first = match places.first() {
-        Some(first) => first,
-        None => return "HarfBuzz says the same".into(),
-    };
-    let rows = explaining(rows);
-    let why =
-        if rows.is_empty() { "NO row that was met tells why".into() } else { format!("see row {}", rows.join(", ")) };
-    format!("HarfBuzz says otherwise at place {}{}: {}", first, more(places.len() - 1), why)
-}
-
-/// Shows what a font's tables hold; whether nothing is out of order.
-fn show_inventory(Inventory { lines, faults }: Inventory) -> bool {
-    lines.iter().for_each(|line| println!("{}", line));
-    println!("{}", if faults.is_empty() { "nothing is out of order" } else { "out of order:" });
-    faults.iter().for_each(|fault| println!("  {}", fault));
-    faults.is_empty()
+    desk.shape(&wish, &glyphs, languages)
 }
 
 /// The glyphs of the line that is typed, each one of the font's; glyph 0, and a word on it, where a character has none.
@@ -160,35 +113,6 @@ fn start(command: &[String]) -> Result<TheBox, String> {
     TheBox::start(command).map_err(|error| format!("the box: {}", error))
 }
 
-/// Shows what both sides and HarfBuzz make of the line; whether it is the same by both, and where HarfBuzz says otherwise.
-fn show(
-    tables: &Tables,
-    glyphs: &[u16],
-    right_to_left: bool,
-    look: &Look,
-    the_box: &mut TheBox,
-    hb_shape: Option<&HbShape>,
-) -> Result<(bool, Option<Vec<usize>>), String> {
-    let [crates, boxes] = both(tables, glyphs, right_to_left, the_box)?;
-    let harfbuzz = if hb_shape.is_some() { " | HarfBuzz" } else { "" };
-    println!("from {}, crate | box{}", if right_to_left { "right to left" } else { "left to right" }, harfbuzz);
-    let mut columns = vec![Column::of(&crates, look), Column::of(&boxes, look)];
-    let differs = |place: &usize| columns[0].places.get(*place) != columns[1].places.get(*place);
-    let longest = columns[0].places.len().max(columns[1].places.len());
-    let mut notable = (0..longest).find(differs);
-    let mut parts = None;
-    if let Some(hb_shape) = hb_shape {
-        let reading = hb_shape.shape(tables, glyphs, right_to_left)?;
-        let (column, places) = reading.column(&boxes, look, &hb_shape.version);
-        notable = notable.or_else(|| places.first().copied());
-        columns.push(column);
-        parts = Some(places);
-    }
-    print(&columns, look.most, notable);
-    println!("in the form of hb-shape: {}", as_hb_shape(&boxes, look, right_to_left));
-    Ok((crates == boxes, parts))
-}
-
 /// A line by the crate and by the box.
 fn both(tables: &Tables, glyphs: &[u16], right_to_left: bool, the_box: &mut TheBox) -> Result<[Shaped; 2], String> {
     let crates = tables.by_crate(glyphs, right_to_left).map_err(|fault| fault.describe().to_string())?;
@@ -203,18 +127,6 @@ fn explaining(met: &Rows) -> Vec<String> {
     let parting: Vec<&Row> = met.iter().filter(|row| row.parts()).copied().collect();
     let found = if parting.is_empty() { met } else { parting };
     found.iter().map(|row| row.number.to_string()).collect()
-}
-
-fn show_rows(met: &Rows, looked_at: &BTreeSet<u32>) {
-    println!("rows of docs/DIFFERENCES.md that the line met:{}", if met.is_empty() { " none" } else { "" });
-    for Row { number, what, .. } in rows() {
-        if let Some([first, others @ ..]) = met.get(&number).map(Vec::as_slice) {
-            println!("  {}: {} ({}{})", number, what, first, more(others.len()));
-        }
-    }
-    let others = rows().into_iter().filter(|row| !looked_at.contains(&row.number));
-    let others: Vec<String> = others.map(|row| row.number.to_string()).collect();
-    println!("rows not looked at: {}", others.join(" "));
 }
 
 /// Shapes the lines that HarfBuzz has published, in a folder with its tests.

@@ -9,118 +9,131 @@ use crate::font::{both, explaining};
 use crate::reference::line::DELETED;
 use crate::wire::pipe::TheBox;
 use std::collections::BTreeSet;
-use std::path::Path;
+use std::path::{Path, PathBuf};
 
-/// The files of tests below this folder.
+/// How the names of the files begin whose lines are run.
 const TESTS: [&str; 2] = ["MORX-", "KERN-"];
 
-/// What became of the lines.
-#[derive(Default)]
-struct Count {
-    lines: usize,
+/// The folder that is run, those who read its lines, and what became of them.
+struct Published<'a> {
+    tests: PathBuf,
+    the_box: &'a mut TheBox,
+    hb_shape: Option<HbShape>,
     fonts: BTreeSet<String>,
+    lines: usize,
     /// Those of which any result is taken, and which hb-shape is not there to read.
     not_compared: usize,
     by_rows: usize,
     failed: usize,
 }
 
-impl Count {
-    fn print(&self) {
-        let Count { lines, ref fonts, not_compared, by_rows, failed } = *self;
-        let same = lines - not_compared - by_rows - failed;
-        let others = format!("{} otherwise by rows that were met, {} failed", by_rows, failed);
-        println!(
-            "{} lines that HarfBuzz has published, by {} fonts: {} as it has them, {}",
-            lines,
-            fonts.len(),
-            same,
-            others
-        );
-        if not_compared > 0 {
-            println!("{} more take any result, and hb-shape, whose own it is, is not in the path", not_compared);
-        }
-    }
-}
-
 /// Shapes the lines of a folder with HarfBuzz's tests by both sides: they have to say the same, and what HarfBuzz says, unless a row
 /// tells why not.
 pub fn try_published(folder: &str, the_box: &mut TheBox) -> Result<bool, String> {
-    let tests = Path::new(folder).join("tests");
-    let in_folder = |error| format!("{}: {}", tests.display(), error);
-    let mut files = Vec::new();
-    for entry in std::fs::read_dir(&tests).map_err(in_folder)? {
-        let name = entry.map_err(in_folder)?.file_name().to_string_lossy().into_owned();
-        if let Some(prefix) = TESTS.iter().find(|prefix| name.starts_with(*prefix)) {
-            let number: usize = name[prefix.len()..].trim_end_matches(".tests").parse().unwrap_or(0);
-            files.push((*prefix, number, name));
-        }
-    }
-    files.sort();
-    let hb_shape = HbShape::find();
-    let mut count = Count::default();
-    for (_, _, name) in files {
-        let path = tests.join(&name);
+    let (tests, hb_shape, fonts) = (Path::new(folder).join("tests"), HbShape::find(), BTreeSet::new());
+    let mut published = Published { tests, the_box, hb_shape, fonts, lines: 0, not_compared: 0, by_rows: 0, failed: 0 };
+    for name in published.files()? {
+        let path = published.tests.join(&name);
         let lines = std::fs::read_to_string(&path).map_err(|error| format!("{}: {}", path.display(), error))?;
         for line in lines.lines().filter(|line| !line.is_empty() && !line.starts_with('#')) {
-            try_line(&tests, &name, line, hb_shape.as_ref(), the_box, &mut count)?;
+            published.try_line(&name, line)?;
         }
     }
-    count.print();
-    Ok(count.failed == 0 && count.lines > 0)
+    published.print();
+    Ok(published.failed == 0 && published.lines > 0)
 }
 
-/// One line: font, options of hb-shape, characters, and the result, which is * where any is taken; what hb-shape says is taken then,
-/// if it is there.
-fn try_line(
-    tests: &Path,
-    name: &str,
-    line: &str,
-    hb_shape: Option<&HbShape>,
-    the_box: &mut TheBox,
-    count: &mut Count,
-) -> Result<(), String> {
-    let parts: Vec<&str> = line.split(';').collect();
-    let (file, text, written) = match parts[..] {
-        [file, _, text, written] => (file, unicodes(text)?, written),
-        _ => return Err(format!("{}: no line to try: {}", name, line)),
-    };
-    let bytes = std::fs::read(tests.join(file)).map_err(|error| format!("{}: {}", file, error))?;
-    let in_file = |why: String| format!("{}: {}", file, why);
-    let font = Font::open(&bytes, None).map_err(in_file)?;
-    let tables = Tables::of(&font).map_err(in_file)?;
-    let characters = Characters::of(&font).map_err(in_file)?;
-    let glyphs: Vec<u16> = text.iter().map(|character| characters.glyph(*character).unwrap_or(0)).collect();
-    let right_to_left = runs_to_left(&text);
-    let [crates, boxes] = both(&tables, &glyphs, right_to_left, the_box)?;
-    let look = Look::new(&font, false);
-    let (ours, its) = match (written, hb_shape) {
-        ("*", Some(hb_shape)) => {
-            let left = boxes.line.glyphs[..boxes.line.length()].iter().copied();
-            let ours: Vec<u16> = left.filter(|glyph| *glyph != DELETED).collect();
-            let its = hb_shape.shape(&tables, &glyphs, right_to_left)?.glyphs;
-            let [ours, its] = [ours, its].map(|glyphs| glyphs.iter().map(u16::to_string).collect::<Vec<_>>().join(" "));
-            (ours, its)
+impl Published<'_> {
+    /// The files with tests of the kinds that are run, by kind and number.
+    fn files(&self) -> Result<Vec<String>, String> {
+        let in_folder = |error| format!("{}: {}", self.tests.display(), error);
+        let mut files = Vec::new();
+        for entry in std::fs::read_dir(&self.tests).map_err(in_folder)? {
+            let name = entry.map_err(in_folder)?.file_name().to_string_lossy().into_owned();
+            if let Some(kind) = TESTS.iter().find(|kind| name.starts_with(*kind)) {
+                let number: usize = name[kind.len()..].trim_end_matches(".tests").parse().unwrap_or(0);
+                files.push((*kind, number, name));
+            }
         }
-        ("*", None) => {
-            count.not_compared += 1;
-            (String::new(), String::new())
-        }
-        _ => (placed(&boxes, &font, &look, right_to_left), without_names(written, &look)),
-    };
-    count.lines += 1;
-    count.fonts.insert(file.into());
-    let rows = explaining(&tables.met(&glyphs, right_to_left, None));
-    let typed: Vec<String> = text.iter().map(|character| format!("U+{:04X}", character)).collect();
-    if crates != boxes {
-        count.failed += 1;
-        println!("{}: {}: crate and box DIFFER", name, typed.join(","));
-    } else if ours != its {
-        let why = if rows.is_empty() { "NO row tells why".into() } else { format!("row {}", rows.join(", ")) };
-        *(if rows.is_empty() { &mut count.failed } else { &mut count.by_rows }) += 1;
-        println!("{}: {}: {}; HarfBuzz {}: {}", name, typed.join(","), brief(&ours), brief(&its), why);
+        files.sort();
+        Ok(files.into_iter().map(|file| file.2).collect())
     }
-    Ok(())
+
+    /// One line: font, options of hb-shape, characters, and the result.
+    fn try_line(&mut self, name: &str, line: &str) -> Result<(), String> {
+        let parts: Vec<&str> = line.split(';').collect();
+        let (file, text, written) = match parts[..] {
+            [file, _, text, written] => (file, unicodes(text)?, written),
+            _ => return Err(format!("{}: no line to try: {}", name, line)),
+        };
+        let bytes = std::fs::read(self.tests.join(file)).map_err(|error| format!("{}: {}", file, error))?;
+        let in_file = |why: String| format!("{}: {}", file, why);
+        let font = Font::open(&bytes, None).map_err(in_file)?;
+        let tables = Tables::of(&font).map_err(in_file)?;
+        let characters = Characters::of(&font).map_err(in_file)?;
+        let glyphs: Vec<u16> = text.iter().map(|character| characters.glyph(*character).unwrap_or(0)).collect();
+        let right_to_left = runs_to_left(&text);
+        let [crates, boxes] = both(&tables, &glyphs, right_to_left, self.the_box)?;
+        let look = Look::new(&font, false);
+        let [ours, its] = match written {
+            "*" => self.by_hb_shape(&tables, &glyphs, right_to_left, &boxes)?,
+            _ => [placed(&boxes, &font, &look, right_to_left), without_names(written, &look)],
+        };
+        self.lines += 1;
+        self.fonts.insert(file.into());
+        let typed: Vec<String> = text.iter().map(|character| format!("U+{:04X}", character)).collect();
+        let about = format!("{}: {}", name, typed.join(","));
+        if crates != boxes {
+            self.failed += 1;
+            println!("{}: crate and box DIFFER", about);
+        } else if ours != its {
+            let why = match &explaining(&tables.met(&glyphs, right_to_left, None))[..] {
+                [] => {
+                    self.failed += 1;
+                    "NO row tells why".into()
+                }
+                rows => {
+                    self.by_rows += 1;
+                    format!("row {}", rows.join(", "))
+                }
+            };
+            println!("{}: {}; HarfBuzz {}: {}", about, brief(&ours), brief(&its), why);
+        }
+        Ok(())
+    }
+
+    /// The glyphs of a line of which any result is taken, and those by hb-shape, if it is there.
+    fn by_hb_shape(
+        &mut self,
+        tables: &Tables,
+        glyphs: &[u16],
+        right_to_left: bool,
+        shaped: &Shaped,
+    ) -> Result<[String; 2], String> {
+        let its = match &self.hb_shape {
+            Some(hb_shape) => hb_shape.shape(tables, glyphs, right_to_left)?.glyphs,
+            None => {
+                self.not_compared += 1;
+                return Ok(Default::default());
+            }
+        };
+        let left = shaped.line.glyphs[..shaped.line.length()].iter().copied();
+        let ours: Vec<u16> = left.filter(|glyph| *glyph != DELETED).collect();
+        Ok([ours, its].map(|glyphs| glyphs.iter().map(u16::to_string).collect::<Vec<_>>().join(" ")))
+    }
+
+    fn print(&self) {
+        let same = self.lines - self.not_compared - self.by_rows - self.failed;
+        let others = format!("{} otherwise by rows that were met, {} failed", self.by_rows, self.failed);
+        let fonts = self.fonts.len();
+        println!(
+            "{} lines that HarfBuzz has published, by {} fonts: {} as it has them, {}",
+            self.lines, fonts, same, others
+        );
+        if self.not_compared > 0 {
+            println!("{} of them take any result, and hb-shape, which has one, is not in the path", self.not_compared);
+        }
+    }
 }
 
 /// A line that is not too long to be shown, else how many glyphs it has.

@@ -1,10 +1,12 @@
 //! The tables of beside/tried, each with a line and the rows of docs/DIFFERENCES.md that it meets.
 
+use crate::font::characters::Characters;
 use crate::font::hb_shape::{HbShape, Reading};
 use crate::font::inventory::list;
 use crate::font::rows::{rows, Row, NOT_RUN};
-use crate::font::sfnt::{wrap, Font};
+use crate::font::sfnt::{typed_characters, typed_font, wrap, Font, TYPED_WIDTH};
 use crate::font::shaping::{Shaped, Tables, ANSWERS};
+use crate::font::show::Look;
 use crate::font::wish::{glyphs_of, USAGE};
 use crate::font::{both, start, tag};
 use crate::reference::line::DELETED;
@@ -140,9 +142,28 @@ pub fn try_all(words: &[String]) -> Result<bool, String> {
         failed += usize::from(!is_right);
         note(&mut lines, &tried, left);
     }
+    failed += usize::from(!are_read());
     let cells = compare("Crate", &lines, |row| row.by_crate);
     println!("{} tables, {} failed; {} cells of docs/DIFFERENCES.md, {} otherwise", count, failed, lines.len(), cells);
     Ok(failed == 0 && cells == 0)
+}
+
+/// Whether known characters, names and widths are read, of formats that few fonts have.
+fn are_read() -> bool {
+    let post = [0, 1, 0, 0].into_iter().chain([0; 28]).collect();
+    let file = typed_font(100, vec![(*b"post", post)]);
+    let font = Font::open(&file, None);
+    let is_read = |font: &Font| {
+        let characters = Characters::of(font).ok()?;
+        let glyphs: Vec<_> =
+            typed_characters(&[5, 99]).into_iter().map(|character| characters.glyph(character)).collect();
+        let look = Look::new(font, false);
+        let is_read = glyphs == [Some(5), Some(99)] && characters.glyph(0x41).is_none();
+        Some(is_read && look.plain_name(36) == "A" && look.width(99) == Some(TYPED_WIDTH.into()))
+    };
+    let are_read = font.ok().as_ref().and_then(is_read) == Some(true);
+    println!("characters of cmap 12, names of post 1: {}", if are_read { "as known" } else { "NOT as known" });
+    are_read
 }
 
 /// Puts the same lines to hb-shape; what HarfBuzz makes of them has to stand in the rows' cells.
