@@ -34,10 +34,12 @@ use crate::font::wish::{Typed, Wish, USAGE};
 use crate::reference::oracle;
 use crate::wire::hex;
 use crate::wire::pipe::TheBox;
+use std::panic::{set_hook, take_hook};
 use std::process::ExitCode;
 
 /// The program of `beside/font`.
 pub fn main() -> ExitCode {
+    end_when_unread();
     oracle::quiet_crate();
     let words: Vec<String> = std::env::args().skip(1).collect();
     let done = match words.split_first() {
@@ -56,6 +58,18 @@ pub fn main() -> ExitCode {
             ExitCode::from(2)
         }
     }
+}
+
+/// Ends the program as others are ended whose output nobody reads any more.
+fn end_when_unread() {
+    const ENDED_BY_PIPE: i32 = 128 + 13;
+    let usual = take_hook();
+    set_hook(Box::new(move |panic| {
+        if panic.to_string().contains("failed printing to stdout") {
+            std::process::exit(ENDED_BY_PIPE);
+        }
+        usual(panic)
+    }));
 }
 
 /// Opens a font's file, and shows what is asked for.
