@@ -36,11 +36,12 @@ impl Desk<'_> {
         if self.hb_shape.is_none() {
             println!("HarfBuzz is not shown, as hb-shape is not in the path (Debian has it in libharfbuzz-bin)");
         }
+        let faults = list(self.font, &self.tables, &mut self.the_box)?.faults.len();
         let mut is_same = true;
         let mut met = Rows::new();
         for right_to_left in wish.ways() {
             let rows = self.tables.met(glyphs, right_to_left, wish.language.as_deref());
-            is_same &= self.show(glyphs, right_to_left, &rows)?;
+            is_same &= self.show(glyphs, right_to_left, &rows, faults)?;
             if wish.traces {
                 self.tables.trace(glyphs, right_to_left, &self.look, &rows)?;
             }
@@ -52,7 +53,6 @@ impl Desk<'_> {
         }
         println!("{}", if is_same { "crate and box say the same" } else { "crate and box DIFFER" });
         show_rows(&met, &self.tables.looked_at(wish.language.is_some()));
-        let faults = list(self.font, &self.tables, &mut self.the_box)?.faults.len();
         if faults > 0 {
             println!("out of order in the tables, as --survey tells: {}", faults);
         }
@@ -60,7 +60,7 @@ impl Desk<'_> {
     }
 
     /// Shows what both sides and HarfBuzz make of the line; whether it is the same by both.
-    fn show(&mut self, glyphs: &[u16], right_to_left: bool, rows: &Rows) -> Result<bool, String> {
+    fn show(&mut self, glyphs: &[u16], right_to_left: bool, rows: &Rows, faults: usize) -> Result<bool, String> {
         let Desk { tables, look, the_box, hb_shape, .. } = self;
         let [crates, boxes] = both(tables, glyphs, right_to_left, the_box)?;
         let mut columns = vec![Column::of(&crates, look), Column::of(&boxes, look)];
@@ -73,7 +73,12 @@ impl Desk<'_> {
             let (column, places) = reading.column(&boxes, look, &hb_shape.version);
             notable = notable.or_else(|| places.first().copied());
             columns.push(column);
-            told = Some(told_of_harfbuzz(&places, rows));
+            told = Some(match reading.along {
+                None if places.is_empty() => {
+                    "HarfBuzz has the same glyphs; its kerning, of several kinds, is not told".into()
+                }
+                _ => told_of_harfbuzz(&places, rows, faults),
+            });
         }
         let harfbuzz = if told.is_some() { " | HarfBuzz" } else { "" };
         println!("from {}, crate | box{}", if right_to_left { "right to left" } else { "left to right" }, harfbuzz);
@@ -84,13 +89,14 @@ impl Desk<'_> {
     }
 }
 
-/// Where HarfBuzz says otherwise, and the rows by which that can be.
-fn told_of_harfbuzz(places: &[usize], rows: &Rows) -> String {
+/// Where HarfBuzz says otherwise, and the rows by which that can be, or that there are faults in the tables.
+fn told_of_harfbuzz(places: &[usize], rows: &Rows, faults: usize) -> String {
     let first = match places.first() {
         Some(first) => first,
         None => return "HarfBuzz says the same".into(),
     };
     let why = match &explaining(rows)[..] {
+        [] if faults > 0 => "no row that was met tells why; the tables are out of order".into(),
         [] => "NO row that was met tells why".into(),
         rows => format!("see row {}", rows.join(", ")),
     };

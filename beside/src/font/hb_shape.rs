@@ -1,10 +1,10 @@
 //! HarfBuzz's reading of the tables, by its program hb-shape, where that is there.
 
-use crate::font::kerning_heads::subtables;
+use crate::font::kerning_heads::{subtables, Listed};
 use crate::font::sfnt::{typed_characters, typed_font, TYPED_WIDTH};
 use crate::font::shaping::{Shaped, Tables};
 use crate::font::show::{Column, Look};
-use crate::reference::kerning::ALONE_AT;
+use crate::reference::kerning::{Kerning, ALONE_AT};
 use crate::reference::line::DELETED;
 use std::io::Write;
 use std::process::{Command, Stdio};
@@ -51,7 +51,7 @@ impl HbShape {
         if right_to_left {
             places.reverse();
         }
-        let along = tables.kerned_by(right_to_left).map(|kerned| kerned.along(&places));
+        let along = tables.kerned_by().map(|kerned| kerned.along(&places, right_to_left));
         Ok(Reading { glyphs: places.iter().map(|place| place.glyph).collect(), along })
     }
 }
@@ -85,30 +85,27 @@ impl Place {
     }
 }
 
-/// What kind of subtables the table of kerning has that HarfBuzz takes.
+/// By which kind of subtables HarfBuzz kerns.
 enum Kerned {
     /// There is no kerning.
     Not,
     ByMachines,
-    /// By pairs, in the line's order or from its end.
-    ByPairs {
-        is_turned: bool,
-    },
+    ByPairs,
 }
 
 impl Kerned {
     /// What was added at each place: a machine moves its glyph by the number, and all behind it; a pair's number is parted between
-    /// its glyphs, and the second is moved by its part.
-    fn along(&self, places: &[Place]) -> Vec<i64> {
+    /// its glyphs, and the second is moved by its part. The second stands before the first where the text runs from right to left.
+    fn along(&self, places: &[Place], right_to_left: bool) -> Vec<i64> {
         let width = i64::from(TYPED_WIDTH);
         match self {
             Kerned::Not => vec![0; places.len()],
             Kerned::ByMachines => places.iter().map(|place| place.advance - width).collect(),
-            Kerned::ByPairs { is_turned } => {
+            Kerned::ByPairs => {
+                let second = |place: usize| if right_to_left { place.checked_sub(1) } else { Some(place + 1) };
                 let moved =
-                    |place: Option<usize>| place.and_then(|place| places.get(place)).map_or(0, |next| next.offset);
-                let second = |place: usize| if *is_turned { place.checked_sub(1) } else { Some(place + 1) };
-                let number = |(place, at): (usize, &Place)| at.advance - width - at.offset + moved(second(place));
+                    |place: usize| second(place).and_then(|next| places.get(next)).map_or(0, |next| next.offset);
+                let number = |(place, at): (usize, &Place)| at.advance - width - at.offset + moved(place);
                 places.iter().enumerate().map(number).collect()
             }
         }
@@ -116,28 +113,32 @@ impl Kerned {
 }
 
 impl Tables {
-    /// How HarfBuzz kerns by these tables: by kerx, or by kern where there is no kerx. None where the numbers of pairs and machines,
-    /// or of both orders, can't be told apart.
-    fn kerned_by(&self, right_to_left: bool) -> Option<Kerned> {
+    /// How HarfBuzz kerns by these tables: by kerx, or by kern where there is no kerx. None where it does more than one kind, whose
+    /// numbers can't be told apart.
+    fn kerned_by(&self) -> Option<Kerned> {
         let (kerning, table) = match self.kernings().next() {
             Some(kerned) => kerned,
             None => return Some(Kerned::Not),
         };
-        let mut ways =
-            subtables(kerning, table, ALONE_AT).filter(|subtable| !subtable.is_passed_over).map(|subtable| {
-                let is_turned = subtable.reverses != right_to_left;
-                match subtable.format {
-                    1 => (true, false),
-                    _ => (false, is_turned),
-                }
-            });
-        let first = ways.next();
-        let kerned = match first {
-            None => Kerned::Not,
-            Some((true, _)) => Kerned::ByMachines,
-            Some((false, is_turned)) => Kerned::ByPairs { is_turned },
-        };
-        ways.all(|way| Some(way) == first).then_some(kerned)
+        let formats: Vec<u32> = subtables(kerning, table, ALONE_AT)
+            .filter(|subtable| is_taken(kerning, subtable))
+            .map(|taken| taken.format)
+            .collect();
+        match formats[..] {
+            [] => Some(Kerned::Not),
+            _ if formats.iter().all(|format| *format == 1) => Some(Kerned::ByMachines),
+            _ if formats.iter().all(|format| matches!(format, 0 | 2 | 3 | 6)) => Some(Kerned::ByPairs),
+            _ => None,
+        }
+    }
+}
+
+/// Whether HarfBuzz kerns along a line by a subtable.
+fn is_taken(kerning: Kerning, subtable: &Listed) -> bool {
+    match kerning {
+        Kerning::Kern if subtable.version == 0 => !subtable.is_passed_over,
+        Kerning::Kern => subtable.coverage & 0xE000 == 0,
+        Kerning::Kerx => subtable.coverage & 0xC000_0000 == 0 && (subtable.format == 1 || !subtable.reverses),
     }
 }
 

@@ -45,6 +45,7 @@ impl Watched<'_> {
         for (number, subtable) in subtables(self.kerning, met.table, self.start).enumerate() {
             met.spot = Spot { subtable: met::Subtable::of_list(self.kerning.name(), number as u32), place: None };
             met.row(48, met.table.len() < subtable.body);
+            met.row(53, self.kerning == Kerning::Kerx && subtable.coverage & 0xE000_0000 == 0x2000_0000);
             if !subtable.is_passed_over {
                 self.watch_subtable(met, &subtable);
             }
@@ -228,5 +229,5 @@ fn is_class_array_empty(table: &[u8], body: usize) -> Option<bool> {
 }
 
 /// The rows that are looked at in these runs, with those of their lookups and state tables.
-pub const ROWS: [u32; 29] =
-    [1, 2, 3, 4, 5, 6, 7, 8, 9, 15, 25, 26, 27, 28, 29, 30, 31, 32, 33, 34, 35, 36, 37, 43, 44, 47, 48, 50, 52];
+pub const ROWS: [u32; 30] =
+    [1, 2, 3, 4, 5, 6, 7, 8, 9, 15, 25, 26, 27, 28, 29, 30, 31, 32, 33, 34, 35, 36, 37, 43, 44, 47, 48, 50, 52, 53];

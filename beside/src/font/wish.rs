@@ -6,7 +6,7 @@ use crate::font::characters::{runs_to_left, unicodes};
 pub const USAGE: &str = "usage: font [OPTION..] FILE GLYPH.. | FILE --text TEXT | FILE -u UNICODES
        font [--font N] FILE --survey
        font --wrap FONT NAME=FILE..
-       font --test [tried | published]
+       font --test [tried | published] | --harfbuzz
 options: --font N, --right-to-left, --both-ways, --language NAME, --trace, --whole";
 
 /// A font's file, a line, and what to do with them.
