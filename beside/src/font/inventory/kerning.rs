@@ -1,6 +1,6 @@
 //! What a kern or kerx table holds.
 
-use super::{Reached, Surveyor, NONE};
+use super::{Layout, Reached, Surveyor, NONE};
 use crate::font::kerning_heads::{self, Listed};
 use crate::font::sfnt::{long, word};
 use crate::reference::kerning::{Kerning, ALONE_AT};
@@ -117,27 +117,34 @@ impl Surveyor<'_> {
             let place = glyph.checked_sub(first).filter(|place| *place < count)?;
             surveyor.table.get(array + 4 + usize::from(place)).map(|class| u16::from(*class))
         })?;
-        let width = usize::from(classes);
-        let row = body + usize::from(rows);
-        let cell = |table: &[u8], state: u16, class: usize| {
-            let at = row + usize::from(state) * width + class;
-            (at, table.get(at).map(|number| u16::from(*number)))
-        };
-        self.walk(width, [1, 4], cell, |surveyor, number| {
-            let at = body + usize::from(entries) + 4 * usize::from(number);
+        let (rows_at, entries_at) = (body + usize::from(rows), body + usize::from(entries));
+        let layout = Layout { rows: rows_at, width: classes.into(), cell: 1, entries: entries_at, size: 4 };
+        let reached = self.walk(layout, |surveyor, at| {
             let (next, flags) = (word(surveyor.table, at)?, word(surveyor.table, at + 2)?);
+            let place = at - ALONE_AT;
             let past = match next.checked_sub(rows) {
                 Some(past) => past,
                 None => {
-                    surveyor.fault("before", format!("the entry {} leads before the state array (row 8)", number));
-                    return Some((at, None));
+                    surveyor.fault("before", format!("the entry at {} leads before the state array (row 8)", place));
+                    return None;
                 }
             };
             if past % classes.max(1) != 0 {
-                surveyor.fault("rounded", format!("the entry {} leads to no whole row (row 7)", number));
+                surveyor.fault("rounded", format!("the entry at {} leads to no whole row (row 7)", place));
             }
-            Some((at, Some((past / classes.max(1), Reached { flags, words: [NONE; 2] }))))
+            Some((past / classes.max(1), Reached { flags, words: [NONE; 2] }))
         })?;
+        self.holds("its head", body, 10)?;
+        let values = word(self.table, body + 8)?;
+        for list in reached.iter().map(|entry| entry.flags & 0x3FFF).filter(|list| *list != 0) {
+            self.holds("a list of numbers", body + usize::from(list), 2);
+            if list < values || (list - values) % 2 != 0 {
+                self.fault(
+                    "values",
+                    format!("its list at {} is none of its value table", body + usize::from(list) - ALONE_AT),
+                );
+            }
+        }
         Some(())
     }
 }

@@ -77,6 +77,25 @@ struct Reached {
     words: [u16; 2],
 }
 
+/// Where the rows and entries of a state table lie, and how many bytes a row, a number in it and an entry have.
+struct Layout {
+    rows: usize,
+    width: usize,
+    cell: usize,
+    entries: usize,
+    size: usize,
+}
+
+impl Layout {
+    /// The number of an entry in a row.
+    fn number(&self, table: &[u8], at: usize) -> Option<usize> {
+        match self.cell {
+            1 => table.get(at).copied().map(usize::from),
+            _ => word(table, at).map(usize::from),
+        }
+    }
+}
+
 impl Surveyor<'_> {
     /// Goes on to another part.
     fn begin(&mut self, about: String, end: usize) {
@@ -194,8 +213,26 @@ impl Surveyor<'_> {
         if matches!(format, 2 | 4 | 6) && self.element(at, NONE).is_some() {
             self.fault("sentinel", format!("{} at {}: it counts the record FFFF (row 3)", what, at - ALONE_AT));
         }
-        if let (0, Some(count)) = (format, self.glyphs) {
-            self.holds("an array for all glyphs", at + 2, 2 * usize::from(count));
+        let [unit, second, third] = [unit, second, third].map(usize::from);
+        match format {
+            0 => self.holds("an array for all glyphs", at + 2, 2 * self.glyphs.map_or(0, usize::from)),
+            2 | 6 => self.holds("an array of records", at + 12, unit * second),
+            4 => self.segments(at, second),
+            8 => self.holds("an array of elements", at + 6, 2 * second),
+            10 => self.holds("an array of elements", at + 8, unit * third),
+            _ => None,
+        }
+    }
+
+    /// The segments of format 4, each of which leads to its elements; the last may be a sentinel.
+    fn segments(&mut self, at: usize, count: usize) -> Option<()> {
+        for record in (0..count).map(|number| at + 12 + 6 * number) {
+            self.spend(1)?;
+            self.holds("an array of records", record, 6)?;
+            let [last, first, offset] = [0, 2, 4].map(|field| word(self.table, record + field).unwrap_or(0));
+            if first <= last && first != NONE {
+                self.holds("an array of elements", at + usize::from(offset), 2 * (usize::from(last - first) + 1))?;
+            }
         }
         Some(())
     }
@@ -228,42 +265,37 @@ impl Surveyor<'_> {
         let [lookup, rows, entries] = [self.part(body, 4)?, self.part(body, 8)?, self.part(body, 12)?];
         self.lookup("its classes", lookup);
         self.check_classes(classes, |surveyor, glyph| surveyor.element(lookup, glyph))?;
-        let width = 2 * classes as usize;
-        let cell = |table: &[u8], state: u16, class: usize| {
-            (rows + usize::from(state) * width + 2 * class, word(table, rows + usize::from(state) * width + 2 * class))
-        };
-        let size = 4 + 2 * words;
-        self.walk(classes as usize, [2, size], cell, |surveyor, number| {
-            let at = entries + usize::from(number) * size;
+        let (width, size) = (2 * classes as usize, 4 + 2 * words);
+        let layout = Layout { rows, width, cell: 2, entries, size };
+        self.walk(layout, |surveyor, at| {
             let field = |field: usize| word(surveyor.table, at + field);
             let behind = |place: usize| if place < words { field(4 + 2 * place) } else { Some(NONE) };
-            Some((at, Some((field(0)?, Reached { flags: field(2)?, words: [behind(0)?, behind(1)?] }))))
+            Some((field(0)?, Reached { flags: field(2)?, words: [behind(0)?, behind(1)?] }))
         })
     }
 
-    /// Tells the states and entries that are reached from the first two states on.
+    /// Tells the states and entries that are reached from state 0 on; an entry leads to a state, if it can be read.
     fn walk(
         &mut self,
-        classes: usize,
-        [cell_size, entry_size]: [usize; 2],
-        cell: impl Fn(&[u8], u16, usize) -> (usize, Option<u16>),
-        entry: impl Fn(&mut Self, u16) -> Option<(usize, Option<(u16, Reached)>)>,
+        layout: Layout,
+        entry: impl Fn(&mut Self, usize) -> Option<(u16, Reached)>,
     ) -> Option<Vec<Reached>> {
-        let (mut states, mut left) = (BTreeSet::from([0, 1]), vec![1, 0]);
+        let classes = layout.width / layout.cell;
+        let (mut states, mut left) = (BTreeSet::from([0]), vec![0]);
         let (mut numbers, mut reached) = (BTreeSet::new(), Vec::new());
         while let Some(state) = left.pop() {
+            let row = layout.rows + usize::from(state) * layout.width;
+            if self.holds("a row of its state array", row, layout.width).is_none() {
+                continue;
+            }
             for class in 0..classes {
                 self.spend(1)?;
-                let (at, number) = cell(self.table, state, class);
-                if self.holds("a row of its state array", at, cell_size).is_none() {
-                    break;
-                }
-                let number = number?;
-                if !numbers.insert(number) {
+                let number = layout.number(self.table, row + layout.cell * class)?;
+                let at = layout.entries + number * layout.size;
+                if !numbers.insert(number) || self.holds("an entry", at, layout.size).is_none() {
                     continue;
                 }
-                if let Some((at, Some((next, one)))) = entry(self, number) {
-                    self.holds("an entry", at, entry_size);
+                if let Some((next, one)) = entry(self, at) {
                     if states.insert(next) {
                         left.push(next);
                     }
