@@ -4,8 +4,6 @@ use Prim.Native.Nat.{ℕ, zero, suc, _+_, _-_}
 use mathlib.Core.Bool.{Bool, true, false, not}
 use mathlib.Core.List.{List, [], _++_}
 use lib.Dec.{leb}
-use lib.IntN.{ℤ, pos, negsuc}
-use Rattle.laws.specs.Choose.{ifLt}
 use Rattle.laws.specs.Lists.{either}
 use Rattle.answers.specs.declared.Answer.{Answer}
 use Rattle.answers.specs.declared.Answer.the-variants as Answer′
@@ -23,10 +21,6 @@ use Rattle.ligature.specs.declared.Did.{Did}
 use Rattle.ligature.specs.declared.Reached.{Reached}
 use Rattle.ligature.specs.declared.LigatureState.{LigatureState}
 use Rattle.ligature.specs.declared.LigatureStep.{LigatureStep}
-
--- the signed value of a 32-bit number: from 2^31 on it is less by 2^32
-unfoldable pub signed32 : ℕ → ℤ
-signed32 n = ifLt n 0x80000000 (pos n) (negsuc (0xFFFFFFFF - n))
 
 -- the sum after an action
 abbrev pub sumOf : Action → ℕ

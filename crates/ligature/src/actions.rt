@@ -6,7 +6,7 @@ ghost use mathlib.Core.Path.{_≡_};
 ghost use Prim.Native.Nat.{_+_, _<_, _≤_};
 ghost use lib.Signed.{mag};
 ghost use Rattle.ligature.specs.Actions.{offsetOf, componentOf, readAction, readNumber, stores, madeBy, actionOf};
-ghost use Rattle.ligature.specs.Work.{signed32, sumOf};
+ghost use Rattle.ligature.specs.Work.{sumOf};
 
 // The number of a component; there is none below 0.
 enum Component {
@@ -21,25 +21,15 @@ pub enum Action {
     Makes { sum: u32, ligature: u16, last: bool },
 }
 
-// The signed value of a 32-bit number, which is the crate's `as i32`.
-fn to_signed32(number: u32) -> i32
-    ensures { λ r. ⌜ r ≡ signed32 number ⌝ }
-{
-    if number < 0x80000000 {
-        return number as i32;
-    }
-    -1 - ((0xFFFFFFFF - number) as i32)
-}
-
 // An action's offset: its low 30 bits, signed.
 pub fn offset_of(action: u32) -> i32
     ensures { λ r. ⌜ r ≡ offsetOf action ⌝ }
 {
-    let offset = action & 0x3FFFFFFF;
-    if offset & 0x20000000 != 0 {
-        return to_signed32(offset | 0xC0000000);
+    let number = action % 1_073_741_824;
+    if 536_870_912 <= number {
+        return number as i32 - 1_073_741_824;
     }
-    to_signed32(offset)
+    number as i32
 }
 
 // The number of a glyph's component.

@@ -1,20 +1,22 @@
-use Rattle.ligature.proofs.Offsets.{offset-round, offset-low, offset-high}
-use mathlib.Core.Path.{_∙_}
+use Rattle.ligature.proofs.Offsets.{offset-high, offset-fits, offset-round, offset-low}
 use borrow.Author.Needs.{needs}
 use Rattle.ligature.proofs.actions.offset_of.Statement.{statement}
 use Rattle.ligature.proofs.actions.offset_of.Tie as tie
 
-to-signed32-requires : tie.Need-to-signed32-requires
-to-signed32-requires c κs = search needs
+cast-result : tie.Need-cast-result
+cast-result c = search needs
+
+sub-result : tie.Need-sub-result
+sub-result c = offset-fits _ (offset-high _ (c .if1 .taken))
 
 returns : tie.Need-returns
-returns c = offset-round (c .before .before .args .action) (c .to-signed32 .ensures ∙ offset-high _ (c .before .if1 .taken))
+returns c = offset-round _ (offset-high _ (c .if1 .taken))
 
-to-signed32-requires-2 : tie.Need-to-signed32-requires-2
-to-signed32-requires-2 c κs = search needs
+cast-result-2 : tie.Need-cast-result-2
+cast-result-2 c = search needs
 
 returns-2 : tie.Need-returns-2
-returns-2 c = offset-round (c .before .before .args .action) (c .to-signed322 .ensures ∙ offset-low _ (c .before .if1 .left))
+returns-2 c = offset-low _ (c .if1 .left)
 
 pub offset-of-spec : {M : Type 1} → statement M
-offset-of-spec = tie.close (tie.spec to-signed32-requires returns to-signed32-requires-2 returns-2)
+offset-of-spec = tie.close (tie.spec cast-result sub-result returns cast-result-2 returns-2)
