@@ -43,7 +43,7 @@ typedef __SIZE_TYPE__ size_t;
 #endif
 
 /* Rises with every entry or value that is added; what is there stays. */
-#define AAT_VERSION 2
+#define AAT_VERSION 3
 
 #ifdef __cplusplus
 extern "C" {
@@ -66,6 +66,7 @@ enum aat_verdict {
     AAT_NO_RECORDS = 0, /* a format without records: not 2, 4 or 6 */
     AAT_SORTED = 1,     /* first at most last in every record, and each last below the next first */
     AAT_BAD = 2,        /* some record is out of order or not wholly in the table */
+    AAT_UNIT_SIZE = 3,  /* the table states a unit size, at start + 2, that is not its format's: 6 in 2 and 4, 4 in 6 */
 };
 
 enum { AAT_LONGEST_TABLE = 16777216, AAT_LARGEST_ROOM = 4096, AAT_MOST_HEADS = 65535, AAT_DELETED = 0xFFFF };
@@ -127,7 +128,8 @@ uint32_t aat_lookup(const uint8_t *table, size_t table_len, size_t start, uint16
 
 /* Whether the records of the lookup table at start are in order, so that a search by halves finds what is there.
    Answers: AAT_DONE, AAT_NOTHING (format or count can't be read), AAT_TABLE.
-   Writes: verdict, an enum aat_verdict; record with AAT_BAD alone: the number of the first record that is out of order. */
+   Writes: verdict, an enum aat_verdict; record with AAT_BAD alone: the number of the first record that is out of order.
+   With AAT_UNIT_SIZE no record is looked at or named; the unit size that the table states is its number of 16 bits at start + 2. */
 uint32_t aat_survey(const uint8_t *table, size_t table_len, size_t start, uint32_t *verdict, uint32_t *record);
 
 /* The class of a glyph in the extended (morx, kerx) or classic (kern) state table at start: 1 where the class table does

@@ -2,8 +2,8 @@
 //! ask of them.
 
 use crate::font::sfnt::{long, word};
-use crate::reference::oracle::{aat, Answer, Bytes};
-use crate::reference::survey::{survey, Verdict};
+use crate::reference::oracle::{aat, Bytes};
+use crate::reference::survey::is_unsorted;
 use std::collections::{BTreeMap, HashMap};
 use std::fmt;
 
@@ -109,8 +109,7 @@ impl<'a> Met<'a> {
 
     fn is_unsorted(&mut self, at: usize) -> bool {
         let table = self.table;
-        let look = || matches!(survey(table, at as u64), Answer::Done(Verdict::Bad(_)));
-        *self.unsorted.entry(at).or_insert_with(look)
+        *self.unsorted.entry(at).or_insert_with(|| is_unsorted(table, at as u64))
     }
 
     /// The class of a glyph in the extended state table that begins here.

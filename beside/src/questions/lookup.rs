@@ -90,6 +90,7 @@ fn verdict_numbers(answer: Answer<Verdict>) -> (Option<u32>, Option<u32>) {
         Some(Verdict::NoRecords) => (Some(0), None),
         Some(Verdict::Sorted) => (Some(1), None),
         Some(Verdict::Bad(record)) => (Some(2), Some(record.into())),
+        Some(Verdict::UnitSize(_)) => (Some(3), None),
     }
 }
 
@@ -122,6 +123,7 @@ impl Part for Lookups {
         far_starts(asked);
         short_arrays(asked);
         short_record_lists(asked);
+        unit_sizes(asked);
         long_arrays(asked);
         long_record_lists(asked);
         long_tables(asked);
@@ -182,6 +184,25 @@ fn examples(asked: &mut dyn Ask) {
         let table = Rc::from(words(numbers));
         asked.ask(&table, Box::new(Value { start: 0, asked: Lookup { glyph }, written: Some(answer) }));
         asked.ask(&table, Box::new(Survey { start: 0 }));
+    }
+}
+
+/// Every unit size up to 12 and some large ones, with few records and many, in order and out of order, cut at every byte of
+/// the head.
+fn unit_sizes(asked: &mut dyn Ask) {
+    for format in [2, 4, 6] {
+        for unit in (0..=12).chain([255, 256, 0xFFFF]) {
+            for count in [0, 1, 2, 300] {
+                let sorted: Vec<Record> = (0..count).map(|number| Record { first: 3 * number, last: 3 * number + 1, value: 7 }).collect();
+                let turned: Vec<Record> = sorted.iter().rev().copied().collect();
+                for records in [sorted, turned] {
+                    let table = with_records(format, unit, count, &records);
+                    for length in (0..12.min(table.len())).chain([table.len()]) {
+                        ask_glyphs(asked, &Rc::from(&table[..length]), 0, [0, 1, 2, 0xFFFF]);
+                    }
+                }
+            }
+        }
     }
 }
 

@@ -1,5 +1,5 @@
-//! Document 01's survey of a lookup table, and a plain look from the first record down: written
-//! from the document alone.
+//! The survey of a lookup table, by document 01 and W-205 of document 02, and a plain look from the first record down:
+//! written from the documents alone.
 
 use crate::reference::oracle::{Answer, LONGEST_TABLE};
 
@@ -10,6 +10,8 @@ pub enum Verdict {
     Sorted,
     /// The number of the first bad record.
     Bad(u16),
+    /// The unit size that is stated and not the format's.
+    UnitSize(u16),
 }
 
 /// The survey of the lookup table that begins at `start`.
@@ -38,16 +40,33 @@ fn verdict(lookup: &[u8]) -> Option<Verdict> {
     if !matches!(format, 2 | 4 | 6) {
         return Some(Verdict::NoRecords);
     }
-    let mut last_before = None;
-    for number in 0..word(lookup, 4)? {
-        match record(lookup, format, number) {
-            Some(record) if record.first <= record.last && last_before < Some(record.first) => {
-                last_before = Some(record.last)
-            }
-            _ => return Some(Verdict::Bad(number)),
-        }
+    let count = word(lookup, 4)?;
+    let unit = word(lookup, 2)?;
+    if unit != if format == 6 { 4 } else { 6 } {
+        return Some(Verdict::UnitSize(unit));
     }
-    Some(Verdict::Sorted)
+    Some(first_bad(lookup, format, count).map_or(Verdict::Sorted, Verdict::Bad))
+}
+
+/// Whether some record of the lookup table that begins at `start` is bad as the crate steps over them, whatever unit size
+/// is stated.
+pub fn is_unsorted(table: &[u8], start: u64) -> bool {
+    let lookup = lookup_from(table, start).unwrap_or(&[]);
+    match (word(lookup, 0), word(lookup, 4)) {
+        (Some(format @ (2 | 4 | 6)), Some(count)) => first_bad(lookup, format, count).is_some(),
+        _ => false,
+    }
+}
+
+fn first_bad(lookup: &[u8], format: u16, count: u16) -> Option<u16> {
+    let mut last_before = None;
+    (0..count).find(|number| match record(lookup, format, *number) {
+        Some(record) if record.first <= record.last && last_before < Some(record.first) => {
+            last_before = Some(record.last);
+            false
+        }
+        _ => true,
+    })
 }
 
 fn element(lookup: &[u8], glyph: u16) -> Option<u16> {

@@ -110,6 +110,10 @@ pub extern "C" fn aat_survey(table: &[u8], start: usize, verdict: &mut u32, bad:
             *bad = index;
             0
         }
+        Surveyed::UnitSize(_) => {
+            *verdict = 3;
+            0
+        }
         Surveyed::Nothing => 1,
         Surveyed::Refused(why) => answers::refusal_number(why),
     }

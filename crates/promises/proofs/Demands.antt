@@ -21,7 +21,7 @@ use Rattle.shaper.proofs.Honesty.{shaped-runs}
 use Rattle.parse.proofs.Laws.{u8-from, u16-from, u32-from}
 use Rattle.tables.proofs.Finding.{search-finds, search-finds-pair}
 use Rattle.tables.proofs.ManualLookup.{lookup-as-manual}
-use Rattle.tables.proofs.Surveys.{survey-sound, survey-complete, survey-bad}
+use Rattle.tables.proofs.Surveys.{survey-sound, survey-complete, survey-bad, survey-exact}
 use Rattle.state_tables.proofs.Manual.{class-by-lookup, class-by-array, entry-as-manual}
 use Rattle.ltag.proofs.Manual.{index-as-manual}
 use Rattle.verbs.proofs.Drawing.{as-drawn}
@@ -75,6 +75,7 @@ lookups =
       survey-sound = survey-sound;
       survey-complete = survey-complete;
       survey-bad = survey-bad;
+      survey-exact = survey-exact;
     }
 
 state-tables : StateTables

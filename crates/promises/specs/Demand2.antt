@@ -11,14 +11,16 @@ use Rattle.answers.specs.Limits.{tableLimit, headLimit}
 use Rattle.parse.specs.Reads.{u8At, u16At, u32At, readU16}
 use Rattle.parse.specs.declared.ReadU16.the-variants as U16
 use Rattle.parse.specs.declared.ReadU32.the-variants as U32
-use Rattle.tables.specs.Records.{pairPlace}
+use Rattle.tables.specs.Records.{pairPlace, formatOf}
 use Rattle.tables.specs.Search.{searched}
-use Rattle.tables.specs.Survey.{scanned}
+use Rattle.tables.specs.Survey.{scanned, surveyAt}
 use Rattle.tables.specs.Lookup.{lookupAt}
-use Rattle.tables.specs.Order.{InOrder, FirstBad, TheOne, firstOf, lastOf}
+use Rattle.tables.specs.Order.{InOrder, FirstBad, Says, TheOne, firstOf, lastOf}
 use Rattle.tables.specs.ManualLookup as Lookup
+use Rattle.tables.specs.declared.records.Format.the-variants.{Records}
 use Rattle.tables.specs.declared.records.Kind.{Kind}
 use Rattle.tables.specs.declared.records.Keys.the-variants.{Glyphs, Pairs}
+use Rattle.tables.specs.declared.survey.Surveyed.{Surveyed}
 use Rattle.tables.specs.declared.survey.Surveyed.the-variants.{Sorted, Bad}
 use Rattle.state_tables.specs.States.{extendedAt, classicAt}
 use Rattle.state_tables.specs.Classes.{classOf}
@@ -78,6 +80,9 @@ pub record Lookups : Type 0 where
   pub survey-complete : (bytes : List ℕ) (kind : Kind) (count : ℕ) → InOrder bytes kind count → scanned bytes kind count ≡ Sorted
   -- the record that it names is bad, while all before it are good
   pub survey-bad : (bytes : List ℕ) (kind : Kind) (count i : ℕ) → scanned bytes kind count ≡ Bad i → FirstBad bytes kind count i
+  -- where format and count can be read, the survey answers each of sorted, bad and another unit size exactly when it should
+  pub survey-exact : (bytes : List ℕ) (kind : Kind) {number : ℕ} → readU16 bytes 0 ≡ U16.Got number → formatOf number ≡ Records kind → 6 ≤ length bytes
+      → (s : Surveyed) → (surveyAt bytes ≡ s → Says bytes kind s) × (Says bytes kind s → surveyAt bytes ≡ s)
 
 -- State tables: classes and entries.
 pub record StateTables : Type 0 where

@@ -86,6 +86,11 @@ fn of_survey(surveyed: Surveyed) -> Numbers {
             first: 2,
             second: record,
         },
+        Surveyed::UnitSize(_) => Numbers {
+            answer: 0,
+            first: 3,
+            second: 0,
+        },
         Surveyed::Nothing => Numbers {
             answer: 1,
             first: 0,

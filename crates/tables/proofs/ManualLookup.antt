@@ -15,9 +15,9 @@ use Rattle.parse.proofs.Laws.{readU16-got, readU16-short}
 use Rattle.tables.specs.Records.{strideOf, recordPlace, firstAt, lastAt, formatOf}
 use Rattle.tables.specs.Search.{searched}
 use Rattle.tables.specs.Survey.{scanned, surveyIn, surveyAt}
-use Rattle.tables.specs.Order.{Good, InOrder, Holds, TheOne, firstOf, lastOf}
+use Rattle.tables.specs.Order.{Good, InOrder, Says, Holds, TheOne, firstOf, lastOf}
 use Rattle.tables.specs.Lookup.{elementAt, elementOf, elementIn, inRecords, trimmedAt, inFormat, lookupAt}
-use Rattle.tables.specs.ManualLookup.{Units, segments, segmentArrays, singles, Layout, simpleArray, units, trimmedArray, extendedTrimmedArray, formatNumber, unitSize, unitCount, unitPlace, unitBytes, firstGlyph, lastGlyph, UnitHolds, elementPlace, Lies, Alike, AsManual}
+use Rattle.tables.specs.ManualLookup.{Units, segments, segmentArrays, singles, Layout, simpleArray, units, trimmedArray, extendedTrimmedArray, formatNumber, unitSize, unitCount, unitPlace, firstGlyph, lastGlyph, UnitHolds, elementPlace, Lies, Alike, AsManual}
 use Rattle.tables.specs.declared.records.Format.the-variants.{Simple, Records, Trimmed}
 use Rattle.tables.specs.declared.records.Keys.the-variants.{Glyphs}
 use Rattle.tables.specs.declared.records.Kind.{Kind}
@@ -29,7 +29,7 @@ use Rattle.tables.specs.declared.lookup.Why.{Why}
 use Rattle.tables.specs.declared.lookup.Why.the-variants.{NotCovered, CutShort}
 use Rattle.tables.specs.declared.lookup.Found.{Found}
 use Rattle.tables.specs.declared.lookup.Found.the-variants.{At, Nothing}
-use Rattle.tables.proofs.Surveys.{survey-sound}
+use Rattle.tables.proofs.Surveys.{same-size, says-in}
 use Rattle.tables.proofs.Finding.{search-finds}
 
 -- an element is there exactly when its two bytes are
@@ -135,12 +135,6 @@ kindOf segmentArrays = Arrays
 kindOf singles = Singles
 
 module _ (bytes : List ℕ) where
-  same-size : (u : Units) → unitBytes u ≡ strideOf (kindOf u)
-  unfolding kindOf
-  same-size segments = refl
-  same-size segmentArrays = refl
-  same-size singles = refl
-
   same-first : (u : Units) (place : ℕ) → firstGlyph bytes u place ≡ firstAt bytes (kindOf u) place
   unfolding kindOf
   same-first segments place = refl
@@ -152,9 +146,9 @@ module _ (bytes : List ℕ) where
   same-last segmentArrays place = refl
   same-last singles place = refl
 
-module _ (bytes : List ℕ) (u : Units) (glyph : ℕ) (sizes : unitSize bytes ≡ unitBytes u) where
+module _ (bytes : List ℕ) (u : Units) (glyph : ℕ) (sizes : unitSize bytes ≡ strideOf (kindOf u)) where
   same-place : (i : ℕ) → unitPlace bytes i ≡ recordPlace 12 (kindOf u) i
-  same-place i = ap (λ (n : ℕ). 12 + i * n) (sizes ∙ same-size bytes u)
+  same-place i = ap (λ (n : ℕ). 12 + i * n) sizes
 
   first-is : (i : ℕ) → firstGlyph bytes u (unitPlace bytes i) ≡ firstOf bytes (kindOf u) i
   first-is i = same-first bytes u (unitPlace bytes i) ∙ ap (firstAt bytes (kindOf u)) (same-place i)
@@ -195,7 +189,7 @@ element-of bytes segmentArrays glyph i g =
     )
 
 module _ (bytes : List ℕ) (glyphs glyph : ℕ) (u : Units) (e : lookupAt bytes glyph ≡ inRecords bytes (kindOf u) glyph)
-    (sizes : unitSize bytes ≡ unitBytes u) (small : glyph < 65535) (count : readU16 bytes 4 ≡ Got (unitCount bytes))
+    (sizes : unitSize bytes ≡ strideOf (kindOf u)) (small : glyph < 65535) (count : readU16 bytes 4 ≡ Got (unitCount bytes))
     (all : InOrder bytes (kindOf u) (unitCount bytes)) where
   abbrev kind : Kind
   kind = kindOf u
@@ -226,9 +220,9 @@ module _ (bytes : List ℕ) (glyphs glyph : ℕ) (u : Units) (e : lookupAt bytes
           ∙ ap (λ (j : ℕ). elementPlace bytes u glyph (unitPlace bytes j)) (r .1 (l .0) (to-record bytes u glyph sizes (l .0) (l .1)))
           ∙ ap (elementPlace bytes u glyph) (same-place bytes u glyph sizes i))
 
--- a survey that passes has read the count, and found all records in order
+-- a survey that passes has read the count, found the unit size that the records have, and all of them in order
 passed : (bytes : List ℕ) (kind : Kind) → surveyIn bytes (Records kind) ≡ Sorted
-    → (readU16 bytes 4 ≡ Got (unitCount bytes)) × InOrder bytes kind (unitCount bytes)
+    → (readU16 bytes 4 ≡ Got (unitCount bytes)) × (unitSize bytes ≡ strideOf kind) × InOrder bytes kind (unitCount bytes)
 unfolding surveyIn
 passed bytes kind e =
     ⊎-elim
@@ -237,8 +231,8 @@ passed bytes kind e =
     let n : surveyIn bytes (Records kind) ≡ Nothing′ = rw (s, surveyIn) in
     let z : _≡_ {A = ℕ} 0 1 = cc in absurd (omega arith))
     (λ (h : 6 ≤ length bytes).
-    let c = readU16-got bytes 4 (omega arith) in
-    (c, survey-sound bytes kind (unitCount bytes) (sym (rw (c, surveyIn)) ∙ e)))
+    let p = subst (Says bytes kind) e (says-in bytes kind h) in
+    (readU16-got bytes 4 (omega arith), p .0 ∙ sym (same-size kind), p .1))
     (lt-or-ge (length bytes) 6)
 
 survey-of : (bytes : List ℕ) (u : Units) → readU16 bytes 0 ≡ Got (formatNumber (units u)) → surveyAt bytes ≡ surveyIn bytes (Records (kindOf u))
@@ -259,8 +253,8 @@ pub lookup-as-manual : (layout : Layout) (bytes : List ℕ) (glyphs glyph : ℕ)
 unfolding Alike Lies lookupAt inFormat formatOf
 lookup-as-manual simpleArray bytes glyphs glyph e a = simple-as-manual bytes glyphs glyph e a
 lookup-as-manual (units u) bytes glyphs glyph e a =
-    let (count, all) = passed bytes (kindOf u) (sym (survey-of bytes u e) ∙ a .2) in
-    units-as-manual bytes glyphs glyph u (records-of bytes u glyph e) (a .0) (a .1) count all
+    let (count, sizes, all) = passed bytes (kindOf u) (sym (survey-of bytes u e) ∙ a .1) in
+    units-as-manual bytes glyphs glyph u (records-of bytes u glyph e) sizes (a .0) count all
 lookup-as-manual trimmedArray bytes glyphs glyph e a =
     trimmed-as-manual bytes glyphs glyph 2 trimmedArray (rw (e, lookupAt)) (λ place l. l) (λ place l. l)
 lookup-as-manual extendedTrimmedArray bytes glyphs glyph e a =

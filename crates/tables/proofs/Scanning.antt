@@ -6,16 +6,19 @@ use mathlib.Core.List.{List}
 use native.Mathlib.Numerals.{add-one}
 use native.Mathlib.Omega.{arith}
 use lib.Dec.{leb}
-use borrow.Author.Tests.{le-leb, lt-leb}
+use borrow.Author.Tests.{le-leb, lt-leb, eq-eqb, ne-eqb}
 use Rattle.laws.specs.Lists.{both}
-use Rattle.parse.specs.Reads.{inside}
+use Rattle.parse.specs.Reads.{inside, u16At, readU16}
+use Rattle.parse.specs.declared.ReadU16.{ReadU16}
+use Rattle.parse.specs.declared.ReadU16.the-variants.{Got, Short}
 use Rattle.tables.specs.Records.{strideOf, recordPlace, firstAt, lastAt}
-use Rattle.tables.specs.Survey.{recordIn, recordAt, floorOf, ordered, inOrder, scan, scanned}
+use Rattle.tables.specs.Survey.{recordIn, recordAt, floorOf, ordered, inOrder, scan, scanned, surveyIn}
+use Rattle.tables.specs.declared.records.Format.the-variants.{Records}
 use Rattle.tables.specs.declared.records.Kind.{Kind}
 use Rattle.tables.specs.declared.survey.Record.{Record}
 use Rattle.tables.specs.declared.survey.Record.the-variants.{Whole, Cut}
 use Rattle.tables.specs.declared.survey.Surveyed.{Surveyed}
-use Rattle.tables.specs.declared.survey.Surveyed.the-variants.{Sorted, Bad}
+use Rattle.tables.specs.declared.survey.Surveyed.the-variants.{Sorted, Bad, UnitSize, Nothing}
 
 -- what is left to scan gives what the whole scan gives
 pub record Scanning (good : ℕ → Bool) (count : ℕ) (whole : Surveyed) (i : ℕ) : Type 0 where
@@ -115,3 +118,18 @@ module _ {bytes : List ℕ} {kind : Kind} {count floor i : ℕ} (s : Surveying b
 pub surveying-done : {bytes : List ℕ} {kind : Kind} {count floor i : ℕ} → Surveying bytes kind count floor i → count ≤ i
     → Sorted ≡ scanned bytes kind count
 surveying-done s h = scan-done (s .scanning) h
+
+-- the survey by the count and the unit size that were read
+module _ (bytes : List ℕ) (kind : Kind) {read : ReadU16} (e : read ≡ readU16 bytes 4) where
+  pub survey-uncounted : read ≡ Short → Nothing ≡ surveyIn bytes (Records kind)
+  unfolding surveyIn
+  survey-uncounted f = rw (sym e ∙ f, surveyIn)
+
+  module _ {count size stride : ℕ} (f : read ≡ Got count) (g : size ≡ u16At bytes 2) (h : stride ≡ strideOf kind) where
+    pub survey-other-size : (size ≡ stride → ⊥) → UnitSize size ≡ surveyIn bytes (Records kind)
+    unfolding surveyIn
+    survey-other-size n = rw (sym e ∙ f, ← g, ← h, ne-eqb size stride n, surveyIn)
+
+    pub survey-counted : {s : Surveyed} → size ≡ stride → s ≡ scanned bytes kind count → s ≡ surveyIn bytes (Records kind)
+    unfolding surveyIn
+    survey-counted n k = k ∙ rw (sym e ∙ f, ← g, ← h, eq-eqb size stride n, surveyIn)

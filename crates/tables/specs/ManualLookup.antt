@@ -40,13 +40,8 @@ unitCount bytes = u16At bytes 4
 abbrev pub unitPlace : List ℕ → ℕ → ℕ
 unitPlace bytes i = 12 + i * unitSize bytes
 
--- a unit's bytes: last glyph, first glyph and element; last glyph, first glyph and the offset of an array; glyph and element
-abbrev pub unitBytes : Units → ℕ
-unitBytes segments = 6
-unitBytes segmentArrays = 6
-unitBytes singles = 4
-
--- the first and the last glyph of the unit at a place
+-- a unit has last glyph, first glyph and element; last glyph, first glyph and the offset of an array; or glyph and element. The first and the
+-- last glyph of the unit at a place
 abbrev pub firstGlyph : List ℕ → Units → ℕ → ℕ
 firstGlyph bytes segments place = u16At bytes (place + 2)
 firstGlyph bytes segmentArrays place = u16At bytes (place + 2)
@@ -84,11 +79,11 @@ Lies bytes glyphs glyph trimmedArray place =
 Lies bytes glyphs glyph extendedTrimmedArray place =
     Spans (u16At bytes 4) (u16At bytes 6) glyph × (place ≡ 8 + (glyph - u16At bytes 4) * unitSize bytes)
 
--- where crate and manual read alike: in format 0 below the font's glyph count; in formats 2, 4 and 6 with units of 6, 6 and 4
--- bytes, for a glyph below 0xFFFF, on a table that the survey passes; in format 10 with elements of two bytes
+-- where crate and manual read alike: in format 0 below the font's glyph count; in formats 2, 4 and 6 for a glyph below 0xFFFF, on a
+-- table that the survey passes; in format 10 with elements of two bytes
 unfoldable pub Alike : List ℕ → ℕ → ℕ → Layout → Type 0
 Alike bytes glyphs glyph simpleArray = glyph < glyphs
-Alike bytes glyphs glyph (units kind) = (unitSize bytes ≡ unitBytes kind) × (glyph < 65535) × (surveyAt bytes ≡ Sorted)
+Alike bytes glyphs glyph (units kind) = (glyph < 65535) × (surveyAt bytes ≡ Sorted)
 Alike bytes glyphs glyph trimmedArray = Unit {0}
 Alike bytes glyphs glyph extendedTrimmedArray = unitSize bytes ≡ 2
 

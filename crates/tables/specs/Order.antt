@@ -3,10 +3,14 @@ use Prim.Native.Nat.{ℕ, suc, _+_, _<_, _≤_}
 use mathlib.Core.Path.{_≡_}
 use mathlib.Core.List.{List}
 use lib.ListN.{length}
+use Rattle.parse.specs.Reads.{u16At}
 use Rattle.tables.specs.Records.{strideOf, recordPlace, firstAt, lastAt}
 use Rattle.tables.specs.declared.records.Kind.{Kind}
+use Rattle.tables.specs.declared.records.Kind.the-variants.{Ranges, Arrays, Singles}
 use Rattle.tables.specs.declared.records.Spot.{Spot}
 use Rattle.tables.specs.declared.records.Spot.the-variants.{At, Absent, Cut}
+use Rattle.tables.specs.declared.survey.Surveyed.{Surveyed}
+use Rattle.tables.specs.declared.survey.Surveyed.the-variants.{Sorted, Bad, UnitSize, NoRecords, Nothing, Refused}
 
 -- the first and last glyph of record i
 abbrev pub firstOf : List ℕ → Kind → ℕ → ℕ
@@ -30,6 +34,21 @@ pub record FirstBad (bytes : List ℕ) (kind : Kind) (count i : ℕ) : Type 0 wh
   pub counted : i < count
   pub bad : Good bytes kind i → ⊥
   pub before : (j : ℕ) → j < i → Good bytes kind j
+
+-- the unit size that a survey passes, by document 02: 6 in formats 2 and 4, 4 in format 6
+abbrev pub passedSize : Kind → ℕ
+passedSize Ranges = 6
+passedSize Arrays = 6
+passedSize Singles = 4
+
+-- what each answer of a survey says of a table with records of a kind, the unit size at 2 and the count at 4
+abbrev pub Says : List ℕ → Kind → Surveyed → Type 0
+Says bytes kind Sorted = (u16At bytes 2 ≡ passedSize kind) × InOrder bytes kind (u16At bytes 4)
+Says bytes kind (Bad i) = (u16At bytes 2 ≡ passedSize kind) × FirstBad bytes kind (u16At bytes 4) i
+Says bytes kind (UnitSize n) = (u16At bytes 2 ≡ n) × (n ≡ passedSize kind → ⊥)
+Says bytes kind NoRecords = ⊥
+Says bytes kind Nothing = ⊥
+Says bytes kind (Refused why) = ⊥
 
 -- one of so many records, the i-th, holds a key; of each is told the first and the last that it holds
 pub record Holds (first last : ℕ → ℕ) (count key i : ℕ) : Type 0 where

@@ -4,11 +4,12 @@ use mathlib.Core.Bool.{Bool, true, false, cond}
 use mathlib.Core.List.{List, [], _∷_}
 use lib.Dec.{leb}
 use lib.ListN.{length, drop}
+use Rattle.laws.specs.Choose.{ifEq}
 use Rattle.laws.specs.Lists.{both}
 use Rattle.answers.specs.Refuse.{refuse, tableTest}
 use Rattle.answers.specs.declared.Check.{Check}
 use Rattle.answers.specs.declared.Check.the-variants as Check′
-use Rattle.parse.specs.Reads.{inside, readU16}
+use Rattle.parse.specs.Reads.{inside, u16At, readU16}
 use Rattle.parse.specs.Use.{onU16}
 use Rattle.tables.specs.Records.{strideOf, recordPlace, firstAt, lastAt, formatOf}
 use Rattle.tables.specs.declared.records.Format.{Format}
@@ -18,7 +19,7 @@ use Rattle.tables.specs.declared.records.Kind.the-variants.{Ranges, Arra
 use Rattle.tables.specs.declared.survey.Record.{Record}
 use Rattle.tables.specs.declared.survey.Record.the-variants.{Whole, Cut}
 use Rattle.tables.specs.declared.survey.Surveyed.{Surveyed}
-use Rattle.tables.specs.declared.survey.Surveyed.the-variants.{Sorted, Bad, NoRecords, Nothing, Refused}
+use Rattle.tables.specs.declared.survey.Surveyed.the-variants.{Sorted, Bad, UnitSize, NoRecords, Nothing, Refused}
 
 -- the record of a kind at a place, where all its bytes lie in the table
 unfoldable pub recordIn : List ℕ → Kind → ℕ → Record
@@ -50,9 +51,12 @@ scan good (suc left) i = elim (good i) [ true ↦ scan good left (suc i) | false
 unfoldable pub scanned : List ℕ → Kind → ℕ → Surveyed
 scanned bytes kind count = scan (inOrder bytes kind) count 0
 
--- by the format; the count is at 4
+-- by the format; the count is at 4, and the unit size, at 2, lies in the table wherever that does. Records of another size are not looked at
 unfoldable pub surveyIn : List ℕ → Format → Surveyed
-surveyIn bytes (Records kind) = onU16 (readU16 bytes 4) (λ count. scanned bytes kind count) Nothing
+surveyIn bytes (Records kind) =
+    onU16 (readU16 bytes 4)
+    (λ count. ifEq (u16At bytes 2) (strideOf kind) (scanned bytes kind count) (UnitSize (u16At bytes 2)))
+    Nothing
 surveyIn bytes Simple = NoRecords
 surveyIn bytes (Trimmed head) = NoRecords
 surveyIn bytes Unknown = NoRecords

@@ -3,7 +3,7 @@ ghost use mathlib.Core.Path.{_≡_};
 ghost use Prim.Native.Nat.{_+_, _<_, _≤_, _^_};
 ghost use lib.ListN.{length};
 ghost use Rattle.parse.specs.Reads.{u32At};
-ghost use Rattle.tables.specs.Records.{recordPlace, pairPlace, formatOf};
+ghost use Rattle.tables.specs.Records.{strideOf, recordPlace, pairPlace, formatOf};
 ghost use Rattle.tables.specs.declared.records.Keys.the-variants.{Pairs};
 ghost use Rattle.tables.specs.Search.{sideOfRange, sideOfArray, sideOfSingle, sideOfRecord, sideOfPair, sideOf, searched};
 
@@ -41,6 +41,17 @@ pub enum Spot {
     At(u32),
     Absent,
     Cut,
+}
+
+// The bytes of a record.
+pub fn stride_of(kind: Kind) -> u16
+    ensures { λ r. ⌜ r ≡ strideOf kind ⌝ }
+{
+    match kind {
+        Kind::Ranges => 6,
+        Kind::Arrays => 6,
+        Kind::Singles => 4,
+    }
 }
 
 // The format by its number.

@@ -13,10 +13,11 @@ pub enum Record {
     Cut,
 }
 
-// What the survey says; `Bad` names the first record that is not in order.
+// What the survey says; `Bad` names the first record that is not in order, `UnitSize` a size that the format's records don't have.
 pub enum Surveyed {
     Sorted,
     Bad(u32),
+    UnitSize(u16),
     NoRecords,
     Nothing,
     Refused(Refusal),
@@ -81,13 +82,17 @@ fn survey_records(bytes: &[u8], kind: Kind, count: u16) -> Surveyed
     Surveyed::Sorted
 }
 
-// The survey of as many records as the table counts.
+// The survey of as many records as the table counts, where they have the size that it states.
 fn survey_counted(bytes: &[u8], kind: Kind) -> Surveyed
     ensures { λ r. ⌜ r ≡ surveyIn (now (bytes .entry)) (Format.Records kind) ⌝ }
 {
     let parse::ReadU16::Got(count) = parse::read_u16(bytes, 4) else {
         return Surveyed::Nothing;
     };
+    let unit_size = parse::u16_at(bytes, 2);
+    if unit_size != records::stride_of(kind) {
+        return Surveyed::UnitSize(unit_size);
+    }
     survey_records(bytes, kind, count)
 }
 

@@ -7,6 +7,7 @@ use crate::font::sfnt::{long, word, Font};
 use crate::font::shaping::Tables;
 use crate::reference::kerning::{Kerning, ALONE_AT};
 use crate::reference::oracle::{aat, Bytes};
+use crate::reference::survey::is_unsorted;
 use crate::wire::entries::Entry;
 use crate::wire::pipe::{lend_table, TheBox};
 use crate::wire::reply::number;
@@ -253,7 +254,11 @@ impl Surveyor<'_> {
         Some(match (answer, verdict) {
             (0, 0) => ("it has no records", None),
             (0, 1) => ("sorted", None),
-            (0, _) => ("NOT sorted", Some(format!("its record {} is out of order (row 5)", record))),
+            (0, 2) => ("NOT sorted", Some(format!("its record {} is out of order (row 5)", record))),
+            (0, _) => {
+                let row = is_unsorted(self.table, at as u64).then(|| "its records are out of order as the crate steps (row 5)".into());
+                ("NOT looked at, for its unit size", row)
+            }
             _ => ("it can't be read", Some("it can't be read".into())),
         })
     }

@@ -18,6 +18,9 @@ enum-known-surveyed c = search needs
 enum-told-3 : tie.Need-enum-told-3
 enum-told-3 c = search needs
 
+enum-told-4 : tie.Need-enum-told-4
+enum-told-4 c = search needs
+
 enum-known-surveyed-2 : tie.Need-enum-known-surveyed-2
 enum-known-surveyed-2 c = search needs
 
@@ -37,7 +40,10 @@ returns-4 : tie.Need-returns-4
 returns-4 c = rw (sym (c .before .before .survey .ensures) ∙ c .enum-told3 .given .1) (refl, (refl, refl))
 
 returns-5 : tie.Need-returns-5
-returns-5 c = rw (sym (c .before .before .before .before .survey .ensures) ∙ c .before .before .surveyed2 .given .1) (c .refusal-number .ensures, (refl, refl))
+returns-5 c = rw (sym (c .before .before .survey .ensures) ∙ c .enum-told4 .given .1) (refl, (refl, refl))
+
+returns-6 : tie.Need-returns-6
+returns-6 c = rw (sym (c .before .before .before .before .survey .ensures) ∙ c .before .before .surveyed2 .given .1) (c .refusal-number .ensures, (refl, refl))
 
 pub aat-survey-spec : {M : Type 1} → statement M
 aat-survey-spec =
@@ -48,10 +54,12 @@ aat-survey-spec =
     enum-told-2
     enum-known-surveyed
     enum-told-3
+    enum-told-4
     enum-known-surveyed-2
     refusal-number-requires
     returns
     returns-2
     returns-3
     returns-4
-    returns-5)
+    returns-5
+    returns-6)

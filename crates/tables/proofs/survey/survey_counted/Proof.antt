@@ -1,5 +1,6 @@
-use mathlib.Core.Path.{sym, _∙_}
-use Rattle.tables.specs.Survey.{surveyIn}
+use native.Mathlib.Omega.{arith}
+use Rattle.parse.proofs.Laws.{u16-inside}
+use Rattle.tables.proofs.Scanning.{survey-uncounted, survey-other-size, survey-counted}
 use borrow.Author.Needs.{needs}
 use Rattle.tables.proofs.survey.survey_counted.Statement.{statement}
 use Rattle.tables.proofs.survey.survey_counted.Tie as tie
@@ -14,15 +15,22 @@ enum-told : tie.Need-enum-told
 enum-told c = search needs
 
 returns : tie.Need-returns
-unfolding surveyIn
-returns c = rw (sym (c .before .before .read-u16 .ensures) ∙ c .enum-told .given .1, surveyIn)
+returns c = search survey-uncounted
+
+u16-at-requires : tie.Need-u16-at-requires
+u16-at-requires c κs = omega (arith, u16-inside _ 4 (c .before .before .before .read-u16 .ensures) (c .before .count .given .1))
+
+stride-of-requires : tie.Need-stride-of-requires
+stride-of-requires c κs = search needs
+
+returns-2 : tie.Need-returns-2
+returns-2 c = search survey-other-size
 
 survey-records-requires : tie.Need-survey-records-requires
 survey-records-requires c κs = search needs
 
-returns-2 : tie.Need-returns-2
-unfolding surveyIn
-returns-2 c = rw (sym (c .before .before .before .before .read-u16 .ensures) ∙ c .before .before .count .given .1, c .survey-records .ensures, surveyIn)
+returns-3 : tie.Need-returns-3
+returns-3 c = search survey-counted
 
 pub survey-counted-spec : {M : Type 1} → statement M
 survey-counted-spec =
@@ -32,5 +40,8 @@ survey-counted-spec =
     enum-known-count
     enum-told
     returns
+    u16-at-requires
+    stride-of-requires
+    returns-2
     survey-records-requires
-    returns-2)
+    returns-3)
