@@ -27,13 +27,6 @@ pub fn watch(met: &mut Met, run: &Run, line: &Line) {
     let made = run.make(&mut lent);
     met.spot = Spot { subtable: met::Subtable { table: kerning.name(), ..met::Subtable::default() }, place: None };
     met.row(50, matches!(made, Ok((Answer::Limit, _))));
-    if kerning == Kerning::Kern && right_to_left {
-        let mut turned = lent.clone();
-        turned.reverse();
-        let made = run.make(&mut turned);
-        turned.reverse();
-        met.row(52, made.is_ok() && turned.along != lent.along);
-    }
 }
 
 const PUSH: u16 = 0x8000;
@@ -47,6 +40,8 @@ impl Watched<'_> {
             met.row(48, met.table.len() < subtable.body);
             met.row(53, self.kerning == Kerning::Kerx && subtable.coverage & 0xE000_0000 == 0x2000_0000);
             if !subtable.is_passed_over {
+                let has_ways = self.glyphs.iter().ne(self.glyphs.iter().rev());
+                met.row(52, self.kerning == Kerning::Kern && self.right_to_left && has_ways);
                 self.watch_subtable(met, &subtable);
             }
         }
