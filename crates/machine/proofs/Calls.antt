@@ -71,9 +71,6 @@ module _ (subtable : Subtable) (table : List ℕ) (start : ℕ) (l : Line) {byte
   unfolding passCall
   call-works e = rw (sym tested ∙ e, passCall) (ap (λ (x : List ℕ). subtable .worked x l) (sym b))
 
-  pub call-valid : check ≡ Passed → Valid l
-  call-valid e = taken-line (length table) l opens (sym k ∙ e)
-
 -- the work of a machine on a subtable, by what its code has: refused by HEAD, or its pass
 module _ {S : Type 0} (machine : Machine S) (bytes : List ℕ) (l : Line) {made : Made} (m : made ≡ machine .opened bytes) where
   pub work-headless : made ≡ Short → subtableOf machine .worked bytes l ≡ refusedPass Refusal′.Head

@@ -61,13 +61,12 @@ module _ {S : Type 0} (step : Step S) where
   unfoldable pub passFrom : (turns : ℕ) → S → Line → ℕ → Passed
   passFrom zero s l i = record { answer = Answer′.Done; changes = [] }
   passFrom (suc turns) s l i =
+      let here : Stepped S = stepAt s l i in
       elim (ltb i (l .used)) [
         | false ↦ record { answer = endCall s l .answer; changes = endCall s l .changes }
         | true ↦
-            elim (isDone (stepAt s l i .answer)) [
-              | false ↦ record { answer = stepAt s l i .answer; changes = stepAt s l i .changes }
-              | true ↦
-                  after (stepAt s l i .changes)
-                  (passFrom turns (stepAt s l i .state) (applyAll (stepAt s l i .changes) l) (i + stepAt s l i .advance))
+            elim (isDone (here .answer)) [
+              | false ↦ record { answer = here .answer; changes = here .changes }
+              | true ↦ after (here .changes) (passFrom turns (here .state) (applyAll (here .changes) l) (i + here .advance))
             ]
       ]
