@@ -74,13 +74,15 @@ is_stale() { # FILE SOURCE..
     [ ! -e "$1" ] || [ -n "$(find "${@:2}" -newer "$1" -print -quit)" ]
 }
 
-# Copies the crate with the fields of the states, of what a step hands over, and of morx's lists made public.
+# Copies the crate with the fields of the states, of what a step hands over, of morx's lists and of class pairs made public, and with every read
+# that fails noted.
 open_crate() {
     local opened='RearrangementState|ContextualState|LigatureState|InsertionState|Format1State|Rearrange|Array' file
-    opened+='|Chains|Chain|Features|Subtables|Subtable'
+    opened+='|Chains|Chain|Features|Subtables|Subtable|Format2'
     for file in aat.rs parse.rs; do
         sed -E "/^ *pub struct ($opened)\\b/,/\}/ s/^( *)([a-z_]+:)/\\1pub \\2/" "$top/docs/src/$file" >"$built/$file"
     done
+    sed -i '/fn from_be_data(/,/^    }/ s/^\( *\)None$/\1super::failed_read()/' "$built/parse.rs"
 }
 
 # What a program is linked with besides the library; its age tells nothing.

@@ -4,8 +4,9 @@
    - Every entry gives the number of its answer, an enum aat_answer. Any bytes, numbers and lengths get one, and the work
      ends. A pointer has to point to as many elements as the length behind it says, or the number in brackets; it is never null,
      not even where that is 0. What an entry writes may not overlap anything else that it is lent.
-   - On the answers from AAT_NOTHING to AAT_HEAD everything that was lent stays as it was. What an entry writes otherwise stands
-     under "Writes"; all else stays as it was on every answer. Nothing is kept between calls.
+   - On the answers from AAT_NOTHING to AAT_HEAD everything that was lent stays as it was, but for the reason that goes with
+     AAT_NOTHING (enum aat_why). What an entry writes otherwise stands under "Writes"; all else stays as it was on every
+     answer. Nothing is kept between calls.
    - table, table_len, start: the bytes of a font table, or of a whole font, and the byte of it where the entry's own table,
      subtable (its head included), state table or list of glyphs begins. Longer than AAT_LONGEST_TABLE is AAT_TABLE. Where a
      whole kern or kerx table is asked for, start 0 is no table, which has no subtables; elsewhere it is a start as any other.
@@ -43,7 +44,7 @@ typedef __SIZE_TYPE__ size_t;
 #endif
 
 /* Rises with every entry or value that is added; what is there stays. */
-#define AAT_VERSION 3
+#define AAT_VERSION 4
 
 #ifdef __cplusplus
 extern "C" {
@@ -67,6 +68,14 @@ enum aat_verdict {
     AAT_SORTED = 1,     /* first at most last in every record, and each last below the next first */
     AAT_BAD = 2,        /* some record is out of order or not wholly in the table */
     AAT_UNIT_SIZE = 3,  /* the table states a unit size, at start + 2, that is not its format's: 6 in 2 and 4, 4 in 6 */
+};
+
+/* Why nothing was found, which the entries that end in _why write with AAT_NOTHING alone. Reads are tried in the crate's order,
+   and none behind one that fails. */
+enum aat_why {
+    AAT_NOT_COVERED = 1,    /* all that was tried could be read, and the table has nothing for the glyph or the pair */
+    AAT_CUT_SHORT = 2,      /* a number that was to be read does not lie wholly in the table, or the start is past it */
+    AAT_UNKNOWN_FORMAT = 3, /* the lookup table's format is none of the six: 0, 2, 4, 6, 8, 10 */
 };
 
 enum { AAT_LONGEST_TABLE = 16777216, AAT_LARGEST_ROOM = 4096, AAT_MOST_HEADS = 65535, AAT_DELETED = 0xFFFF };
@@ -125,6 +134,12 @@ enum aat_order { AAT_LAYOUT = 0, AAT_REVERSE_LAYOUT = 1, AAT_LOGICAL = 2, AAT_RE
    Answers: AAT_DONE, AAT_NOTHING (no element, or it can't be read), AAT_TABLE.
    Writes: value. */
 uint32_t aat_lookup(const uint8_t *table, size_t table_len, size_t start, uint16_t glyph, uint32_t *value);
+
+/* The same, and why there is none.
+   Answers and value: as with aat_lookup.
+   Writes: value with AAT_DONE; why, an enum aat_why, with AAT_NOTHING. Of a record of format 2 the last glyph is read, and
+   the first one only where the glyph does not lie behind that. */
+uint32_t aat_lookup_why(const uint8_t *table, size_t table_len, size_t start, uint16_t glyph, uint32_t *value, uint32_t *why);
 
 /* Whether the records of the lookup table at start are in order, so that a search by halves finds what is there.
    Answers: AAT_DONE, AAT_NOTHING (format or count can't be read), AAT_TABLE.
@@ -263,6 +278,16 @@ uint32_t aat_kern_pair(const uint8_t *table, size_t table_len, size_t start, uin
                        int32_t *value);
 uint32_t aat_kerx_pair(const uint8_t *table, size_t table_len, size_t start, uint16_t version, uint16_t left, uint16_t right,
                        int32_t *value);
+
+/* The same, and why there is no number.
+   Answers and value: as with aat_kern_pair and aat_kerx_pair.
+   Writes: value with AAT_DONE; why, an enum aat_why, with AAT_NOTHING. A search that ends without the pair is
+   AAT_NOT_COVERED. Of class pairs (kerx format 2) the left glyph's lookup speaks first, then the right one's, then the
+   number's read. */
+uint32_t aat_kern_pair_why(const uint8_t *table, size_t table_len, size_t start, uint16_t version, uint16_t left, uint16_t right,
+                           int32_t *value, uint32_t *why);
+uint32_t aat_kerx_pair_why(const uint8_t *table, size_t table_len, size_t start, uint16_t version, uint16_t left, uint16_t right,
+                           int32_t *value, uint32_t *why);
 
 /* Adds what the kern or kerx subtable at start says of the line.
    Answers: AAT_DONE; AAT_ENDED, with what was added before the subtable broke off; AAT_TABLE; AAT_LINE, also for an

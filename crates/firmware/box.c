@@ -54,6 +54,9 @@
       35 kern_next_subtable    cursor 3 x 8, fields 5 x 8        answer 4, cursor, fields
       36 kerx_next_subtable    as 35                             as 35
       37 insert                as 8, then count 2, place 8       as 12
+      38 lookup_why            as 1, then why 4                  answer 4, value 4, why 4
+      39 kern_pair_why         as 19, then why 4                 answer 4, value 4, why 4
+      40 kerx_pair_why         as 39                             as 39
 
    A name is its length 4 and the bytes. Glyphs, tags and homes are each a count 4 and so many numbers 2, the adjustments along
    the line a count 4 and so many numbers 8; a reply has the numbers alone.
@@ -208,6 +211,16 @@ static void look(value_of_glyph *entry) {
     put(value, 4);
 }
 
+static void lookup_why(void) {
+    start = take(8);
+    glyph = (uint16_t)take(2);
+    uint32_t value = (uint32_t)take(4);
+    uint32_t why = (uint32_t)take(4);
+    put(aat_lookup_why(table, table_len, start, glyph, &value, &why), 4);
+    put(value, 4);
+    put(why, 4);
+}
+
 static void survey(void) {
     start = take(8);
     uint32_t verdict = (uint32_t)take(4);
@@ -333,6 +346,20 @@ static void pair(value_of_pair *entry) {
     int32_t value = (int32_t)take(4);
     put(entry(table, table_len, start, version, left, right, &value), 4);
     put((uint32_t)value, 4);
+}
+
+typedef uint32_t reason_of_pair(const uint8_t *, size_t, size_t, uint16_t, uint16_t, uint16_t, int32_t *, uint32_t *);
+
+static void pair_why(reason_of_pair *entry) {
+    start = take(8);
+    version = (uint16_t)take(2);
+    uint16_t left = (uint16_t)take(2);
+    uint16_t right = (uint16_t)take(2);
+    int32_t value = (int32_t)take(4);
+    uint32_t why = (uint32_t)take(4);
+    put(entry(table, table_len, start, version, left, right, &value, &why), 4);
+    put((uint32_t)value, 4);
+    put(why, 4);
 }
 
 typedef uint32_t kerning_pass(const uint8_t *, size_t, size_t, uint16_t, const uint16_t *, size_t, const uint16_t *, size_t,
@@ -461,6 +488,9 @@ static void answer(uint8_t call) {
     case 35: next(aat_kern_next_subtable, 3, 5); break;
     case 36: next(aat_kerx_next_subtable, 3, 5); break;
     case 37: insert(); break;
+    case 38: lookup_why(); break;
+    case 39: pair_why(aat_kern_pair_why); break;
+    case 40: pair_why(aat_kerx_pair_why); break;
     default: exit(1);
     }
 }

@@ -3,10 +3,12 @@
 use crate::fuzz::case::Chosen;
 use crate::fuzz::seeds::{self, Seed};
 use crate::fuzz::source::Source;
+use crate::questions::reasons::WithReason;
 use crate::questions::value::{Asked, Value};
 use crate::questions::{Ask, Part, Question};
 use crate::reference::kerning::{Kerning, Subtable};
 use crate::reference::oracle::{caught, Answer, Fault, LONGEST_TABLE};
+use crate::reference::reasons::{self, Why};
 use crate::tables::kerning::{any_subtable, classes, editions, formats, Edition, Pair};
 use crate::tables::lines::any_glyphs;
 use crate::tables::lookup::with_values;
@@ -15,6 +17,7 @@ use crate::wire::entries::Entry;
 use std::rc::Rc;
 
 /// A call of `aat_kern_pair` or `aat_kerx_pair`.
+#[derive(Clone, Copy)]
 pub struct OfPair {
     pub edition: Edition,
     pub left: u16,
@@ -46,6 +49,18 @@ impl Asked for OfPair {
             None => Answer::Head,
         };
         Ok((answer.map(|number| i32::from(number) as u32), None))
+    }
+
+    fn with_reason(&self, start: u64, written: Option<Answer<u32>>) -> Option<Box<dyn Question>> {
+        Some(WithReason::of(Value { start, asked: *self, written }))
+    }
+
+    fn why(&self, table: &[u8], start: u64) -> Result<Option<Why>, Fault> {
+        let Edition { kerning, version, .. } = self.edition;
+        match table.get(start as usize..) {
+            Some(bytes) => reasons::pair(kerning, &kerning.alone(version, bytes), self.left, self.right),
+            None => Ok(None),
+        }
     }
 
     fn describe(&self) -> String {

@@ -3,9 +3,11 @@
 use crate::fuzz::case::Chosen;
 use crate::fuzz::seeds::Seed;
 use crate::fuzz::source::Source;
+use crate::questions::reasons::WithReason;
 use crate::questions::value::{Asked, Value};
 use crate::questions::{Ask, Part, Question};
 use crate::reference::oracle::{self, Answer, Fault, LONGEST_TABLE};
+use crate::reference::reasons::{self, Why};
 use crate::reference::survey::{plain_look, survey, Verdict};
 use crate::tables::lookup::{record_size, with_records, words, Made, Record};
 use crate::tables::random::Random;
@@ -15,6 +17,7 @@ use crate::wire::reply::number;
 use std::rc::Rc;
 
 /// The element of a glyph.
+#[derive(Clone, Copy)]
 pub struct Lookup {
     pub glyph: u16,
 }
@@ -31,6 +34,14 @@ impl Asked for Lookup {
     fn answers(&self, table: &[u8], start: u64) -> Result<(Answer<u32>, Option<Answer<u32>>), Fault> {
         let plain = plain_look(table, start, self.glyph).map(|answer| answer.map(u32::from));
         Ok((oracle::lookup(table, start, self.glyph)?.map(u32::from), plain))
+    }
+
+    fn with_reason(&self, start: u64, written: Option<Answer<u32>>) -> Option<Box<dyn Question>> {
+        Some(WithReason::of(Value { start, asked: *self, written }))
+    }
+
+    fn why(&self, table: &[u8], start: u64) -> Result<Option<Why>, Fault> {
+        reasons::lookup(table, start, self.glyph)
     }
 
     fn describe(&self) -> String {

@@ -11,6 +11,7 @@ pub mod lists;
 pub mod lone_insertion;
 pub mod lookup;
 pub mod passes;
+pub mod reasons;
 pub mod runs;
 pub mod steps;
 pub mod value;
@@ -46,6 +47,10 @@ pub trait Question {
     fn describe(&self, held: u64) -> String;
     /// A reply to it in words.
     fn describe_reply(&self, reply: &[u8]) -> String;
+    /// The same question to the entry that also says why nothing was found, where there is one.
+    fn with_reason(&self) -> Option<Box<dyn Question>> {
+        None
+    }
     /// What the crate does, step by step, where there are steps.
     fn trace(&self, _table: &[u8]) -> Vec<String> {
         Vec::new()
@@ -84,6 +89,7 @@ pub trait Part: Sync {
 /// All parts, in the order in which they are asked.
 pub static PARTS: &[&dyn Part] = &[
     &lookup::Lookups,
+    &reasons::Reasons::Lookups,
     &classes::Classes,
     &language::Languages,
     &verbs::Verbs,
@@ -100,11 +106,13 @@ pub static PARTS: &[&dyn Part] = &[
     &lists::Lists,
     &runs::Runs,
     &kerning_pairs::Pairs(Kern),
+    &reasons::Reasons::Pairs(Kern),
     &kerning_passes::Passes(Kern),
     &kerning_steps::Steps(Kern),
     &kerning_lists::Lists(Kern),
     &kerning_runs::Runs(Kern),
     &kerning_pairs::Pairs(Kerx),
+    &reasons::Reasons::Pairs(Kerx),
     &kerning_passes::Passes(Kerx),
     &kerning_steps::Steps(Kerx),
     &kerning_lists::Lists(Kerx),

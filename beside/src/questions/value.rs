@@ -2,6 +2,7 @@
 
 use crate::questions::Question;
 use crate::reference::oracle::{Answer, Fault};
+use crate::reference::reasons::Why;
 use crate::wire::entries::Entry;
 use crate::wire::reply::number;
 
@@ -13,6 +14,14 @@ pub trait Asked {
     fn tell(&self, call: &mut Vec<u8>);
     /// The right answer, and those that other rules give, which have to be the same.
     fn answers(&self, table: &[u8], start: u64) -> Result<(Answer<u32>, Option<Answer<u32>>), Fault>;
+    /// The same, asked of the entry that also says why nothing was found, where there is one.
+    fn with_reason(&self, _start: u64, _written: Option<Answer<u32>>) -> Option<Box<dyn Question>> {
+        None
+    }
+    /// Why the crate finds nothing; None where it finds something.
+    fn why(&self, _table: &[u8], _start: u64) -> Result<Option<Why>, Fault> {
+        Ok(None)
+    }
     /// What is asked for in words.
     fn describe(&self) -> String;
     /// Adds the case as the sample has it.
@@ -71,6 +80,10 @@ impl<T: Asked> Question for Value<T> {
 
     fn describe(&self, held: u64) -> String {
         format!("{} at start {}, lent value {}", self.asked.describe(), self.start, held as u32)
+    }
+
+    fn with_reason(&self) -> Option<Box<dyn Question>> {
+        self.asked.with_reason(self.start, self.written)
     }
 
     fn describe_reply(&self, reply: &[u8]) -> String {

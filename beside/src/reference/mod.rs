@@ -13,6 +13,7 @@ pub mod oracle;
 pub mod pass;
 pub mod passes_by_crate;
 pub mod rearrange;
+pub mod reasons;
 pub mod run;
 pub mod shaper;
 pub mod step;

@@ -1,6 +1,6 @@
 //! A copy of the crate, made when this is built, in which the fields of the states, of what a step hands over and of morx's
-//! lists are public, so that steps can be made from lent states and lists gone through from lent cursors. Nothing else
-//! differs: every pass and every list from its start on is made by both, and compared.
+//! lists are public, so that steps can be made from lent states and lists gone through from lent cursors, and in which a read
+//! that fails is noted. Nothing else differs: every pass and every list from its start on is made by both, and compared.
 
 #[path = "../../../target/beside/aat.rs"]
 #[allow(dead_code)] // the crate has parts that nobody here asks for
@@ -12,3 +12,21 @@ mod parse;
 
 pub use crate::reference::oracle::{raw_tag, RawTag};
 pub use parse::*;
+use std::cell::Cell;
+
+thread_local! {
+    static A_READ_FAILED: Cell<bool> = Cell::new(false);
+}
+
+/// What a read that fails gives, in the copy; it is noted.
+fn failed_read<T>() -> Option<T> {
+    A_READ_FAILED.with(|failed| failed.set(true));
+    None
+}
+
+/// What some work gives, and whether a read failed on the way.
+pub fn noting<T>(work: impl FnOnce() -> T) -> (T, bool) {
+    A_READ_FAILED.with(|failed| failed.set(false));
+    let given = work();
+    (given, A_READ_FAILED.with(Cell::get))
+}

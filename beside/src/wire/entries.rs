@@ -53,4 +53,7 @@ entries! {
     KernNextSubtable "aat_kern_next_subtable",
     KerxNextSubtable "aat_kerx_next_subtable",
     Insert "aat_insert",
+    LookupWhy "aat_lookup_why",
+    KernPairWhy "aat_kern_pair_why",
+    KerxPairWhy "aat_kerx_pair_why",
 }

@@ -8,6 +8,8 @@ use borrow.Author.Tests.{ne-eqb}
 use Rattle.parse.specs.Reads.{u32At}
 use Rattle.parse.proofs.Laws.{readU32-got, readU32-short, u32-from}
 use Rattle.tables.specs.Lookup.{lookupAt}
+use Rattle.tables.specs.declared.lookup.Why.{Why}
+use Rattle.tables.specs.declared.lookup.Found.the-variants as Found′
 use Rattle.contextual.specs.Substitutes.{substituteBy, substituteOf}
 use Rattle.contextual.specs.Manual.{substitutionTable, lookupNumber}
 use Rattle.contextual.specs.declared.Substitute.the-variants.{None}
@@ -26,3 +28,8 @@ module _ (bytes : List ℕ) (number glyph : ℕ) (n : number ≡ 0xFFFF → ⊥)
   unfolding substituteOf
   past-manual k =
       rw (ne-eqb number 0xFFFF n, readU32-got bytes 16 h, readU32-short bytes (u32At bytes 16 + number * 4) k, substituteOf)
+
+  -- a lookup that finds nothing leaves the glyph, whatever the reason
+  pub contextual-drops : u32At bytes 16 + number * 4 + 4 ≤ length bytes → (why : Why) → lookupAt (lookupNumber bytes number) glyph ≡ Found′.Nothing why
+      → substituteOf bytes number glyph ≡ None
+  contextual-drops k why e = by-manual k ∙ ap substituteBy e

@@ -1,5 +1,6 @@
 -- What the exported entries leave in the numbers lent to them.
 pub mod Survey
+pub mod Reasons
 pub mod Steps
 pub mod Runs
 pub mod Cursors

@@ -8,5 +8,5 @@ use Rattle.pairs.specs.declared.PairReply.the-variants.{Number, Nothing, Refuse
 -- a pair's number is one of 16 bits
 abbrev pub IsSmall : PairReply → Type 0
 IsSmall (Number z) = mag z < 32768
-IsSmall Nothing = Unit {0}
+IsSmall (Nothing why) = Unit {0}
 IsSmall (Refused why) = Unit {0}

@@ -13,7 +13,7 @@ ghost use Rattle.firmware.specs.KernSteps.{noKerning, kerningFrom, kerni
 ghost use Rattle.firmware.specs.Small.{IsSmall};
 
 // Puts the number of a pair where it was lent, and answers with the reply's number.
-fn put_pair(reply: PairReply, value: &mut i32) -> u32
+pub fn put_pair(reply: PairReply, value: &mut i32) -> u32
     requires { ⌜ IsSmall reply ⌝ }
     ensures answer { λ r. ⌜ r ≡ numberOf (answerOf reply) ⌝ }
     ensures value { λ _. ⌜ now (value .exit) ≡ valueOf reply (now (value .entry)) ⌝ }
@@ -23,7 +23,7 @@ fn put_pair(reply: PairReply, value: &mut i32) -> u32
             *value = number as i32;
             0
         }
-        PairReply::Nothing => 1,
+        PairReply::Nothing(_) => 1,
         PairReply::Refused(why) => answers::refusal_number(why),
     }
 }

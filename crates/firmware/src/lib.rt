@@ -1,9 +1,11 @@
 // Every entry that the box's C firmware calls, thin over the proved crates; aat.h declares them.
 use answers::Reply;
 use line::FreshLine;
+use tables::lookup::LookupReply;
 use tables::survey::Surveyed;
 ghost use mathlib.Core.Path.{_≡_};
 ghost use Rattle.answers.specs.Numbers.{numberOf, answerOf, valueOf};
+ghost use Rattle.tables.specs.Lookup as Lookup;
 ghost use Rattle.tables.specs.Lookup.{lookupReply};
 ghost use Rattle.tables.specs.Survey.{surveyed};
 ghost use Rattle.state_tables.specs.Classes.{classExtended, classClassic};
@@ -23,6 +25,7 @@ mod cursors;
 mod kern_cursors;
 mod kern_steps;
 mod kerns;
+mod reasons;
 mod runs;
 mod steps;
 
@@ -41,13 +44,28 @@ fn put_reply(reply: Reply, value: &mut u32) -> u32
     }
 }
 
+// Puts the element of a lookup's reply where it was lent, and answers with the reply's number.
+pub fn put_element(reply: LookupReply, value: &mut u32) -> u32
+    ensures answer { λ r. ⌜ r ≡ numberOf (Lookup.answerOf reply) ⌝ }
+    ensures value { λ _. ⌜ now (value .exit) ≡ Lookup.valueOf reply (now (value .entry)) ⌝ }
+{
+    match reply {
+        LookupReply::Element(element) => {
+            *value = element as u32;
+            0
+        }
+        LookupReply::Nothing(_) => 1,
+        LookupReply::Refused(why) => answers::refusal_number(why),
+    }
+}
+
 // The element of a glyph in the lookup table at `start`.
 #[no_mangle]
 pub extern "C" fn aat_lookup(table: &[u8], start: usize, glyph: u16, value: &mut u32) -> u32
-    ensures answer { λ r. ⌜ r ≡ numberOf (answerOf (lookupReply (now (table .entry)) start glyph)) ⌝ }
-    ensures value { λ _. ⌜ now (value .exit) ≡ valueOf (lookupReply (now (table .entry)) start glyph) (now (value .entry)) ⌝ }
+    ensures answer { λ r. ⌜ r ≡ numberOf (Lookup.answerOf (lookupReply (now (table .entry)) start glyph)) ⌝ }
+    ensures value { λ _. ⌜ now (value .exit) ≡ Lookup.valueOf (lookupReply (now (table .entry)) start glyph) (now (value .entry)) ⌝ }
 {
-    put_reply(tables::lookup::lookup(table, start, glyph), value)
+    put_element(tables::lookup::lookup(table, start, glyph), value)
 }
 
 // The class of a glyph in the extended state table at `start`.

@@ -20,6 +20,7 @@ use Rattle.pairs.specs.Reply.{replyOf}
 use Rattle.pairs.specs.Manual.{Rising, OrderedValue}
 use Rattle.pairs.specs.Manual as Pairs′
 use Rattle.pairs.specs.declared.PairReply.{PairReply}
+use Rattle.tables.specs.declared.lookup.Why.the-variants.{NotCovered}
 use Rattle.pairs.specs.declared.PairTable.the-variants.{Ordered}
 use Rattle.pairs.specs.declared.Opened.the-variants.{Ready}
 use Rattle.pairs.proofs.Manual.{ordered-as-manual}
@@ -130,8 +131,8 @@ module _ (bytes : List ℕ) (left right : ℕ) where
 pub kern-pair-as-manual : (edition : Edition) (bytes : List ℕ) (left right : ℕ) → HasPairs edition bytes
     → Rising bytes (firstPair edition) (pairCount edition bytes)
     → Pairs′.AsManual (pairIn kern bytes (versionNumber edition) left right)
-    (OrderedValue bytes 0 (firstPair edition) (pairCount edition bytes) left right)
+    (OrderedValue bytes 0 (firstPair edition) (pairCount edition bytes) left right) NotCovered
 kern-pair-as-manual edition bytes left right has rising =
-    subst (λ (r : PairReply). Pairs′.AsManual r (OrderedValue bytes 0 (firstPair edition) (pairCount edition bytes) left right))
+    subst (λ (r : PairReply). Pairs′.AsManual r (OrderedValue bytes 0 (firstPair edition) (pairCount edition bytes) left right) NotCovered)
     (sym (pair-is bytes left right edition has))
     (ordered-as-manual bytes 0 (firstPair edition) (pairCount edition bytes) left right refl rising)

@@ -21,6 +21,7 @@ use Rattle.pairs.specs.Reply.{replyOf}
 use Rattle.pairs.specs.Manual.{Rising, OrderedValue, ClassValue, Legible, Covered}
 use Rattle.pairs.specs.Manual as Pairs′
 use Rattle.pairs.specs.declared.PairReply.{PairReply}
+use Rattle.tables.specs.declared.lookup.Why.the-variants.{NotCovered, CutShort}
 use Rattle.pairs.specs.declared.PairTable.the-variants.{Ordered, Classes}
 use Rattle.pairs.specs.declared.Opened.the-variants.{Ready}
 use Rattle.pairs.proofs.Manual.{ordered-as-manual, class-as-manual}
@@ -141,8 +142,10 @@ module _ (bytes : List ℕ) (version left right : ℕ) where
 
   pub kerx-pair-as-manual : HasPairs bytes → tupleCount bytes version ≡ 0 → Rising bytes 28 (pairCount bytes)
       → Pairs′.AsManual (pairIn kerx bytes version left right) (OrderedValue bytes (tupleCount bytes version) 28 (pairCount bytes) left right)
+      NotCovered
   kerx-pair-as-manual has none rising =
-      subst (λ (r : PairReply). Pairs′.AsManual r (OrderedValue bytes (tupleCount bytes version) 28 (pairCount bytes) left right)) (sym (pairs-are has))
+      subst (λ (r : PairReply). Pairs′.AsManual r (OrderedValue bytes (tupleCount bytes version) 28 (pairCount bytes) left right) NotCovered)
+      (sym (pairs-are has))
       (ordered-as-manual bytes (tupleCount bytes version) 28 (pairCount bytes) left right none rising)
 
   -- of glyphs that both tables cover
@@ -150,9 +153,9 @@ module _ (bytes : List ℕ) (version left right : ℕ) where
       → Legible (drop (rowsOf bytes) bytes) glyphs left leftLayout → Legible (drop (columnsOf bytes) bytes) glyphs right rightLayout
       → Covered (drop (rowsOf bytes) bytes) glyphs left leftLayout → Covered (drop (columnsOf bytes) bytes) glyphs right rightLayout
       → Pairs′.AsManual (pairIn kerx bytes version left right)
-      (ClassValue bytes glyphs (rowsOf bytes) (columnsOf bytes) (arrayOf bytes) left right leftLayout rightLayout)
+      (ClassValue bytes glyphs (rowsOf bytes) (columnsOf bytes) (arrayOf bytes) left right leftLayout rightLayout) CutShort
   kerx-class-as-manual has none glyphs leftLayout rightLayout l r left-there right-there =
       subst
-      (λ (x : PairReply). Pairs′.AsManual x (ClassValue bytes glyphs (rowsOf bytes) (columnsOf bytes) (arrayOf bytes) left right leftLayout rightLayout))
+      (λ (x : PairReply). Pairs′.AsManual x (ClassValue bytes glyphs (rowsOf bytes) (columnsOf bytes) (arrayOf bytes) left right leftLayout rightLayout) CutShort)
       (sym (classes-are has))
-      (class-as-manual bytes glyphs (rowsOf bytes) (columnsOf bytes) (arrayOf bytes) left right leftLayout rightLayout l r)
+      (class-as-manual bytes glyphs (rowsOf bytes) (columnsOf bytes) (arrayOf bytes) left right leftLayout rightLayout l r left-there right-there)

@@ -1,7 +1,10 @@
-// Runs document 01's known answers through the proved entries and prints each; those it marks are proved in the crate `promises`.
+// Runs document 01's known answers through the proved entries and prints each, and of lookups that find nothing why; those it marks are proved in the
+// crate `promises`.
 use answers::Reply;
 use shaper::SHAPER_ROOM;
 use shaper::Shaped;
+use tables::lookup::LookupReply;
+use tables::lookup::Why;
 
 const OUT: i32 = 1;
 
@@ -56,9 +59,58 @@ fn print_reply(reply: Reply) {
     io::write_all(OUT, b"\n");
 }
 
+fn print_why(why: Why) {
+    match why {
+        Why::NotCovered => {
+            io::write_all(OUT, b" not covered");
+        }
+        Why::CutShort => {
+            io::write_all(OUT, b" cut short");
+        }
+        Why::UnknownFormat => {
+            io::write_all(OUT, b" unknown format");
+        }
+    }
+}
+
+// The same of a lookup, and why there is no value.
+fn print_found(reply: LookupReply) {
+    match reply {
+        LookupReply::Element(element) => {
+            print_number(b": answer ", 0);
+            print_number(b" value ", element as u64);
+        }
+        LookupReply::Nothing(why) => {
+            print_number(b": answer ", 1);
+            print_why(why);
+        }
+        LookupReply::Refused(why) => {
+            print_number(b": answer ", answers::refusal_number(why) as u64)
+        }
+    }
+    io::write_all(OUT, b"\n");
+}
+
 fn print_lookup(glyph: u16) {
     print_number(b"lookup of glyph ", glyph as u64);
-    print_reply(tables::lookup::lookup(&TRIMMED, 0, glyph));
+    print_found(tables::lookup::lookup(&TRIMMED, 0, glyph));
+}
+
+// In the first bytes of a table; all of them are there.
+fn print_lookup_cut(table: &[u8], length: usize, glyph: u16) {
+    if table.len() < length {
+        return;
+    }
+    print_number(b"lookup in ", length as u64);
+    print_number(b" bytes of glyph ", glyph as u64);
+    print_found(tables::lookup::lookup(&table[..length], 0, glyph));
+}
+
+// In a table of another format.
+fn print_lookup_format(format: u8, glyph: u16) {
+    print_number(b"lookup in format ", format as u64);
+    print_number(b" of glyph ", glyph as u64);
+    print_found(tables::lookup::lookup(&[0, format], 0, glyph));
 }
 
 // The class of a glyph in an extended state table whose class table is that lookup.
@@ -152,6 +204,8 @@ fn main() {
     print_lookup(6);
     print_lookup(4);
     print_lookup(7);
+    print_lookup_cut(&TRIMMED, 8, 6);
+    print_lookup_format(3, 6);
     print_class(0xFFFF);
     print_offset(0x3FFFFFFF, -1);
     print_offset(0x20000000, -536_870_912);

@@ -3,3 +3,4 @@ mod Calls
 mod Memos
 mod Passes
 pub mod Honesty
+pub mod Reasons

@@ -2,3 +2,4 @@
 mod Laws
 pub mod Passes
 pub mod Manual
+pub mod Reasons

@@ -27,9 +27,10 @@ use Rattle.tables.proofs.Finding.{search-finds-pair}
 use Rattle.tables.proofs.ManualLookup.{lookup-as-manual}
 use Rattle.pairs.specs.Pairs.{keyOf, numberAt, numberIn, orderedNumber, numberInRow, classNumber, pairNumber}
 use Rattle.pairs.specs.Reply.{numberReply, replyOf}
-use Rattle.pairs.specs.Manual.{pairKey, IsPair, pairValue, Rising, OrderedValue, ClassPair, ClassValue, Legible, AsManual}
+use Rattle.pairs.specs.Manual.{pairKey, IsPair, pairValue, Rising, OrderedValue, ClassPair, ClassValue, Legible, Covered, AsManual}
 use Rattle.pairs.specs.declared.PairTable.the-variants.{Ordered, Classes}
 use Rattle.pairs.specs.declared.Opened.the-variants.{Ready}
+use Rattle.pairs.specs.declared.PairReply.the-variants as Reply′
 use Rattle.pairs.specs.declared.Number.{Number}
 use Rattle.pairs.specs.declared.Number.the-variants.{By, Nothing}
 
@@ -52,33 +53,44 @@ number-found bytes place value e = go (inside bytes place 2) refl
         (inside-fits bytes place 2 f, cc)
     go false f = not-both (numberAt bytes place) CutShort e (rw (f, numberAt))
 
--- what finds just the values that are there is NOTHING exactly when there is none
-joined : (n : Number) (Value : ℤ → Type 0) → ((value : ℤ) → n ≡ By value → Value value) → ((value : ℤ) → Value value → n ≡ By value)
-    → AsManual (numberReply n) Value
-joined (By number) Value found there =
+number-cut : (bytes : List ℕ) (place : ℕ) (why : Why) → numberAt bytes place ≡ Nothing why → why ≡ CutShort
+unfolding numberAt readI16
+number-cut bytes place why e = go (inside bytes place 2) refl
+  where
+    go : (t : Bool) → inside bytes place 2 ≡ t → why ≡ CutShort
+    go true f = not-both {value = signed16 (u16At bytes place)} (numberAt bytes place) why (rw (f, numberAt)) e
+    go false f = let n : Nothing CutShort ≡ Nothing why = sym (rw (f, numberAt)) ∙ e in cc
+
+-- what finds just the values that are there is NOTHING exactly when there is none; the reason is the only one that it can have
+joined : (n : Number) (Value : ℤ → Type 0) (reason : Why) → ((value : ℤ) → n ≡ By value → Value value) → ((value : ℤ) → Value value → n ≡ By value)
+    → ((why : Why) → n ≡ Nothing why → why ≡ reason) → AsManual (numberReply n) Value reason
+joined (By number) Value reason found there only =
     record {
       found = λ value e. found value (let same : number ≡ value = cc in ap By same);
       there = λ value v. ap numberReply (there value v);
-      nothing = λ e value v. let z : _≡_ {A = ℕ} 0 1 = cc in absurd (omega arith);
+      nothing = λ why e value v. let z : _≡_ {A = ℕ} 0 1 = cc in absurd (omega arith);
       none = λ never. absurd (never number (found number refl));
     }
-joined (Nothing why) Value found there =
+joined (Nothing why) Value reason found there only =
     record {
       found = λ value e. let z : _≡_ {A = ℕ} 0 1 = cc in absurd (omega arith);
       there = λ value v. ap numberReply (there value v);
-      nothing = λ e value v. not-both (Nothing why) why (there value v) refl;
-      none = λ never. refl;
+      nothing = λ any e value v. not-both (Nothing why) why (there value v) refl;
+      none = λ never. ap Reply′.Nothing (only why refl);
     }
 
 -- the one value that is there, or none
-one-value : (n : Number) (Value : ℤ → Type 0) (number : ℤ) → n ≡ By number → Value number → ((value : ℤ) → Value value → value ≡ number)
-    → AsManual (numberReply n) Value
-one-value n Value number e v only =
-    joined n Value (λ value f. let same : By number ≡ By value = sym e ∙ f in subst Value (let s : number ≡ value = cc in s) v)
+one-value : (n : Number) (Value : ℤ → Type 0) (reason : Why) (number : ℤ) → n ≡ By number → Value number
+    → ((value : ℤ) → Value value → value ≡ number) → AsManual (numberReply n) Value reason
+one-value n Value reason number e v only =
+    joined n Value reason (λ value f. let same : By number ≡ By value = sym e ∙ f in subst Value (let s : number ≡ value = cc in s) v)
     (λ value w. e ∙ ap By (sym (only value w)))
+    (λ why f. not-both n why e f)
 
-no-value : (n : Number) (Value : ℤ → Type 0) (why : Why) → n ≡ Nothing why → ((value : ℤ) → Value value → ⊥) → AsManual (numberReply n) Value
-no-value n Value why e never = joined n Value (λ value f. not-both n why f e) (λ value v. absurd (never value v))
+no-value : (n : Number) (Value : ℤ → Type 0) (reason : Why) → n ≡ Nothing reason → ((value : ℤ) → Value value → ⊥) → AsManual (numberReply n) Value reason
+no-value n Value reason e never =
+    joined n Value reason (λ value f. not-both n reason f e) (λ value v. absurd (never value v))
+    (λ why f. let same : Nothing reason ≡ Nothing why = sym e ∙ f in cc)
 
 module _ (bytes : List ℕ) (tuples first count left right : ℕ) (none : tuples ≡ 0) (rising : Rising bytes first count) where
   the-one : TheOne (pairKey bytes first) (pairKey bytes first) count (keyOf left right) (searched bytes first Keys′.Pairs count (keyOf left right))
@@ -90,7 +102,7 @@ module _ (bytes : List ℕ) (tuples first count left right : ℕ) (none : tuples
       number-inside bytes (pairPlace first i + 4) (omega (arith, rising .whole i h))
       ∙ ap By (sym (rw (eq-eqb tuples 0 none)))
 
-  pub ordered-as-manual : AsManual (replyOf bytes (Ready (Ordered first count)) left right) (OrderedValue bytes tuples first count left right)
+  pub ordered-as-manual : AsManual (replyOf bytes (Ready (Ordered first count)) left right) (OrderedValue bytes tuples first count left right) NotCovered
   unfolding replyOf pairNumber orderedNumber numberIn
   ordered-as-manual = go (searched bytes first Keys′.Pairs count (keyOf left right)) refl
     where
@@ -105,10 +117,11 @@ module _ (bytes : List ℕ) (tuples first count left right : ℕ) (none : tuples
       held i p = record { counted = p .counted; above = omega (arith, p .glyphs); below = omega (arith, p .glyphs) }
 
       go : (s : Spot) → searched bytes first Keys′.Pairs count (keyOf left right) ≡ s
-          → AsManual (numberReply (orderedNumber bytes first count left right)) (OrderedValue bytes tuples first count left right)
+          → AsManual (numberReply (orderedNumber bytes first count left right)) (OrderedValue bytes tuples first count left right) NotCovered
       go (At j) e =
           let one = right-one (At j) e in
-          one-value (orderedNumber bytes first count left right) (OrderedValue bytes tuples first count left right) (pairValue bytes tuples first j)
+          one-value (orderedNumber bytes first count left right) (OrderedValue bytes tuples first count left right) NotCovered
+          (pairValue bytes tuples first j)
           (is (At j) e ∙ value-is j (one .0 .counted))
           (j, record { counted = one .0 .counted; glyphs = omega (arith, one .0 .above, one .0 .below) }, refl)
           (λ value v. v .2 ∙ ap (λ (k : ℕ). pairValue bytes tuples first k) (one .1 (v .0) (held (v .0) (v .1))))
@@ -161,6 +174,16 @@ module _ (bytes : List ℕ) (glyphs rows columns array left right : ℕ) (leftLa
       go (Found′.At a) (Found′.Nothing why) f g = not-both (classNumber bytes rows columns array left right) why e (rw (f, g, classNumber))
       go (Found′.Nothing why) b f g = not-both (classNumber bytes rows columns array left right) why e (rw (f, classNumber))
 
-  pub class-as-manual : AsManual (replyOf bytes (Ready (Classes rows columns array)) left right) Value
+  -- of glyphs that both lookups cover, only the number can be cut short
+  class-cut : Covered (drop rows bytes) glyphs left leftLayout → Covered (drop columns bytes) glyphs right rightLayout → (why : Why)
+      → classNumber bytes rows columns array left right ≡ Nothing why → why ≡ CutShort
+  unfolding classNumber numberInRow
+  class-cut (row, rowLies, rowInside) (column, columnLies, columnInside) why e =
+      let a = row-found .there row rowLies rowInside in
+      let b = column-found .there column columnLies columnInside in
+      number-cut bytes (array + u16At (drop rows bytes) row + u16At (drop columns bytes) column) why (sym (rw (a, b, classNumber)) ∙ e)
+
+  pub class-as-manual : Covered (drop rows bytes) glyphs left leftLayout → Covered (drop columns bytes) glyphs right rightLayout
+      → AsManual (replyOf bytes (Ready (Classes rows columns array)) left right) Value CutShort
   unfolding replyOf pairNumber
-  class-as-manual = joined (classNumber bytes rows columns array left right) Value class-found class-there
+  class-as-manual lefts rights = joined (classNumber bytes rows columns array left right) Value CutShort class-found class-there (class-cut lefts rights)

@@ -23,6 +23,7 @@ use Rattle.tables.proofs.Openings.{opened-same}
 use Rattle.tables.specs.declared.records.Keys.the-variants as Keys′
 use Rattle.tables.specs.declared.records.Spot.{Spot}
 use Rattle.tables.specs.declared.records.Spot.the-variants as Spot′
+use Rattle.tables.specs.declared.lookup.Why.{Why}
 use Rattle.tables.specs.declared.lookup.Found.{Found}
 use Rattle.tables.specs.declared.lookup.Found.the-variants as Found′
 use Rattle.kerning.specs.Additions.{Addition, addAt, addAll}
@@ -198,3 +199,8 @@ reply-number bytes pairs left right {opened} {number} {z} o e f =
     let h : pairNumber bytes pairs left right ≡ By z = sym e ∙ f in
     let fits : SFits w16 z = subst Sized h (sized bytes pairs left right) in
     rw (o, replyOf, h) (ap Reply′.Number (toZ-ofZ fits))
+
+pub reply-nothing : (bytes : List ℕ) (pairs : PairTable) (left right : ℕ) {opened : Opened} {number : Number} {why : Why} → opened ≡ Ready pairs
+    → number ≡ pairNumber bytes pairs left right → number ≡ Nothing why → Reply′.Nothing why ≡ replyOf bytes opened left right
+unfolding replyOf
+reply-nothing bytes pairs left right o e f = rw (o, replyOf, sym e ∙ f)

@@ -10,6 +10,7 @@ use Rattle.laws.specs.Signed.{signed16}
 use Rattle.parse.specs.Reads.{u16At, u32At, readU16}
 use Rattle.parse.specs.declared.ReadU16.the-variants.{Got}
 use Rattle.tables.specs.ManualLookup.{Layout, formatNumber, Lies, Alike}
+use Rattle.tables.specs.declared.lookup.Why.{Why}
 use Rattle.pairs.specs.declared.PairReply.{PairReply}
 use Rattle.pairs.specs.declared.PairReply.the-variants.{Number, Nothing}
 
@@ -67,9 +68,9 @@ Legible bytes glyphs glyph layout = (readU16 bytes 0 ≡ Got (formatNumber layou
 abbrev pub Covered : List ℕ → (glyphs glyph : ℕ) → Layout → Type 0
 Covered bytes glyphs glyph layout = (place : ℕ) × Lies bytes glyphs glyph layout place × (place + 2 ≤ length bytes)
 
--- the answer for a pair is the manual's: DONE with just the value that the pair has, NOTHING exactly when it has none
-pub record AsManual (reply : PairReply) (Value : ℤ → Type 0) : Type 0 where
+-- the answer for a pair is the manual's: DONE with just the value that the pair has, NOTHING exactly when it has none, and then for this reason
+pub record AsManual (reply : PairReply) (Value : ℤ → Type 0) (reason : Why) : Type 0 where
   pub found : (value : ℤ) → reply ≡ Number value → Value value
   pub there : (value : ℤ) → Value value → reply ≡ Number value
-  pub nothing : reply ≡ Nothing → (value : ℤ) → Value value → ⊥
-  pub none : ((value : ℤ) → Value value → ⊥) → reply ≡ Nothing
+  pub nothing : (why : Why) → reply ≡ Nothing why → (value : ℤ) → Value value → ⊥
+  pub none : ((value : ℤ) → Value value → ⊥) → reply ≡ Nothing reason

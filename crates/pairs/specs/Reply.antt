@@ -18,19 +18,19 @@ use Rattle.pairs.specs.declared.PairReply.the-variants.{Number, Nothing,
 -- the answer of a reply: a number is DONE
 abbrev pub answerOf : PairReply → Answer
 answerOf (Number z) = Answer′.Done
-answerOf Nothing = Answer′.Nothing
+answerOf (Nothing why) = Answer′.Nothing
 answerOf (Refused why) = Answer′.Refused why
 
 -- the number lent for the value, afterwards: the pair's number, or as it was
 abbrev pub valueOf : PairReply → ℤ → ℤ
 valueOf (Number z) was = z
-valueOf Nothing was = was
+valueOf (Nothing why) was = was
 valueOf (Refused why) was = was
 
--- the public answer, which drops why nothing was found
+-- the public answer: the number, or nothing and why
 abbrev pub numberReply : Pair′.Number → PairReply
 numberReply (Number′.By z) = Number z
-numberReply (Number′.Nothing why) = Nothing
+numberReply (Number′.Nothing why) = Nothing why
 
 -- HEAD where the pairs can't be opened
 unfoldable pub replyOf : List ℕ → Opened → (left right : ℕ) → PairReply

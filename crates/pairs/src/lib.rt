@@ -41,11 +41,11 @@ pub enum Number {
     Nothing(Why),
 }
 
-// The answer for a pair of glyphs.
+// The answer for a pair of glyphs: a refusal, its number, or nothing and why. In this order the compiler takes no `Number` for a refusal.
 pub enum PairReply {
-    Number(i16),
-    Nothing,
     Refused(Refusal),
+    Number(i16),
+    Nothing(Why),
 }
 
 // kern format 0: the count stands right behind the head, the pairs 8 bytes further on.
@@ -165,10 +165,11 @@ pub fn reply(bytes: &[u8], opened: Opened, left: u16, right: u16) -> PairReply
     let Opened::Ready(pairs) = opened else {
         return PairReply::Refused(Refusal::Head);
     };
-    let Number::By(number) = number_of(bytes, pairs, left, right) else {
-        return PairReply::Nothing;
-    };
-    PairReply::Number(number)
+    let found = number_of(bytes, pairs, left, right);
+    match found {
+        Number::By(number) => PairReply::Number(number),
+        Number::Nothing(why) => PairReply::Nothing(why),
+    }
 }
 
 // What a pair gives is added to the place of its left glyph, the one before `place`.

@@ -21,25 +21,28 @@ use Rattle.shaper.proofs.Honesty.{shaped-runs}
 use Rattle.parse.proofs.Laws.{u8-from, u16-from, u32-from}
 use Rattle.tables.proofs.Finding.{search-finds, search-finds-pair}
 use Rattle.tables.proofs.ManualLookup.{lookup-as-manual}
+use Rattle.tables.proofs.Reasons.{why-exact, uncovered-exact, lookup-passes-on}
 use Rattle.tables.proofs.Surveys.{survey-sound, survey-complete, survey-bad, survey-exact}
-use Rattle.state_tables.proofs.Manual.{class-by-lookup, class-by-array, entry-as-manual}
+use Rattle.state_tables.proofs.Manual.{class-by-lookup, class-drops, class-by-array, entry-as-manual}
 use Rattle.ltag.proofs.Manual.{index-as-manual}
 use Rattle.verbs.proofs.Drawing.{as-drawn}
 use Rattle.verbs.proofs.Laws.{from-place, place-from, placeOf-below, length-rearranged, getD-rearranged}
-use Rattle.contextual.proofs.Manual.{by-manual, past-manual}
+use Rattle.contextual.proofs.Manual.{by-manual, past-manual, contextual-drops}
+use Rattle.noncontextual.proofs.Reasons.{noncontextual-drops}
 use Rattle.ligature.proofs.Manual.{action-by-manual, action-past-manual, component-by-manual, component-past-manual, ligature-by-manual, ligature-past-manual}
 use Rattle.insertion.proofs.Manual.{glyphs-by-manual, list-by-manual, list-past-manual, list-at-end}
 use Rattle.chains.proofs.ManualWalk.{walk-as-manual}
 use Rattle.chains.proofs.Manual.{order-as-manual, reverse-as-manual, vertical-as-manual, chain-as-manual, chains-end, feature-as-manual, features-end, subtable-as-manual, subtables-end}
+use Rattle.pairs.proofs.Reasons.{pair-passes-on, absent-uncovered, left-speaks-first, right-speaks-next, number-speaks-last, pass-drops}
 use Rattle.kern.proofs.Cursors as KernCursor
 use Rattle.kern.proofs.Manual.{kern-as-manual, kern-without-list, kern-pair-as-manual}
 use Rattle.kern_machine.proofs.Manual.{list-as-manual}
 use Rattle.kerx.proofs.Cursors as KerxCursor
 use Rattle.kerx.proofs.Manual.{kerx-as-manual, kerx-without-list, kerx-pair-as-manual, kerx-class-as-manual}
 use Rattle.promises.specs.Demand1.{Demand1}
-use Rattle.promises.specs.Demand2.{Lookups, StateTables, Verbs, SubtableLists, Chains, Kerning, Demand2}
+use Rattle.promises.specs.Demand2.{Lookups, Reasons, StateTables, Verbs, SubtableLists, Chains, Kerning, Demand2}
 use Rattle.promises.specs.Demand3.{Demand3}
-use Rattle.promises.proofs.Known.{known-answers}
+use Rattle.promises.proofs.Known.{known-answers, known-reasons}
 
 pub demand1 : Demand1
 demand1 =
@@ -76,6 +79,24 @@ lookups =
       survey-complete = survey-complete;
       survey-bad = survey-bad;
       survey-exact = survey-exact;
+    }
+
+reasons : Reasons
+reasons =
+    record {
+      why-exact = why-exact;
+      uncovered-exact = uncovered-exact;
+      known-reasons = known-reasons;
+      lookup-passes-on = lookup-passes-on;
+      pair-passes-on = pair-passes-on;
+      absent-uncovered = absent-uncovered;
+      left-speaks-first = left-speaks-first;
+      right-speaks-next = right-speaks-next;
+      number-speaks-last = number-speaks-last;
+      class-drops = class-drops;
+      contextual-drops = contextual-drops;
+      noncontextual-drops = noncontextual-drops;
+      pass-drops = pass-drops;
     }
 
 state-tables : StateTables
@@ -141,6 +162,7 @@ pub demand2 : Demand2
 demand2 =
     record {
       lookups = lookups;
+      reasons = reasons;
       state-tables = state-tables;
       verbs = verbs;
       subtable-lists = subtable-lists;

@@ -14,12 +14,17 @@ use Rattle.parse.specs.declared.ReadU32.the-variants as U32
 use Rattle.tables.specs.Records.{pairPlace, formatOf}
 use Rattle.tables.specs.Search.{searched}
 use Rattle.tables.specs.Survey.{scanned, surveyAt}
-use Rattle.tables.specs.Lookup.{lookupAt}
-use Rattle.tables.specs.Order.{InOrder, FirstBad, Says, TheOne, firstOf, lastOf}
+use Rattle.tables.specs.Lookup.{lookupAt, replyOf, lookupReply}
+use Rattle.tables.specs.Order.{InOrder, FirstBad, Says, Holds, TheOne, firstOf, lastOf}
+use Rattle.tables.specs.Reasons.{Because}
 use Rattle.tables.specs.ManualLookup as Lookup
 use Rattle.tables.specs.declared.records.Format.the-variants.{Records}
 use Rattle.tables.specs.declared.records.Kind.{Kind}
 use Rattle.tables.specs.declared.records.Keys.the-variants.{Glyphs, Pairs}
+use Rattle.tables.specs.declared.records.Spot.the-variants as Spot
+use Rattle.tables.specs.declared.lookup.Why.{Why}
+use Rattle.tables.specs.declared.lookup.Why.the-variants.{NotCovered, CutShort}
+use Rattle.tables.specs.declared.lookup.Found.the-variants as Found
 use Rattle.tables.specs.declared.survey.Surveyed.{Surveyed}
 use Rattle.tables.specs.declared.survey.Surveyed.the-variants.{Sorted, Bad}
 use Rattle.state_tables.specs.States.{extendedAt, classicAt}
@@ -32,6 +37,7 @@ use Rattle.ltag.specs.Ltag.{languageIndex}
 use Rattle.ltag.specs.Manual as Ltag
 use Rattle.verbs.specs.Verbs.{placeOf, fromOf, rearranged}
 use Rattle.verbs.specs.Drawn.{AsDrawn}
+use Rattle.noncontextual.specs.NonContextual.{writesBelow}
 use Rattle.contextual.specs.Substitutes.{substituteOf, substituteBy}
 use Rattle.contextual.specs.Manual.{lookupNumber}
 use Rattle.contextual.specs.declared.Substitute.the-variants as Substitute
@@ -48,6 +54,15 @@ use Rattle.chains.specs.Manual.{manualOrder, manualReversed, onlyVertical, Lie,
 use Rattle.chains.specs.declared.NextChain.the-variants as Chain
 use Rattle.chains.specs.declared.NextFeature.the-variants as Feature
 use Rattle.chains.specs.declared.NextSubtable.the-variants as Subtable
+use Rattle.pairs.specs.Pairs.{keyOf, numberAt, pairNumber}
+use Rattle.pairs.specs.Reply.{numberReply}
+use Rattle.pairs.specs.Reply as Reply
+use Rattle.pairs.specs.Pass.{everyPlace, pairsBelow}
+use Rattle.pairs.specs.declared.PairTable.{PairTable}
+use Rattle.pairs.specs.declared.PairTable.the-variants.{Ordered, Classes}
+use Rattle.pairs.specs.declared.Opened.the-variants as Opened
+use Rattle.pairs.specs.declared.Number.{Number}
+use Rattle.pairs.specs.declared.Number.the-variants as Number
 use Rattle.pairs.specs.Manual.{Rising, OrderedValue, ClassValue, Legible, Covered}
 use Rattle.pairs.specs.Manual as Pair
 use Rattle.kerning_lists.specs.Manual as List′
@@ -58,7 +73,7 @@ use Rattle.kern.specs.Manual as Kern
 use Rattle.kern_machine.specs.Manual.{WholeList}
 use Rattle.kerx.specs.Kerx.{kerx}
 use Rattle.kerx.specs.Manual as Kerx
-use Rattle.promises.specs.Known.{AllKnown}
+use Rattle.promises.specs.Known.{AllKnown, KnownReasons}
 
 -- Lookup tables and their survey.
 pub record Lookups : Type 0 where
@@ -83,6 +98,51 @@ pub record Lookups : Type 0 where
   -- where format and count can be read, the survey answers each of sorted, bad and another unit size exactly when it should
   pub survey-exact : (bytes : List ℕ) (kind : Kind) {number : ℕ} → readU16 bytes 0 ≡ U16.Got number → formatOf number ≡ Records kind → 6 ≤ length bytes
       → (s : Surveyed) → (surveyAt bytes ≡ s → Says bytes kind s) × (Says bytes kind s → surveyAt bytes ≡ s)
+
+-- Why nothing is found: what each reason says, who passes it on and who drops it.
+pub record Reasons : Type 0 where
+  -- unknown format exactly when the format can be read and is none of the six, cut short exactly when a read that the lookup tries fails, not covered
+  -- otherwise
+  pub why-exact : (bytes : List ℕ) (glyph : ℕ) (why : Why)
+      → (lookupAt bytes glyph ≡ Found.Nothing why → Because bytes glyph why) × (Because bytes glyph why → lookupAt bytes glyph ≡ Found.Nothing why)
+  -- on a table that the survey passes not covered means that no record holds the glyph
+  pub uncovered-exact : (bytes : List ℕ) (kind : Kind) (glyph : ℕ) {number : ℕ} → readU16 bytes 0 ≡ U16.Got number → formatOf number ≡ Records kind
+      → surveyAt bytes ≡ Sorted
+      → (lookupAt bytes glyph ≡ Found.Nothing NotCovered → (i : ℕ) → Holds (firstOf bytes kind) (lastOf bytes kind) (u16At bytes 4) glyph i → ⊥)
+      × (((i : ℕ) → Holds (firstOf bytes kind) (lastOf bytes kind) (u16At bytes 4) glyph i → ⊥) → lookupAt bytes glyph ≡ Found.Nothing NotCovered)
+  -- each reason once, by computation
+  pub known-reasons : KnownReasons
+  -- a lookup's answer passes it on
+  pub lookup-passes-on : (table : List ℕ) (start glyph : ℕ) → length table ≤ tableLimit
+      → lookupReply table start glyph ≡ replyOf (lookupAt (drop start table) glyph)
+  -- and so does a pair's
+  pub pair-passes-on : (bytes : List ℕ) (pairs : PairTable) (left right : ℕ)
+      → Reply.replyOf bytes (Opened.Ready pairs) left right ≡ numberReply (pairNumber bytes pairs left right)
+  -- a search that ends without the pair is not covered
+  pub absent-uncovered : (bytes : List ℕ) (first count left right : ℕ) → searched bytes first Pairs count (keyOf left right) ≡ Spot.Absent
+      → pairNumber bytes (Ordered first count) left right ≡ Number.Nothing NotCovered
+  -- of class pairs the left glyph's lookup speaks first, then the right one's, then the number's read
+  pub left-speaks-first : (bytes : List ℕ) (rows columns array left right : ℕ) (why : Why) → lookupAt (drop rows bytes) left ≡ Found.Nothing why
+      → pairNumber bytes (Classes rows columns array) left right ≡ Number.Nothing why
+  pub right-speaks-next : (bytes : List ℕ) (rows columns array left right row : ℕ) (why : Why) → lookupAt (drop rows bytes) left ≡ Found.At row
+      → lookupAt (drop columns bytes) right ≡ Found.Nothing why → pairNumber bytes (Classes rows columns array) left right ≡ Number.Nothing why
+  pub number-speaks-last : (bytes : List ℕ) (rows columns array left right row column : ℕ) → lookupAt (drop rows bytes) left ≡ Found.At row
+      → lookupAt (drop columns bytes) right ≡ Found.At column
+      → pairNumber bytes (Classes rows columns array) left right ≡ numberAt bytes (array + row + column)
+  -- classes drop it: 1, whatever the reason
+  pub class-drops : (bytes : List ℕ) (glyph : ℕ) (why : Why) {states : States} → extendedAt bytes ≡ Ready states → (glyph ≡ 65535 → ⊥)
+      → lookupAt (drop (classTable extended bytes) bytes) glyph ≡ Found.Nothing why → classOf bytes states glyph ≡ 1
+  -- contextual substitution drops it: there is no substitute, whatever the reason
+  pub contextual-drops : (bytes : List ℕ) (number glyph : ℕ) → (number ≡ 0xFFFF → ⊥) → 20 ≤ length bytes
+      → u32At bytes 16 + number * 4 + 4 ≤ length bytes → (why : Why) → lookupAt (lookupNumber bytes number) glyph ≡ Found.Nothing why
+      → substituteOf bytes number glyph ≡ Substitute.None
+  -- non-contextual substitution drops it: nothing is written at the glyph's place
+  pub noncontextual-drops : (body glyphs : List ℕ) (place : ℕ) (why : Why) → lookupAt body (getD glyphs place 0) ≡ Found.Nothing why
+      → writesBelow body glyphs (suc place) ≡ writesBelow body glyphs place
+  -- the pair pass drops it: two neighbours add nothing
+  pub pass-drops : (number : (left right : ℕ) → Number) (glyphs : List ℕ) (place : ℕ) (why : Why)
+      → number (getD glyphs place 0) (getD glyphs (suc place) 0) ≡ Number.Nothing why
+      → pairsBelow everyPlace number glyphs (suc (suc place)) ≡ pairsBelow everyPlace number glyphs (suc place)
 
 -- State tables: classes and entries.
 pub record StateTables : Type 0 where
@@ -187,16 +247,17 @@ pub record Kerning : Type 0 where
       → length bytes < Kern.firstOf edition → Family′.walkOf kern false bytes ≡ []
   pub kerx-without-list : (rtl : Bool) (bytes : List ℕ) → length bytes < 8 → Family′.walkOf kerx rtl bytes ≡ []
   -- a pair's answer is DONE with just the value that the manual has for it, and NOTHING exactly when it has none: on ordered pairs in rising order
-  -- (in kerx without tuples)
+  -- (in kerx without tuples), where the reason is that the pair is not covered
   pub kern-pair-as-manual : (edition : Kern.Edition) (bytes : List ℕ) (left right : ℕ) → Kern.HasPairs edition bytes
       → Rising bytes (Kern.firstPair edition) (Kern.pairCount edition bytes)
       → Pair.AsManual (Family′.pairIn kern bytes (Kern.versionNumber edition) left right)
-      (OrderedValue bytes 0 (Kern.firstPair edition) (Kern.pairCount edition bytes) left right)
+      (OrderedValue bytes 0 (Kern.firstPair edition) (Kern.pairCount edition bytes) left right) NotCovered
   pub kerx-pair-as-manual : (bytes : List ℕ) (version left right : ℕ) → Kerx.HasPairs bytes → Kerx.tupleCount bytes version ≡ 0
       → Rising bytes 28 (Kerx.pairCount bytes)
       → Pair.AsManual (Family′.pairIn kerx bytes version left right)
-      (OrderedValue bytes (Kerx.tupleCount bytes version) 28 (Kerx.pairCount bytes) left right)
-  -- and on class pairs without tuples, of glyphs that both lookups cover, in the reading of them that is taken for the manual's
+      (OrderedValue bytes (Kerx.tupleCount bytes version) 28 (Kerx.pairCount bytes) left right) NotCovered
+  -- and on class pairs without tuples, of glyphs that both lookups cover, in the reading of them that is taken for the manual's; there only the number can
+  -- be cut short
   pub kerx-class-as-manual : (bytes : List ℕ) (version left right : ℕ) → Kerx.HasClasses bytes → Kerx.tupleCount bytes version ≡ 0
       → (glyphs : ℕ) (leftLayout rightLayout : Lookup.Layout)
       → Legible (drop (Kerx.rowsOf bytes) bytes) glyphs left leftLayout
@@ -204,7 +265,7 @@ pub record Kerning : Type 0 where
       → Covered (drop (Kerx.rowsOf bytes) bytes) glyphs left leftLayout
       → Covered (drop (Kerx.columnsOf bytes) bytes) glyphs right rightLayout
       → Pair.AsManual (Family′.pairIn kerx bytes version left right)
-      (ClassValue bytes glyphs (Kerx.rowsOf bytes) (Kerx.columnsOf bytes) (Kerx.arrayOf bytes) left right leftLayout rightLayout)
+      (ClassValue bytes glyphs (Kerx.rowsOf bytes) (Kerx.columnsOf bytes) (Kerx.arrayOf bytes) left right leftLayout rightLayout) CutShort
   -- what kern's machine adds for an entry, along the stream or across it, is the manual's whole list: a number for each place popped, up to an odd one or
   -- the empty stack; the step ends exactly when such a number does not lie in the table
   pub list-as-manual : (bytes : List ℕ) (crossed : Bool) (flags : ℕ) (stack : List ℕ) (depth used : ℕ)
@@ -212,6 +273,7 @@ pub record Kerning : Type 0 where
 
 pub record Demand2 : Type 0 where
   pub lookups : Lookups
+  pub reasons : Reasons
   pub state-tables : StateTables
   pub verbs : Verbs
   pub subtable-lists : SubtableLists

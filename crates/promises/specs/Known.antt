@@ -2,7 +2,9 @@
 use Prim.Native.Nat.{ℕ}
 use mathlib.Core.Path.{_≡_}
 use mathlib.Core.List.{List, [], _∷_, map}
+use lib.ListN.{take}
 use Rattle.answers.specs.Numbers.{numberOf, answerOf}
+use Rattle.answers.specs.declared.Answer.the-variants as Answer
 use Rattle.answers.specs.declared.Reply.{Reply}
 use Rattle.answers.specs.declared.Reply.the-variants.{Value, Nothing, Refused}
 use lib.IntN.{ℤ, pos, negsuc}
@@ -11,6 +13,9 @@ use Rattle.line.specs.Entries.{Left, freshOf, verbCall}
 use Rattle.state_tables.specs.Classes.{classExtended}
 use Rattle.ligature.specs.Actions.{offsetOf}
 use Rattle.tables.specs.Lookup.{lookupReply}
+use Rattle.tables.specs.declared.lookup.Why.the-variants.{NotCovered, CutShort, UnknownFormat}
+use Rattle.tables.specs.declared.lookup.LookupReply.{LookupReply}
+use Rattle.tables.specs.declared.lookup.LookupReply.the-variants as Lookup
 
 -- what is asked: the element of a glyph in the lookup table that these bytes are; the glyphs of the line 10 to 14 after a verb on a window; the
 -- class of a glyph in the extended state table that these bytes are; the offset of a ligature action
@@ -30,6 +35,11 @@ given (Value v) = record { number = 0; values = pos v ∷ [] }
 given Nothing = record { number = 1; values = [] }
 given (Refused why) = record { number = numberOf (answerOf (Refused why)); values = [] }
 
+abbrev looked : LookupReply → Given
+looked (Lookup.Element element) = record { number = 0; values = pos element ∷ [] }
+looked (Lookup.Nothing why) = record { number = 1; values = [] }
+looked (Lookup.Refused why) = record { number = numberOf (Answer.Refused why); values = [] }
+
 -- a fresh line of five characters
 abbrev line : Line
 line = freshOf (10 ∷ 11 ∷ 12 ∷ 13 ∷ 14 ∷ []) (0 ∷ 0 ∷ 0 ∷ 0 ∷ 0 ∷ []) (0 ∷ 0 ∷ 0 ∷ 0 ∷ 0 ∷ [])
@@ -38,7 +48,7 @@ abbrev left : Left → Given
 left l = record { number = numberOf (l .answer); values = map pos (l .line .glyphs) }
 
 unfoldable pub answerTo : Asked → Given
-answerTo (lookup bytes glyph) = given (lookupReply bytes 0 glyph)
+answerTo (lookup bytes glyph) = looked (lookupReply bytes 0 glyph)
 answerTo (verb number start end) = left (verbCall line number start end)
 answerTo (class bytes glyph) = given (classExtended bytes 0 glyph)
 answerTo (offset action) = record { number = 0; values = offsetOf action ∷ [] }
@@ -82,3 +92,9 @@ rows =
 -- every row is answered as it says
 abbrev pub AllKnown : Type 0
 AllKnown = map (λ (r : Row). answerTo (r .asked)) rows ≡ map (λ (r : Row). r .answer) rows
+
+-- why nothing is found: a glyph before the first, an element that is cut off, a format that no lookup table has
+pub record KnownReasons : Type 0 where
+  pub before-the-first : lookupReply trimmed 0 4 ≡ Lookup.Nothing NotCovered
+  pub cut-off : lookupReply (take 8 trimmed) 0 6 ≡ Lookup.Nothing CutShort
+  pub format-three : lookupReply (0 ∷ 3 ∷ []) 0 6 ≡ Lookup.Nothing UnknownFormat

@@ -1,8 +1,8 @@
 // Replays a sample of the crate's answers, with no Rust at hand: `beside/run --sample FILE` writes what is read here.
 mod results;
 
-use answers::Reply;
 use shaper::SHAPER_ROOM;
+use tables::lookup::LookupReply;
 use tables::survey::Surveyed;
 
 const OUT: i32 = 1;
@@ -49,19 +49,19 @@ fn glyph_of(fields: &[u8]) -> u16 {
     glyph
 }
 
-fn of_lookup(reply: Reply) -> Numbers {
+fn of_lookup(reply: LookupReply) -> Numbers {
     match reply {
-        Reply::Value(element) => Numbers {
+        LookupReply::Element(element) => Numbers {
             answer: 0,
-            first: element,
+            first: element as u32,
             second: 0,
         },
-        Reply::Nothing => Numbers {
+        LookupReply::Nothing(_) => Numbers {
             answer: 1,
             first: 0,
             second: 0,
         },
-        Reply::Refused(why) => Numbers {
+        LookupReply::Refused(why) => Numbers {
             answer: answers::refusal_number(why),
             first: 0,
             second: 0,

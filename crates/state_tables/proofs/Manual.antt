@@ -16,6 +16,7 @@ use Rattle.parse.proofs.Laws.{u8-from, u16-from, u8-read, u8-value, u16-value, 
 use Rattle.tables.specs.Lookup.{lookupAt}
 use Rattle.tables.specs.ManualLookup.{formatNumber, Alike}
 use Rattle.tables.specs.ManualLookup as Lookup
+use Rattle.tables.specs.declared.lookup.Why.{Why}
 use Rattle.tables.specs.declared.lookup.Found.{Found}
 use Rattle.tables.specs.declared.lookup.Found.the-variants as Found′
 use Rattle.tables.proofs.ManualLookup.{lookup-as-manual}
@@ -93,6 +94,12 @@ class-by-lookup bytes layout glyphs glyph e format alike =
     rw (ne-eqb glyph 65535 real)
     (in-lookup table layout glyphs glyph real (lookup-as-manual layout table glyphs glyph format (alike real)) (lookupAt table glyph) refl))
     (eq-or-ne glyph 65535))
+
+-- a lookup that finds nothing gives class 1, whatever the reason
+pub class-drops : (bytes : List ℕ) (glyph : ℕ) (why : Why) {states : States} → extendedAt bytes ≡ Ready states → (glyph ≡ 65535 → ⊥)
+    → lookupAt (drop (classTable extended bytes) bytes) glyph ≡ Found′.Nothing why → classOf bytes states glyph ≡ 1
+unfolding classOf classIn classByLookup
+class-drops bytes glyph why e real f = ap (λ (s : States). classOf bytes s glyph) (extended-is bytes e) ∙ rw (ne-eqb glyph 65535 real, f)
 
 -- the cell that is read is the manual's
 module _ (bytes : List ℕ) (state class : ℕ) where

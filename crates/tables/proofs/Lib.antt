@@ -5,5 +5,6 @@ mod Scanning
 pub mod Surveys
 pub mod Finding
 pub mod ManualLookup
+pub mod Reasons
 pub mod Openings
 mod Wholeness

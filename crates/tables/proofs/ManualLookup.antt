@@ -221,7 +221,7 @@ module _ (bytes : List ℕ) (glyphs glyph : ℕ) (u : Units) (e : lookupAt bytes
           ∙ ap (elementPlace bytes u glyph) (same-place bytes u glyph sizes i))
 
 -- a survey that passes has read the count, found the unit size that the records have, and all of them in order
-passed : (bytes : List ℕ) (kind : Kind) → surveyIn bytes (Records kind) ≡ Sorted
+pub passed : (bytes : List ℕ) (kind : Kind) → surveyIn bytes (Records kind) ≡ Sorted
     → (readU16 bytes 4 ≡ Got (unitCount bytes)) × (unitSize bytes ≡ strideOf kind) × InOrder bytes kind (unitCount bytes)
 unfolding surveyIn
 passed bytes kind e =

@@ -7,3 +7,4 @@ pub mod Whole
 pub mod Survey
 pub mod Order
 pub mod ManualLookup
+pub mod Reasons

@@ -3,9 +3,11 @@ use Prim.Native.Nat.{ℕ, _+_, _-_, _*_}
 use mathlib.Core.List.{List, [], _∷_}
 use lib.ListN.{length, drop}
 use Rattle.laws.specs.Choose.{ifLt}
-use Rattle.answers.specs.Refuse.{refuse, tableTest, checked}
-use Rattle.answers.specs.declared.Reply.{Reply}
-use Rattle.answers.specs.declared.Reply.the-variants as Reply′
+use Rattle.answers.specs.Refuse.{refuse, tableTest}
+use Rattle.answers.specs.declared.Answer.{Answer}
+use Rattle.answers.specs.declared.Answer.the-variants as Answer′
+use Rattle.answers.specs.declared.Check.{Check}
+use Rattle.answers.specs.declared.Check.the-variants as Check′
 use Rattle.parse.specs.Reads.{readU16}
 use Rattle.parse.specs.Use.{onU16}
 use Rattle.tables.specs.Records.{recordPlace, formatOf}
@@ -21,6 +23,8 @@ use Rattle.tables.specs.declared.lookup.Why.{Why}
 use Rattle.tables.specs.declared.lookup.Why.the-variants.{NotCovered, CutShort, UnknownFormat}
 use Rattle.tables.specs.declared.lookup.Found.{Found}
 use Rattle.tables.specs.declared.lookup.Found.the-variants.{At, Nothing}
+use Rattle.tables.specs.declared.lookup.LookupReply.{LookupReply}
+use Rattle.tables.specs.declared.lookup.LookupReply.the-variants as Reply′
 
 -- the element at a place
 unfoldable pub elementAt : List ℕ → ℕ → Found
@@ -66,10 +70,27 @@ inFormat bytes Unknown glyph = Nothing UnknownFormat
 unfoldable pub lookupAt : List ℕ → ℕ → Found
 lookupAt bytes glyph = onU16 (readU16 bytes 0) (λ format. inFormat bytes (formatOf format) glyph) (Nothing CutShort)
 
--- the public answer, which drops why nothing was found
-abbrev pub replyOf : Found → Reply
-replyOf (At element) = Reply′.Value element
-replyOf (Nothing why) = Reply′.Nothing
+-- the public answer: the element, or nothing and why
+abbrev pub replyOf : Found → LookupReply
+replyOf (At element) = Reply′.Element element
+replyOf (Nothing why) = Reply′.Nothing why
 
-unfoldable pub lookupReply : List ℕ → ℕ → ℕ → Reply
-lookupReply table start glyph = checked (refuse (tableTest (length table) ∷ [])) (replyOf (lookupAt (drop start table) glyph))
+-- a refused call is answered so, any other by its work
+abbrev pub checkedLookup : Check → LookupReply → LookupReply
+checkedLookup Check′.Passed work = work
+checkedLookup (Check′.Refused why) work = Reply′.Refused why
+
+unfoldable pub lookupReply : List ℕ → ℕ → ℕ → LookupReply
+lookupReply table start glyph = checkedLookup (refuse (tableTest (length table) ∷ [])) (replyOf (lookupAt (drop start table) glyph))
+
+-- the answer of a reply: an element is DONE
+abbrev pub answerOf : LookupReply → Answer
+answerOf (Reply′.Element element) = Answer′.Done
+answerOf (Reply′.Nothing why) = Answer′.Nothing
+answerOf (Reply′.Refused why) = Answer′.Refused why
+
+-- the number lent for the value, afterwards: the element, or as it was
+abbrev pub valueOf : LookupReply → ℕ → ℕ
+valueOf (Reply′.Element element) was = element
+valueOf (Reply′.Nothing why) was = was
+valueOf (Reply′.Refused why) was = was

@@ -5,7 +5,7 @@ use crate::records::Keys;
 use crate::records::Kind;
 use crate::records::Spot;
 use answers::Check;
-use answers::Reply;
+use answers::Refusal;
 use parse::bytes::Bytes;
 ghost use mathlib.Core.Path.{_≡_};
 ghost use Prim.Native.Nat.{_-_, _<_, _^_};
@@ -21,6 +21,13 @@ pub enum Why {
 // The element of a glyph, or why there is none.
 pub enum Found {
     At(u16),
+    Nothing(Why),
+}
+
+// The public answer: a refusal, the element of a glyph, or nothing and why. In this order the compiler takes no `Found` for a refusal.
+pub enum LookupReply {
+    Refused(Refusal),
+    Element(u16),
     Nothing(Why),
 }
 
@@ -121,27 +128,28 @@ pub fn lookup_at(bytes: &[u8], glyph: u16) -> Found
 }
 
 // The element of a glyph in the lookup table at `start`: the work behind the reader.
-fn lookup_from(table: &[u8], start: usize, glyph: u16) -> Reply
+fn lookup_from(table: &[u8], start: usize, glyph: u16) -> LookupReply
     ensures { λ r. ⌜ r ≡ lookupReply (now (table .entry)) start glyph ⌝ }
 {
     if let Check::Refused(why) = answers::refuse_table(table.len()) {
-        return Reply::Refused(why);
+        return LookupReply::Refused(why);
     }
-    let Found::At(element) = lookup_at(parse::from(table, start), glyph) else {
-        return Reply::Nothing;
-    };
-    Reply::Value(element as u32)
+    let found = lookup_at(parse::from(table, start), glyph);
+    match found {
+        Found::At(element) => LookupReply::Element(element),
+        Found::Nothing(why) => LookupReply::Nothing(why),
+    }
 }
 
 // The element of a glyph in the lookup table that a reader holds.
-pub fn lookup_in<'a>(bytes: Bytes<'a>, glyph: u16) -> Reply
+pub fn lookup_in<'a>(bytes: Bytes<'a>, glyph: u16) -> LookupReply
     ensures { λ r. ⌜ r ≡ lookupReply (now (bytes .entry .table)) (bytes .entry .start) glyph ⌝ }
 {
     lookup_from(bytes.table, bytes.start, glyph)
 }
 
 // The element of a glyph in the lookup table at `start`.
-pub fn lookup(table: &[u8], start: usize, glyph: u16) -> Reply
+pub fn lookup(table: &[u8], start: usize, glyph: u16) -> LookupReply
     ensures { λ r. ⌜ r ≡ lookupReply (now (table .entry)) start glyph ⌝ }
 {
     lookup_in(Bytes::new(table, start), glyph)

@@ -39,11 +39,11 @@ use denote.Exit.{yes}
 use denote.Triple.Clauses.{ensured, lasts}
 use Rattle.tables.specs.Lookup.{lookupReply}
 use Rattle.parse.specs.declared.bytes.Bytes.{Bytes}
-use Rattle.answers.specs.declared.Reply.{Reply}
+use Rattle.tables.specs.declared.lookup.LookupReply.{LookupReply}
 use Rattle.parse.proofs.bytes.Bytes as T
 use Rattle.parse.proofs.bytes.Bytes.Laws as T′
-use Rattle.answers.proofs.Reply as S
-use Rattle.answers.proofs.Reply.Laws as S′
+use Rattle.tables.proofs.lookup.LookupReply as S
+use Rattle.tables.proofs.lookup.LookupReply.Laws as S′
 use Rattle.parse.proofs.bytes.Bytes.new as new
 use Rattle.parse.proofs.bytes.Bytes.new.Symbol as new-def
 use Rattle.parse.proofs.bytes.Bytes.new.Symbol.{name as #new}
@@ -77,7 +77,7 @@ module _ {M : Type 1} (𝓤 : URA M) (H : Heap 𝓤) (A : Atoms 𝓤) (W : Given
   abbrev v : Val
   v = sliceVal (s .ptr) (length (s .now))
 
-  abbrev found : Reply
+  abbrev found : LookupReply
   found = lookupReply (now s) n g
 
   -- the struct's type as a local of a body has it
@@ -124,10 +124,10 @@ module _ {M : Type 1} (𝓤 : URA M) (H : Heap 𝓤) (A : Atoms 𝓤) (W : Given
       qed W (‵ (B (κ, tt) .own r (u ∷ [])) ∷ (‵ (flft κ q) ⊛ ‵ ftrue) ∷ []) ∵
       nothing ! $ owned ! u16 (Is u16) (uint-makes 𝓤 H A W w16) g _ (refl, ok-g) $ fjoin ! $ move ! (1 ∷ 0 ∷ []) $ fjoin ! $ move ! (1 ∷ 0 ∷ []) $ join ! $ frame ! $ done !
 
-  within-said : (r : Bytes) (t : Reply) → ent 𝓤 (ensured 𝓤 H A within.ended (within.clauses 𝓤 H A mem run) (κ, tt) (r, (g, tt)) tt t) (fact 𝓤 (t ≡ lookupReply (now (r .table)) (r .start) g))
+  within-said : (r : Bytes) (t : LookupReply) → ent 𝓤 (ensured 𝓤 H A within.ended (within.clauses 𝓤 H A mem run) (κ, tt) (r, (g, tt)) tt t) (fact 𝓤 (t ≡ lookupReply (now (r .table)) (r .start) g))
   within-said r t = exE 𝓤 _ (λ ws. snd∗ 𝓤 (sem 𝓤 H A (lasts within.ended (κ, tt) (r, (g, tt)) ws)) (fact 𝓤 (t ≡ lookupReply (now (r .table)) (r .start) g)))
 
-  exits : (t : Reply) (u : Val) → t ≡ found → ent 𝓤 (⋆ 𝓤 H A (‵ (S.the-row .own t (u ∷ [])) ∷ (‵ (flft κ q) ⊛ ‵ ftrue) ∷ ‵ Kept ∷ [])) (Post u)
+  exits : (t : LookupReply) (u : Val) → t ≡ found → ent 𝓤 (⋆ 𝓤 H A (‵ (S.the-row .own t (u ∷ [])) ∷ (‵ (flft κ q) ⊛ ‵ ftrue) ∷ ‵ Kept ∷ [])) (Post u)
   exits t u e =
       qed W (‵ (S.the-row .own t (u ∷ [])) ∷ (‵ (flft κ q) ⊛ ‵ ftrue) ∷ ‵ Kept ∷ []) ∵
       suffices ! _ (ends-at 𝓤 H A lookup.ended stayed (lookup.clauses 𝓤 H A mem run) W (((κ, tt), (q, tt), tt, (s, (n, (g, tt))), at), tt) u t (tt, (tt, (tt, tt))) (tt, (tt, (tt, tt)))) $ says ! e $
@@ -148,7 +148,7 @@ module _ {M : Type 1} (𝓤 : URA M) (H : Heap 𝓤) (A : Atoms 𝓤) (W : Given
         land ! (from ! (stop !)) (init ! 3 refl (LL.lawful (T.the-type αᵉ) (T′.the-laws αᵉ) 𝓤 H A W .typed r _ is .0)) $
         use2 W (raw (Within 𝓤 H A mem run .pre (to-within r u))) (goes-within r u) $
         calls-at ! fm (Within 𝓤 H A mem run) known-within (to-within r u) (and-then ! (load ! (from ! (stop !)) (look ! 2 refl)) (and-then ! (load ! (from ! (stop !)) (look ! 4 refl)) (no-more !))) (λ u′.
-        use1 W (later (some (λ (t : Reply). ((‵ (flft κ q) ⊛ ‵ ftrue) ⊛ ‵ (S.the-row .own t (u′ ∷ []))) ⊛ raw (ensured 𝓤 H A within.ended (within.clauses 𝓤 H A mem run) (κ, tt) (r, (g, tt)) tt t)))) (id⊢ 𝓤 _) $ await ! tt $ pick ! (λ t.
+        use1 W (later (some (λ (t : LookupReply). ((‵ (flft κ q) ⊛ ‵ ftrue) ⊛ ‵ (S.the-row .own t (u′ ∷ []))) ⊛ raw (ensured 𝓤 H A within.ended (within.clauses 𝓤 H A mem run) (κ, tt) (r, (g, tt)) tt t)))) (id⊢ 𝓤 _) $ await ! tt $ pick ! (λ t.
         split ! $ move ! (1 ∷ []) $ use1 W (raw (fact 𝓤 (t ≡ lookupReply (now (r .table)) (r .start) g))) (within-said r t) $ heard ! (t ≡ lookupReply (now (r .table)) (r .start) g) (λ e′. split ! $ move ! (1 ∷ []) $
         -- [the result; the token; what is kept; _4; …; _3; …; _2; …; _1; …; room for _0; …]
         peeks ! S.the-row (Is S.the-row) (shows 𝓤 H A S.the-row) t (u′ ∷ []) (λ is′.

@@ -1,4 +1,3 @@
-use borrow.Author.Tests.{lt-ltb, le-ltb}
 use mathlib.Core.Path.{sym, _∙_}
 use Rattle.tables.specs.Lookup.{lookupReply}
 use borrow.Author.Needs.{needs}
@@ -24,33 +23,31 @@ from-requires c κs = search needs
 lookup-at-requires : tie.Need-lookup-at-requires
 lookup-at-requires c κs = search needs
 
-enum-known-element : tie.Need-enum-known-element
-enum-known-element c = search needs
+enum-known-found : tie.Need-enum-known-found
+enum-known-found c = search needs
 
-enum-told-2 : tie.Need-enum-told-2
-enum-told-2 c = search needs
+enum-known-found-2 : tie.Need-enum-known-found-2
+enum-known-found-2 c = search needs
 
 returns-2 : tie.Need-returns-2
 unfolding lookupReply
 returns-2 c =
-    let at-lookup-at = c .before .before in
+    let at-found = c .before in
+    let at-lookup-at = at-found .before .before in
     let at-from = at-lookup-at .before in
     let at-enum-told = at-from .before in
     let at-refuse-table = at-enum-told .before .before in
-    rw (sym (at-refuse-table .refuse-table .ensures) ∙ at-enum-told .enum-told .given .1, ← (at-from .from .ensures), sym (at-lookup-at .lookup-at .ensures) ∙ c .enum-told2 .given .1, lookupReply)
-
-cast-t10 : tie.Need-cast-t10
-cast-t10 c = search needs
+    rw (sym (at-refuse-table .refuse-table .ensures) ∙ at-enum-told .enum-told .given .1, ← (at-from .from .ensures), sym (at-lookup-at .lookup-at .ensures) ∙ at-found .found .given .1, lookupReply)
 
 returns-3 : tie.Need-returns-3
 unfolding lookupReply
 returns-3 c =
-    let at-element = c .before in
-    let at-lookup-at = at-element .before .before in
+    let at-found2 = c .before in
+    let at-lookup-at = at-found2 .before .before in
     let at-from = at-lookup-at .before in
     let at-enum-told = at-from .before in
     let at-refuse-table = at-enum-told .before .before in
-    rw (sym (at-refuse-table .refuse-table .ensures) ∙ at-enum-told .enum-told .given .1, ← (at-from .from .ensures), sym (at-lookup-at .lookup-at .ensures) ∙ at-element .element .given .1, lookupReply)
+    rw (sym (at-refuse-table .refuse-table .ensures) ∙ at-enum-told .enum-told .given .1, ← (at-from .from .ensures), sym (at-lookup-at .lookup-at .ensures) ∙ at-found2 .found2 .given .1, lookupReply)
 
 pub lookup-from-spec : {M : Type 1} → statement M
 lookup-from-spec =
@@ -62,8 +59,7 @@ lookup-from-spec =
     enum-told
     from-requires
     lookup-at-requires
-    enum-known-element
-    enum-told-2
+    enum-known-found
+    enum-known-found-2
     returns-2
-    cast-t10
     returns-3)

@@ -4,8 +4,8 @@ use denote.Enum.Laws as EL
 use denote.Triple.Spec.{tripleOf}
 use denote.Triple.Table.{entered, cited}
 use Rattle.parse.proofs.Taken.{Callee, taken-apart}
-use Rattle.answers.proofs.Reply as R
-use Rattle.answers.proofs.Reply.Laws as R′
+use Rattle.tables.proofs.lookup.LookupReply as R
+use Rattle.tables.proofs.lookup.LookupReply.Laws as R′
 use Rattle.tables.specs.Lookup.{lookupReply}
 use Rattle.tables.proofs.lookup.lookup_from.Symbol as callee
 use Rattle.tables.proofs.lookup.lookup_from.Met as callee-thm
