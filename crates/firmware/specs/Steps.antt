@@ -64,10 +64,20 @@ rearrangementSlots s = s .state ∷ s .first ∷ s .last ∷ s .cycles ∷ []
 unfoldable pub rearrangementStepped : List ℕ → (start : ℕ) → (slots : List ℕ) → (used index glyph ends : ℕ) → RearrangementStep
 rearrangementStepped table start slots used index glyph ends = Rearrangement.stepCall table start (rearrangementFrom slots) used index glyph (isFlag ends)
 
+-- the numbers lent to it, afterwards
+abbrev pub rearrangementState : RearrangementStep → (was : List ℕ) → List ℕ
+rearrangementState step was = unlessRefused (step .answer) was (rearrangementSlots (step .state))
+
+abbrev pub rearrangementAdvance : RearrangementStep → (was : ℕ) → ℕ
+rearrangementAdvance step was = unlessRefused (step .answer) was (step .advance)
+
 -- first, last, verb; without an edit 0 each
 abbrev pub windowSlots : Window → List ℕ
 windowSlots Window′.None = 0 ∷ 0 ∷ 0 ∷ []
 windowSlots (Window′.At first last verb) = first ∷ last ∷ verb ∷ []
+
+abbrev pub rearrangementWindow : RearrangementStep → (was : List ℕ) → List ℕ
+rearrangementWindow step was = unlessRefused (step .answer) was (windowSlots (step .edit))
 
 -- the mark's place is above every length
 abbrev pub noContext : ContextualState
@@ -91,6 +101,13 @@ contextualStepped table start slots l index glyph ends = stepCall contextual tab
 unfoldable pub contextualLeaves : List ℕ → (start : ℕ) → (slots : List ℕ) → Line → (index glyph ends : ℕ) → Line
 contextualLeaves table start slots l index glyph ends = stepLeaves contextual table start (contextualFrom slots) l index glyph (isFlag ends)
 
+abbrev pub contextualState : Stepped ContextualState → (was : List ℕ) → List ℕ
+contextualState step was = unlessRefused (step .answer) was (contextualSlots (step .state))
+
+-- the advance of a step that is lent the line
+abbrev pub advanceBy : {S : Type 0} → Stepped S → (was : ℕ) → ℕ
+advanceBy step was = unlessRefused (step .answer) was (step .advance)
+
 abbrev pub noInsertion : InsertionState
 noInsertion = record { state = 0; mark = 0; cycles = 0xFFFF }
 
@@ -108,6 +125,12 @@ insertionSlots s = s .state ∷ s .mark ∷ s .cycles ∷ []
 unfoldable pub insertionStepped : List ℕ → (start : ℕ) → (slots : List ℕ) → (used room index glyph ends : ℕ) → InsertionStep
 insertionStepped table start slots used room index glyph ends = Insertion.stepCall table start (insertionFrom slots) used room index glyph (isFlag ends)
 
+abbrev pub insertionState : InsertionStep → (was : List ℕ) → List ℕ
+insertionState step was = unlessRefused (step .answer) was (insertionSlots (step .state))
+
+abbrev pub insertionAdvance : InsertionStep → (was : ℕ) → ℕ
+insertionAdvance step was = unlessRefused (step .answer) was (step .advance)
+
 -- how many insertions, then for each its place, its count and where its glyphs lie in the table; the rest is 0
 unfoldable pub editSlots : (marked current : Inserted) → List ℕ
 editSlots Inserted′.None Inserted′.None = 0 ∷ 0 ∷ 0 ∷ 0 ∷ 0 ∷ 0 ∷ 0 ∷ []
@@ -115,6 +138,9 @@ editSlots (Inserted′.At place count glyphs) Inserted′.None = 1 ∷ place ∷
 editSlots Inserted′.None (Inserted′.At place count glyphs) = 1 ∷ place ∷ count ∷ glyphs ∷ 0 ∷ 0 ∷ 0 ∷ []
 editSlots (Inserted′.At place count glyphs) (Inserted′.At place₂ count₂ glyphs₂) =
     2 ∷ place ∷ count ∷ glyphs ∷ place₂ ∷ count₂ ∷ glyphs₂ ∷ []
+
+abbrev pub insertionEdits : InsertionStep → (was : List ℕ) → List ℕ
+insertionEdits step was = unlessRefused (step .answer) was (editSlots (step .marked) (step .current))
 
 -- a ligature's state crosses as the state table's, the depth, 32 places and 32 glyphs
 abbrev pub slotCount : ℕ
@@ -156,3 +182,6 @@ ligatureStepped table start slots l index glyph ends = stepCall ligature table s
 
 unfoldable pub ligatureLeaves : List ℕ → (start : ℕ) → (slots : List ℕ) → Line → (index glyph ends : ℕ) → Line
 ligatureLeaves table start slots l index glyph ends = stepLeaves ligature table start (ligatureFrom slots) l index glyph (isFlag ends)
+
+abbrev pub ligatureState : Stepped LigatureState → (was : List ℕ) → List ℕ
+ligatureState step was = unlessRefused (step .answer) was (ligatureSlots was (step .state))

@@ -12,7 +12,8 @@ ghost use mathlib.Core.Path.{_≡_};
 ghost use Rattle.answers.specs.Numbers.{numberOf};
 ghost use Rattle.chains.specs.Orders.{orderOf, orderNumber};
 ghost use Rattle.chains.specs.Entries.{chainsCall, chainsAnswer, chainAnswer, featureAnswer, subtableAnswer};
-ghost use Rattle.firmware.specs.Cursors.{cursorFrom, cursorSlots, startCursor, chainAfter, chainCursor, chainFields, cursorBehindChain, fieldsOfChain, featureAfter, featureCursor, featureFields, cursorBehindFeature, fieldsOfFeature, subtableAfter, subtableCursor, subtableFields, cursorBehindSubtable, fieldsOfSubtable, reversedNumber};
+ghost use Rattle.firmware.specs.Cursors.{cursorFrom, cursorSlots, startCursor, chainAfter, chainCursor, chainFields, cursorBehindChain, fieldsOfChain, featureAfter, featureCursor, featureFields};
+ghost use Rattle.firmware.specs.Cursors.{cursorBehindFeature, fieldsOfFeature, subtableAfter, subtableCursor, subtableFields, cursorBehindSubtable, fieldsOfSubtable, reversedNumber};
 
 // The numbers of a cursor: the place of its next element, and how many are left.
 fn put_cursor(slots: &mut [u64; 2], cursor: Cursor)

@@ -7,7 +7,8 @@ ghost use Rattle.kerning.specs.Additions.{addAll};
 ghost use Rattle.kerning_lists.specs.Family as List;
 ghost use Rattle.kern.specs.Kern.{kern};
 ghost use Rattle.kerx.specs.Kerx.{kerx};
-ghost use Rattle.firmware.specs.Steps.{isFlag, unlessRefused};
+ghost use Rattle.firmware.specs.Steps.{isFlag};
+ghost use Rattle.firmware.specs.Runs.{kerningHeads};
 
 // The pass over a line, by the kern subtable at `start`.
 #[no_mangle]
@@ -59,7 +60,7 @@ pub extern "C" fn aat_kern_run(
 ) -> u32
     ensures answer { λ r. ⌜ r ≡ numberOf (List.runCall kern (now (table .entry)) start false (lineOf (now (glyphs .entry)) (now (tags .entry)) (now (homes .entry)) used) (now (along .entry)) .answer) ⌝ }
     ensures along { λ _. ⌜ now (along .exit) ≡ List.runCall kern (now (table .entry)) start false (lineOf (now (glyphs .entry)) (now (tags .entry)) (now (homes .entry)) used) (now (along .entry)) .along ⌝ }
-    ensures heads { λ _. ⌜ now (heads .exit) ≡ unlessRefused (List.runCall kern (now (table .entry)) start false (lineOf (now (glyphs .entry)) (now (tags .entry)) (now (homes .entry)) used) (now (along .entry)) .answer) (now (heads .entry)) (List.runCall kern (now (table .entry)) start false (lineOf (now (glyphs .entry)) (now (tags .entry)) (now (homes .entry)) used) (now (along .entry)) .heads) ⌝ }
+    ensures heads { λ _. ⌜ now (heads .exit) ≡ kerningHeads (List.runCall kern (now (table .entry)) start false (lineOf (now (glyphs .entry)) (now (tags .entry)) (now (homes .entry)) used) (now (along .entry))) (now (heads .entry)) ⌝ }
 {
     let run = kern::run(table, start, glyphs, tags, homes, used, along);
     let answer = run.answer;
@@ -87,7 +88,7 @@ pub extern "C" fn aat_kerx_run(
     ensures glyphs { λ _. ⌜ now (glyphs .exit) ≡ now (glyphs .entry) ⌝ }
     ensures tags { λ _. ⌜ now (tags .exit) ≡ now (tags .entry) ⌝ }
     ensures along { λ _. ⌜ now (along .exit) ≡ List.runCall kerx (now (table .entry)) start (isFlag «right_to_left») (lineOf (now (glyphs .entry)) (now (tags .entry)) (now (homes .entry)) used) (now (along .entry)) .along ⌝ }
-    ensures heads { λ _. ⌜ now (heads .exit) ≡ unlessRefused (List.runCall kerx (now (table .entry)) start (isFlag «right_to_left») (lineOf (now (glyphs .entry)) (now (tags .entry)) (now (homes .entry)) used) (now (along .entry)) .answer) (now (heads .entry)) (List.runCall kerx (now (table .entry)) start (isFlag «right_to_left») (lineOf (now (glyphs .entry)) (now (tags .entry)) (now (homes .entry)) used) (now (along .entry)) .heads) ⌝ }
+    ensures heads { λ _. ⌜ now (heads .exit) ≡ kerningHeads (List.runCall kerx (now (table .entry)) start (isFlag «right_to_left») (lineOf (now (glyphs .entry)) (now (tags .entry)) (now (homes .entry)) used) (now (along .entry))) (now (heads .entry)) ⌝ }
 {
     let run = kerx::run(
         table,

@@ -5,8 +5,7 @@ ghost use Rattle.answers.specs.Numbers.{numberOf};
 ghost use Rattle.line.specs.Line.{lineOf};
 ghost use Rattle.machine.specs.Machine.{passCall, callLeaves};
 ghost use Rattle.morx.specs.Kinds.{anySubtable};
-ghost use Rattle.firmware.specs.Steps.{unlessRefused};
-ghost use Rattle.firmware.specs.Runs.{morxRun, morxLeaves};
+ghost use Rattle.firmware.specs.Runs.{morxRun, morxLeaves, morxHeads};
 
 // The pass over a line, by the morx subtable at `start`, of whatever kind.
 #[no_mangle]
@@ -47,7 +46,7 @@ pub extern "C" fn aat_morx_run(
     ensures tags { λ _. ⌜ now (tags .exit) ≡ morxLeaves (now (table .entry)) start «right_to_left» (lineOf (now (glyphs .entry)) (now (tags .entry)) (now (homes .entry)) (now (used .entry))) .tags ⌝ }
     ensures homes { λ _. ⌜ now (homes .exit) ≡ morxLeaves (now (table .entry)) start «right_to_left» (lineOf (now (glyphs .entry)) (now (tags .entry)) (now (homes .entry)) (now (used .entry))) .homes ⌝ }
     ensures used { λ _. ⌜ now (used .exit) ≡ morxLeaves (now (table .entry)) start «right_to_left» (lineOf (now (glyphs .entry)) (now (tags .entry)) (now (homes .entry)) (now (used .entry))) .used ⌝ }
-    ensures heads { λ _. ⌜ now (heads .exit) ≡ unlessRefused (morxRun (now (table .entry)) start «right_to_left» (lineOf (now (glyphs .entry)) (now (tags .entry)) (now (homes .entry)) (now (used .entry))) .answer) (now (heads .entry)) (morxRun (now (table .entry)) start «right_to_left» (lineOf (now (glyphs .entry)) (now (tags .entry)) (now (homes .entry)) (now (used .entry))) .heads) ⌝ }
+    ensures heads { λ _. ⌜ now (heads .exit) ≡ morxHeads (morxRun (now (table .entry)) start «right_to_left» (lineOf (now (glyphs .entry)) (now (tags .entry)) (now (homes .entry)) (now (used .entry)))) (now (heads .entry)) ⌝ }
 {
     let choices = Choices {
         right_to_left: right_to_left != 0,

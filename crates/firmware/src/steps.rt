@@ -9,7 +9,10 @@ use rearrangement::Window;
 ghost use mathlib.Core.Path.{_≡_};
 ghost use Rattle.answers.specs.Numbers.{numberOf};
 ghost use Rattle.line.specs.Line.{lineOf};
-ghost use Rattle.firmware.specs.Steps.{isRefused, unlessRefused, noRearrangement, rearrangementFrom, rearrangementSlots, windowSlots, rearrangementStepped, flagNumber, noContext, contextualFrom, contextualSlots, contextualStepped, contextualLeaves, noInsertion, insertionFrom, insertionSlots, insertionStepped, editSlots, slotCount, placesBegin, glyphsBegin, noLigature, slotsFrom, areGlyphs, ligatureFrom, ligatureSlots, ligatureStepped, ligatureLeaves};
+ghost use Rattle.firmware.specs.Steps.{isRefused, noRearrangement, rearrangementFrom, windowSlots, rearrangementStepped, flagNumber, noContext, contextualFrom, contextualStepped, contextualLeaves};
+ghost use Rattle.firmware.specs.Steps.{noInsertion, insertionFrom, insertionStepped, editSlots, slotCount, placesBegin, glyphsBegin, noLigature, slotsFrom, areGlyphs, ligatureFrom, ligatureSlots};
+ghost use Rattle.firmware.specs.Steps.{ligatureStepped, ligatureLeaves, rearrangementState, rearrangementAdvance, rearrangementWindow, contextualState, advanceBy, insertionState, insertionAdvance};
+ghost use Rattle.firmware.specs.Steps.{insertionEdits, ligatureState};
 ghost use Prim.Native.Nat.{_+_, _≤_};
 ghost use mathlib.Core.Bool.{true};
 ghost use lib.ListN.{length};
@@ -98,9 +101,9 @@ pub extern "C" fn aat_rearrangement_step(
     window: &mut [u64; 3],
 ) -> u32
     ensures answer { λ r. ⌜ r ≡ numberOf (rearrangementStepped (now (table .entry)) start (now (state .entry)) used index glyph ends .answer) ⌝ }
-    ensures state { λ _. ⌜ now (state .exit) ≡ unlessRefused (rearrangementStepped (now (table .entry)) start (now (state .entry)) used index glyph ends .answer) (now (state .entry)) (rearrangementSlots (rearrangementStepped (now (table .entry)) start (now (state .entry)) used index glyph ends .state)) ⌝ }
-    ensures advance { λ _. ⌜ now (advance .exit) ≡ unlessRefused (rearrangementStepped (now (table .entry)) start (now (state .entry)) used index glyph ends .answer) (now (advance .entry)) (rearrangementStepped (now (table .entry)) start (now (state .entry)) used index glyph ends .advance) ⌝ }
-    ensures window { λ _. ⌜ now (window .exit) ≡ unlessRefused (rearrangementStepped (now (table .entry)) start (now (state .entry)) used index glyph ends .answer) (now (window .entry)) (windowSlots (rearrangementStepped (now (table .entry)) start (now (state .entry)) used index glyph ends .edit)) ⌝ }
+    ensures state { λ _. ⌜ now (state .exit) ≡ rearrangementState (rearrangementStepped (now (table .entry)) start (now (state .entry)) used index glyph ends) (now (state .entry)) ⌝ }
+    ensures advance { λ _. ⌜ now (advance .exit) ≡ rearrangementAdvance (rearrangementStepped (now (table .entry)) start (now (state .entry)) used index glyph ends) (now (advance .entry)) ⌝ }
+    ensures window { λ _. ⌜ now (window .exit) ≡ rearrangementWindow (rearrangementStepped (now (table .entry)) start (now (state .entry)) used index glyph ends) (now (window .entry)) ⌝ }
 {
     let given = rearrangement_from(state);
     let step = given.step(table, start, used, index, glyph, ends != 0);
@@ -180,9 +183,9 @@ pub extern "C" fn aat_contextual_step(
     advance: &mut usize,
 ) -> u32
     ensures answer { λ r. ⌜ r ≡ numberOf (contextualStepped (now (table .entry)) start (now (state .entry)) (lineOf (now (glyphs .entry)) (now (tags .entry)) (now (homes .entry)) used) index glyph ends .answer) ⌝ }
-    ensures state { λ _. ⌜ now (state .exit) ≡ unlessRefused (contextualStepped (now (table .entry)) start (now (state .entry)) (lineOf (now (glyphs .entry)) (now (tags .entry)) (now (homes .entry)) used) index glyph ends .answer) (now (state .entry)) (contextualSlots (contextualStepped (now (table .entry)) start (now (state .entry)) (lineOf (now (glyphs .entry)) (now (tags .entry)) (now (homes .entry)) used) index glyph ends .state)) ⌝ }
+    ensures state { λ _. ⌜ now (state .exit) ≡ contextualState (contextualStepped (now (table .entry)) start (now (state .entry)) (lineOf (now (glyphs .entry)) (now (tags .entry)) (now (homes .entry)) used) index glyph ends) (now (state .entry)) ⌝ }
     ensures glyphs { λ _. ⌜ now (glyphs .exit) ≡ contextualLeaves (now (table .entry)) start (now (state .entry)) (lineOf (now (glyphs .entry)) (now (tags .entry)) (now (homes .entry)) used) index glyph ends .glyphs ⌝ }
-    ensures advance { λ _. ⌜ now (advance .exit) ≡ unlessRefused (contextualStepped (now (table .entry)) start (now (state .entry)) (lineOf (now (glyphs .entry)) (now (tags .entry)) (now (homes .entry)) used) index glyph ends .answer) (now (advance .entry)) (contextualStepped (now (table .entry)) start (now (state .entry)) (lineOf (now (glyphs .entry)) (now (tags .entry)) (now (homes .entry)) used) index glyph ends .advance) ⌝ }
+    ensures advance { λ _. ⌜ now (advance .exit) ≡ advanceBy (contextualStepped (now (table .entry)) start (now (state .entry)) (lineOf (now (glyphs .entry)) (now (tags .entry)) (now (homes .entry)) used) index glyph ends) (now (advance .entry)) ⌝ }
 {
     let given = contextual_from(state);
     let step = given.step(
@@ -305,9 +308,9 @@ pub extern "C" fn aat_insertion_step(
     edits: &mut [u64; 7],
 ) -> u32
     ensures answer { λ r. ⌜ r ≡ numberOf (insertionStepped (now (table .entry)) start (now (state .entry)) used room index glyph ends .answer) ⌝ }
-    ensures state { λ _. ⌜ now (state .exit) ≡ unlessRefused (insertionStepped (now (table .entry)) start (now (state .entry)) used room index glyph ends .answer) (now (state .entry)) (insertionSlots (insertionStepped (now (table .entry)) start (now (state .entry)) used room index glyph ends .state)) ⌝ }
-    ensures advance { λ _. ⌜ now (advance .exit) ≡ unlessRefused (insertionStepped (now (table .entry)) start (now (state .entry)) used room index glyph ends .answer) (now (advance .entry)) (insertionStepped (now (table .entry)) start (now (state .entry)) used room index glyph ends .advance) ⌝ }
-    ensures edits { λ _. ⌜ now (edits .exit) ≡ unlessRefused (insertionStepped (now (table .entry)) start (now (state .entry)) used room index glyph ends .answer) (now (edits .entry)) (editSlots (insertionStepped (now (table .entry)) start (now (state .entry)) used room index glyph ends .marked) (insertionStepped (now (table .entry)) start (now (state .entry)) used room index glyph ends .current)) ⌝ }
+    ensures state { λ _. ⌜ now (state .exit) ≡ insertionState (insertionStepped (now (table .entry)) start (now (state .entry)) used room index glyph ends) (now (state .entry)) ⌝ }
+    ensures advance { λ _. ⌜ now (advance .exit) ≡ insertionAdvance (insertionStepped (now (table .entry)) start (now (state .entry)) used room index glyph ends) (now (advance .entry)) ⌝ }
+    ensures edits { λ _. ⌜ now (edits .exit) ≡ insertionEdits (insertionStepped (now (table .entry)) start (now (state .entry)) used room index glyph ends) (now (edits .entry)) ⌝ }
 {
     let given = insertion_from(state);
     let step = given.step(table, start, used, room, index, glyph, ends != 0);
@@ -454,10 +457,10 @@ pub extern "C" fn aat_ligature_step(
     advance: &mut usize,
 ) -> u32
     ensures answer { λ r. ⌜ r ≡ numberOf (ligatureStepped (now (table .entry)) start (now (state .entry)) (lineOf (now (glyphs .entry)) (now (tags .entry)) (now (homes .entry)) used) index glyph ends .answer) ⌝ }
-    ensures state { λ _. ⌜ now (state .exit) ≡ unlessRefused (ligatureStepped (now (table .entry)) start (now (state .entry)) (lineOf (now (glyphs .entry)) (now (tags .entry)) (now (homes .entry)) used) index glyph ends .answer) (now (state .entry)) (ligatureSlots (now (state .entry)) (ligatureStepped (now (table .entry)) start (now (state .entry)) (lineOf (now (glyphs .entry)) (now (tags .entry)) (now (homes .entry)) used) index glyph ends .state)) ⌝ }
+    ensures state { λ _. ⌜ now (state .exit) ≡ ligatureState (ligatureStepped (now (table .entry)) start (now (state .entry)) (lineOf (now (glyphs .entry)) (now (tags .entry)) (now (homes .entry)) used) index glyph ends) (now (state .entry)) ⌝ }
     ensures glyphs { λ _. ⌜ now (glyphs .exit) ≡ ligatureLeaves (now (table .entry)) start (now (state .entry)) (lineOf (now (glyphs .entry)) (now (tags .entry)) (now (homes .entry)) used) index glyph ends .glyphs ⌝ }
     ensures homes { λ _. ⌜ now (homes .exit) ≡ ligatureLeaves (now (table .entry)) start (now (state .entry)) (lineOf (now (glyphs .entry)) (now (tags .entry)) (now (homes .entry)) used) index glyph ends .homes ⌝ }
-    ensures advance { λ _. ⌜ now (advance .exit) ≡ unlessRefused (ligatureStepped (now (table .entry)) start (now (state .entry)) (lineOf (now (glyphs .entry)) (now (tags .entry)) (now (homes .entry)) used) index glyph ends .answer) (now (advance .entry)) (ligatureStepped (now (table .entry)) start (now (state .entry)) (lineOf (now (glyphs .entry)) (now (tags .entry)) (now (homes .entry)) used) index glyph ends .advance) ⌝ }
+    ensures advance { λ _. ⌜ now (advance .exit) ≡ advanceBy (ligatureStepped (now (table .entry)) start (now (state .entry)) (lineOf (now (glyphs .entry)) (now (tags .entry)) (now (homes .entry)) used) index glyph ends) (now (advance .entry)) ⌝ }
 {
     let given = ligature_from(state);
     let step = given.step(
