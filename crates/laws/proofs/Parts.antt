@@ -1,7 +1,7 @@
 -- A part of a lent slice: what its borrower leaves there, seen from the whole.
-use Prim.Native.Nat.{ℕ, _+_, _-_, _≤_}
-use mathlib.Core.Path.{_≡_, refl, _∙_, ap, sym}
-use mathlib.Core.List.{List, [], _++_, append-nil}
+use Prim.Native.Nat.{ℕ, _+_, _-_}
+use mathlib.Core.Path.{_≡_, _∙_, ap}
+use mathlib.Core.List.{List, _++_, append-nil}
 use native.Mathlib.Omega.{arith}
 use lib.ListN.{length, take, drop, length-drop, drop-of-length-le}
 use lib.Seq.{take-all}
@@ -16,8 +16,3 @@ pub part-put : {A : Type 0} (a : ℕ) (xs ys : List A) → putMid a (length xs -
 part-put a xs ys =
     ap (λ (z : List _). take a xs ++ (ys ++ z)) (drop-of-length-le (drop a xs) {i = length xs - a} (omega (arith, length-drop a xs)))
     ∙ ap (λ (z : List _). take a xs ++ z) (append-nil ys)
-
--- a borrower that leaves f of what it was lent
-pub part-lent : {A : Type 0} (f : List A → List A) (a : ℕ) (xs : List A)
-    → putMid a (length xs - a) xs (f (midOf a (length xs - a) xs)) ≡ take a xs ++ f (drop a xs)
-part-lent f a xs = part-put a xs (f (midOf a (length xs - a) xs)) ∙ ap (λ (z : List _). take a xs ++ f z) (part-is a xs)

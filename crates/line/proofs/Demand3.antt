@@ -32,12 +32,6 @@ module _ (glyphs tags homes : List ℕ) (taken : refuse (freshTests glyphs tags 
   as-typed history l by =
       rw (fresh-characters glyphs tags homes taken) at (placed (λ c. c) history (fresh-starts glyphs tags homes taken) by)
 
-  pub fresh-over-changes : (changes : List Change) → Fits changes (freshOf glyphs tags homes)
-      → FromFresh (length glyphs) (length homes) (historyOf changes) (applyAll changes (freshOf glyphs tags homes))
-  fresh-over-changes changes fits =
-      as-typed (historyOf changes) (applyAll changes (freshOf glyphs tags homes))
-      (by-changes changes (freshOf glyphs tags homes) (fresh-valid glyphs tags homes taken) fits)
-
   module _ {Call : Type 0} (leaves : Call → Line → Line) (makes : Call → Line → List Change) (honest : Honest leaves makes) where
     pub fresh-over-calls : (calls : List Call)
         → FromFresh (length glyphs) (length homes) (historyBy leaves makes calls (freshOf glyphs tags homes)) (leftBy leaves makes calls (freshOf glyphs tags homes))

@@ -3,7 +3,7 @@ use Prim.Native.Nat.{ℕ, _+_, _<_, _≤_}
 use mathlib.Core.Path.{_≡_, refl, sym, _∙_}
 use mathlib.Core.List.{List}
 use native.Mathlib.Omega.{arith}
-use lib.ListN.{length, getD}
+use lib.ListN.{length}
 use Rattle.state_tables.specs.States.{extendedAt}
 use Rattle.state_tables.specs.Classes.{classOf}
 use Rattle.state_tables.specs.Entries.{entryOf}
@@ -35,15 +35,3 @@ module _ (bytes : List ℕ) (states : States) (state class payload : ℕ) {r : E
   -- the payload of an entry lies in the table
   pub entry-payload : entry .payload + payload ≤ length bytes
   entry-payload = omega (arith, steps .whole, resolved-keeps states (rawAt bytes (steps .place)) (steps .leads) .payload)
-
-  -- its new state and its flags are 16-bit numbers
-  module _ (known : (i : ℕ) → getD bytes i 0 < 256) where
-    pub entry-state : entry .state < 65536
-    entry-state =
-        let at = steps .place in
-        omega (arith, resolved-keeps states (rawAt bytes at) (steps .leads) .lower, known at, known (at + 1))
-
-    pub entry-flags : entry .flags < 65536
-    entry-flags =
-        let at = steps .place in
-        omega (arith, resolved-keeps states (rawAt bytes at) (steps .leads) .flags, known (at + 2), known (at + 2 + 1))
