@@ -1,7 +1,7 @@
--- The numbers of the answers: document 01's table.
+-- The numbers of the answers: document 01's table, and from 10 on those that document 02 adds.
 use Prim.Native.Nat.{ℕ}
 use Rattle.answers.specs.declared.Refusal.{Refusal}
-use Rattle.answers.specs.declared.Refusal.the-variants.{Table, Line, Place, State, Head}
+use Rattle.answers.specs.declared.Refusal.the-variants.{Table, Line, Place, State, Head, Request, Record, Version, Tuples, Index, Reel, Anchor, Overlap, Space}
 use Rattle.answers.specs.declared.Answer.{Answer}
 use Rattle.answers.specs.declared.Answer.the-variants.{Done, Nothing, Full, Ended, Limit, Refused}
 use Rattle.answers.specs.declared.Reply.{Reply}
@@ -18,6 +18,15 @@ numberOf (Refused Head) = 6
 numberOf Full = 7
 numberOf Ended = 8
 numberOf Limit = 9
+numberOf (Refused Request) = 10
+numberOf (Refused Record) = 11
+numberOf (Refused Version) = 12
+numberOf (Refused Tuples) = 13
+numberOf (Refused Index) = 14
+numberOf (Refused Reel) = 15
+numberOf (Refused Anchor) = 16
+numberOf (Refused Overlap) = 17
+numberOf (Refused Space) = 18
 
 -- the answer of a reply: a value is DONE
 abbrev pub answerOf : Reply → Answer

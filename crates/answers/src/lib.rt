@@ -1,4 +1,5 @@
-// The ten answers of document 01 with their numbers, the limits, and the refusal that every public entry begins with.
+// The answers of document 01 and the refusals of document 02 with their numbers, the limits, and the refusal that every public
+// entry begins with.
 ghost use mathlib.Core.Path.{_≡_};
 ghost use mathlib.Core.List.{[], _∷_};
 ghost use lib.Dec.{ltb};
@@ -22,6 +23,15 @@ pub enum Refusal {
     Place,
     State,
     Head,
+    Request,
+    Record,
+    Version,
+    Tuples,
+    Index,
+    Reel,
+    Anchor,
+    Overlap,
+    Space,
 }
 
 // What a call answers.
@@ -47,7 +57,7 @@ pub enum Reply {
     Refused(Refusal),
 }
 
-// The number of a refusal in document 01's table.
+// The number of a refusal in the documents.
 pub fn refusal_number(refusal: Refusal) -> u32
     ensures { λ r. ⌜ r ≡ numberOf (Answer.Refused refusal) ⌝ }
 {
@@ -57,10 +67,19 @@ pub fn refusal_number(refusal: Refusal) -> u32
         Refusal::Place => 4,
         Refusal::State => 5,
         Refusal::Head => 6,
+        Refusal::Request => 10,
+        Refusal::Record => 11,
+        Refusal::Version => 12,
+        Refusal::Tuples => 13,
+        Refusal::Index => 14,
+        Refusal::Reel => 15,
+        Refusal::Anchor => 16,
+        Refusal::Overlap => 17,
+        Refusal::Space => 18,
     }
 }
 
-// The number of an answer in document 01's table.
+// The number of an answer in the documents.
 pub fn number(answer: Answer) -> u32
     ensures { λ r. ⌜ r ≡ numberOf answer ⌝ }
 {
