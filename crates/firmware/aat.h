@@ -44,7 +44,7 @@ typedef __SIZE_TYPE__ size_t;
 #endif
 
 /* Rises with every entry or value that is added; what is there stays. */
-#define AAT_VERSION 4
+#define AAT_VERSION 5
 
 #ifdef __cplusplus
 extern "C" {
@@ -313,6 +313,28 @@ uint32_t aat_kern_run(const uint8_t *table, size_t table_len, size_t start, cons
 uint32_t aat_kerx_run(const uint8_t *table, size_t table_len, size_t start, uint32_t right_to_left, uint16_t *glyphs,
                       size_t glyphs_len, uint16_t *tags, size_t tags_len, const uint16_t *homes, size_t homes_len, size_t used,
                       int64_t *along, size_t along_len, uint32_t *heads);
+
+/* What may be chosen for a pass or a run of kern or kerx: choices is a sum of these bits, and 0 chooses nothing. Bits without
+   a name are not looked at. */
+enum aat_choices {
+    AAT_JOINED_PAIRS = 1, /* pairs (kern 0, kerx 0 and 2) are two glyphs below 0xFFFF with only 0xFFFF between them; else they
+                             are neighbours, whatever their glyphs. The number goes to the first of the two, in the order of
+                             work either way: in a line that is turned for a subtable, the first of the turned line */
+};
+
+/* The passes and runs above by choices; with choices 0 they are those. Answers and writes: the same. */
+uint32_t aat_kern_pass_by(const uint8_t *table, size_t table_len, size_t start, uint16_t version, const uint16_t *glyphs,
+                          size_t glyphs_len, const uint16_t *tags, size_t tags_len, const uint16_t *homes, size_t homes_len,
+                          size_t used, int64_t *along, size_t along_len, uint32_t choices);
+uint32_t aat_kerx_pass_by(const uint8_t *table, size_t table_len, size_t start, uint16_t version, const uint16_t *glyphs,
+                          size_t glyphs_len, const uint16_t *tags, size_t tags_len, const uint16_t *homes, size_t homes_len,
+                          size_t used, int64_t *along, size_t along_len, uint32_t choices);
+uint32_t aat_kern_run_by(const uint8_t *table, size_t table_len, size_t start, const uint16_t *glyphs, size_t glyphs_len,
+                         const uint16_t *tags, size_t tags_len, const uint16_t *homes, size_t homes_len, size_t used,
+                         int64_t *along, size_t along_len, uint32_t *heads, uint32_t choices);
+uint32_t aat_kerx_run_by(const uint8_t *table, size_t table_len, size_t start, uint32_t right_to_left, uint16_t *glyphs,
+                         size_t glyphs_len, uint16_t *tags, size_t tags_len, const uint16_t *homes, size_t homes_len,
+                         size_t used, int64_t *along, size_t along_len, uint32_t *heads, uint32_t choices);
 
 /* The list of a kern or kerx table's subtables
 

@@ -57,6 +57,10 @@
       38 lookup_why            as 1, then why 4                  answer 4, value 4, why 4
       39 kern_pair_why         as 19, then why 4                 answer 4, value 4, why 4
       40 kerx_pair_why         as 39                             as 39
+      41 kern_pass_by          as 21, then choices 4             as 21
+      42 kerx_pass_by          as 41                             as 21
+      43 kern_run_by           as 23, then choices 4             as 23
+      44 kerx_run_by           as 24, then choices 4             as 23
 
    A name is its length 4 and the bytes. Glyphs, tags and homes are each a count 4 and so many numbers 2, the adjustments along
    the line a count 4 and so many numbers 8; a reply has the numbers alone.
@@ -365,32 +369,65 @@ static void pair_why(reason_of_pair *entry) {
 typedef uint32_t kerning_pass(const uint8_t *, size_t, size_t, uint16_t, const uint16_t *, size_t, const uint16_t *, size_t,
                               const uint16_t *, size_t, size_t, int64_t *, size_t);
 
-static void kern(kerning_pass *entry) {
+static void take_kerning(void) {
     take_pass();
     take_along();
-    version = (uint16_t)take(2);
-    put_pass(entry(table, table_len, start, version, glyphs.numbers, glyphs.len, tags.numbers, tags.len, homes.numbers,
-                   homes.len, used, along, along_len));
+}
+
+static void put_kerning(uint32_t answered) {
+    put_pass(answered);
     put_along();
 }
 
+static void kern(kerning_pass *entry) {
+    take_kerning();
+    version = (uint16_t)take(2);
+    put_kerning(entry(table, table_len, start, version, glyphs.numbers, glyphs.len, tags.numbers, tags.len, homes.numbers,
+                      homes.len, used, along, along_len));
+}
+
+typedef uint32_t kerning_pass_by(const uint8_t *, size_t, size_t, uint16_t, const uint16_t *, size_t, const uint16_t *, size_t,
+                                 const uint16_t *, size_t, size_t, int64_t *, size_t, uint32_t);
+
+static void kern_by(kerning_pass_by *entry) {
+    take_kerning();
+    version = (uint16_t)take(2);
+    uint32_t choices = (uint32_t)take(4);
+    put_kerning(entry(table, table_len, start, version, glyphs.numbers, glyphs.len, tags.numbers, tags.len, homes.numbers,
+                      homes.len, used, along, along_len, choices));
+}
+
 static void kern_run(void) {
-    take_pass();
-    take_along();
+    take_kerning();
     uint32_t heads = (uint32_t)take(4);
-    put_pass(aat_kern_run(TABLE_AND_LINE, used, along, along_len, &heads));
-    put_along();
+    put_kerning(aat_kern_run(TABLE_AND_LINE, used, along, along_len, &heads));
+    put(heads, 4);
+}
+
+static void kern_run_by(void) {
+    take_kerning();
+    uint32_t heads = (uint32_t)take(4);
+    uint32_t choices = (uint32_t)take(4);
+    put_kerning(aat_kern_run_by(TABLE_AND_LINE, used, along, along_len, &heads, choices));
     put(heads, 4);
 }
 
 static void kerx_run(void) {
-    take_pass();
-    take_along();
+    take_kerning();
     uint32_t heads = (uint32_t)take(4);
     uint32_t right_to_left = (uint32_t)take(4);
-    put_pass(aat_kerx_run(table, table_len, start, right_to_left, glyphs.numbers, glyphs.len, tags.numbers, tags.len,
-                          homes.numbers, homes.len, used, along, along_len, &heads));
-    put_along();
+    put_kerning(aat_kerx_run(table, table_len, start, right_to_left, glyphs.numbers, glyphs.len, tags.numbers, tags.len,
+                             homes.numbers, homes.len, used, along, along_len, &heads));
+    put(heads, 4);
+}
+
+static void kerx_run_by(void) {
+    take_kerning();
+    uint32_t heads = (uint32_t)take(4);
+    uint32_t right_to_left = (uint32_t)take(4);
+    uint32_t choices = (uint32_t)take(4);
+    put_kerning(aat_kerx_run_by(table, table_len, start, right_to_left, glyphs.numbers, glyphs.len, tags.numbers, tags.len,
+                                homes.numbers, homes.len, used, along, along_len, &heads, choices));
     put(heads, 4);
 }
 
@@ -491,6 +528,10 @@ static void answer(uint8_t call) {
     case 38: lookup_why(); break;
     case 39: pair_why(aat_kern_pair_why); break;
     case 40: pair_why(aat_kerx_pair_why); break;
+    case 41: kern_by(aat_kern_pass_by); break;
+    case 42: kern_by(aat_kerx_pass_by); break;
+    case 43: kern_run_by(); break;
+    case 44: kerx_run_by(); break;
     default: exit(1);
     }
 }

@@ -55,6 +55,7 @@ pub struct Tables {
 pub mod ours {
     use super::{Kerned, Line, Tables};
     use crate::reference::kerning::{Kerning, ALONE_AT};
+    use crate::reference::kerning_choices::JOINED_PAIRS;
     use crate::wire::entries::Entry;
 
     extern "C" {
@@ -122,6 +123,8 @@ pub mod ours {
         aat_morx_run(u32; *mut u64, *mut u32);
         aat_kern_pass(u16; usize, *mut i64, usize);
         aat_kerx_pass(u16; usize, *mut i64, usize);
+        aat_kern_pass_by(u16; usize, *mut i64, usize, u32);
+        aat_kerx_pass_by(u16; usize, *mut i64, usize, u32);
         aat_kern_run(; usize, *mut i64, usize, *mut u32);
         aat_kerx_run(u32; usize, *mut i64, usize, *mut u32);
     }
@@ -221,6 +224,17 @@ pub mod ours {
         }
     }
 
+    /// The same by joined pairs.
+    #[inline(always)]
+    pub fn joined_pass(kerning: Kerning, version: u16, kerned: &mut Kerned, table: &[u8]) {
+        let Kerned { line, along } = kerned;
+        let (length, room, along, joined) = (line.length(), along.len(), along.as_mut_ptr(), JOINED_PAIRS);
+        match kerning {
+            Kerning::Kern => call!(aat_kern_pass_by, table, 0, [version], line, [length, along, room, joined]),
+            Kerning::Kerx => call!(aat_kerx_pass_by, table, 0, [version], line, [length, along, room, joined]),
+        }
+    }
+
     /// A run of the kern or kerx table that begins at a start, from left to right.
     #[inline(always)]
     pub fn kerning_run(kerning: Kerning, kerned: &mut Kerned, table: &[u8], start: usize) {
@@ -249,6 +263,7 @@ pub mod ours {
 pub mod theirs {
     use super::{Kerned, Line, Tables};
     use crate::reference::kerning::{Kerning, Subtable, ALONE_AT};
+    use crate::reference::kerning_choices::add_joined_pairs;
     use crate::reference::oracle::aat::{self, kern, kerx, morx, ExtendedStateTable, StateTable};
     use crate::reference::oracle::Bytes;
     use crate::reference::passes_by_crate::{self, is_chosen};
@@ -318,6 +333,14 @@ pub mod theirs {
         let subtable = Subtable::first(kerning, table).expect("a subtable");
         let (glyphs, along) = kerned.used();
         assert_eq!(subtable.add(glyphs, along).number(), 0, "a kerning pass over a line");
+    }
+
+    /// The same by joined pairs, over the crate's numbers of pairs.
+    #[inline(never)]
+    pub fn joined_pass(kerning: Kerning, kerned: &mut Kerned, table: &[u8]) {
+        let subtable = Subtable::first(kerning, table).expect("a subtable");
+        let (glyphs, along) = kerned.used();
+        add_joined_pairs(&subtable, glyphs, along);
     }
 
     /// A run of the kern or kerx table that begins at a start, from left to right.

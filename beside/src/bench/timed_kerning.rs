@@ -4,7 +4,7 @@ use crate::bench::sides::{ours, theirs};
 use crate::bench::timing::Subject;
 use crate::bench::{calls_on, grouped, LENGTHS};
 use crate::reference::kerning::{Kerned, Kerning, ALONE_AT};
-use crate::reference::line::Line;
+use crate::reference::line::{Line, DELETED, LARGEST_ROOM};
 use crate::tables::kerning::{classes, Edition, Entry, Pair, Parts, NONE, PUSH, RESET};
 use crate::tables::lookup::with_values;
 use crate::tables::random::Random;
@@ -35,7 +35,33 @@ pub fn subjects(random: &mut Random) -> Vec<Subject> {
             subjects.push(pass(random, name, edition, &subtable, 256));
         }
     }
+    subjects.extend(joined_passes(&mut Random::new(2)));
     subjects
+}
+
+/// Passes by joined pairs over lines that fill the largest room, none of their glyphs deleted, and all but the first and the last.
+fn joined_passes(random: &mut Random) -> Vec<Subject> {
+    let mut subjects = Vec::new();
+    for (edition, name, subtable) in passes(random).into_iter().filter(|pass| pass.1.ends_with("pairs")) {
+        let whole = any_kerned(random, LARGEST_ROOM);
+        let mut between = whole.clone();
+        between.line.glyphs[1..LARGEST_ROOM - 1].fill(DELETED);
+        for (deleted, line) in [("none", whole), ("all but two", between)] {
+            let table = edition.kerning.name();
+            let name =
+                format!("{} pass, joined {}, {} deleted, {} places", table, name, deleted, grouped(LARGEST_ROOM));
+            subjects.push(joined_pass(name, edition, &subtable, line));
+        }
+    }
+    subjects
+}
+
+fn joined_pass(name: String, edition: Edition, subtable: &[u8], line: Kerned) -> Subject {
+    let Edition { kerning, version, .. } = edition;
+    let (our_table, their_table) = (subtable.to_vec(), kerning.alone(version, subtable));
+    let ours = move |kerned: &mut Kerned| ours::joined_pass(kerning, version, kerned, &our_table);
+    let theirs = move |kerned: &mut Kerned| theirs::joined_pass(kerning, kerned, &their_table);
+    Subject::of_work(name, calls_on(LARGEST_ROOM), line, false, ours, theirs)
 }
 
 /// Glyphs of lines are below this number.

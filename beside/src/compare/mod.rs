@@ -15,7 +15,7 @@ use crate::compare::entries_sample::EntriesSample;
 use crate::compare::limit::Limited;
 use crate::compare::progress::Progress;
 use crate::compare::sample::Sample;
-use crate::questions::{lookup, not_asked_for, reasons, Ask, PARTS};
+use crate::questions::{kerning_choices, lookup, not_asked_for, reasons, Ask, PARTS};
 use crate::reference::oracle;
 use crate::tables::random::Random;
 use crate::wire::pipe::TheBox;
@@ -80,7 +80,7 @@ fn compare(traces: bool, cases: u64, seed: u64, seconds: u64, command: &[String]
         "panics taken for None: {} in check_range, {} at action 65,535, {} at class count 0",
         checks, actions, classes
     );
-    reasons::counted().iter().for_each(|line| println!("{}", line));
+    reasons::counted().iter().chain(&kerning_choices::counted()).for_each(|line| println!("{}", line));
     println!("{} cases, {} differences (seed {})", totals.cases, totals.differences, seed);
     ExitCode::from(u8::from(totals.differences > 0))
 }

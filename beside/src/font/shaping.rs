@@ -6,6 +6,7 @@ use crate::font::sfnt::Font;
 use crate::font::show::Look;
 use crate::font::{met_kerning, met_language, met_morx};
 use crate::reference::kerning::{Kerned, Kerning, ALONE_AT};
+use crate::reference::kerning_choices::Choices;
 use crate::reference::line::{Line, LARGEST_ROOM};
 use crate::reference::oracle::{self, Fault, LONGEST_TABLE};
 use crate::reference::pass::line_of;
@@ -110,7 +111,7 @@ impl Tables {
         }
         for (kerning, table) in self.kernings() {
             let mut lent = unkerned(&shaped.line);
-            let run = kerning_run::Run { kerning, table, start: START, right_to_left };
+            let run = kerning_run::Run { kerning, table, start: START, right_to_left, choices: Choices::NONE };
             let (answer, heads) = match run.refusal(&lent) {
                 Some(refusal) => (refusal, 0),
                 None => run.make(&mut lent)?,
@@ -189,7 +190,11 @@ impl Tables {
         }
         for (kerning, table) in self.kernings() {
             let mut met = Met::new(table, self.glyphs);
-            met_kerning::watch(&mut met, &kerning_run::Run { kerning, table, start: START, right_to_left }, &line);
+            met_kerning::watch(
+                &mut met,
+                &kerning_run::Run { kerning, table, start: START, right_to_left, choices: Choices::NONE },
+                &line,
+            );
             add(met);
         }
         if let (Some(table), Some(name)) = (&self.ltag, language) {
@@ -212,7 +217,7 @@ impl Tables {
             tell_morx(&run, &mut line, look, rows).map_err(in_words)?;
         }
         for (kerning, table) in self.kernings() {
-            let run = kerning_run::Run { kerning, table, start: START, right_to_left };
+            let run = kerning_run::Run { kerning, table, start: START, right_to_left, choices: Choices::NONE };
             tell_kerning(&run, &mut unkerned(&line), look, rows).map_err(in_words)?;
         }
         Ok(())

@@ -66,8 +66,10 @@ impl Case {
                     left == 0
                 })
             }
-            Entry::KernRun => kern::subtables(table, start).take(MOST_HEADS).count() == MOST_HEADS,
-            Entry::KerxRun => kerx::subtables(table, start, 0).take(MOST_HEADS).count() == MOST_HEADS,
+            Entry::KernRun | Entry::KernRunBy => kern::subtables(table, start).take(MOST_HEADS).count() == MOST_HEADS,
+            Entry::KerxRun | Entry::KerxRunBy => {
+                kerx::subtables(table, start, 0).take(MOST_HEADS).count() == MOST_HEADS
+            }
             _ => false,
         }
     }

@@ -3,9 +3,11 @@
 use crate::fuzz::case::Chosen;
 use crate::fuzz::seeds::{self, Seed};
 use crate::fuzz::source::Source;
+use crate::questions::kerning_choices::{count_joined, describe_choices};
 use crate::questions::{Ask, Part, Question};
 use crate::reference::kerning::{Kerned, Kerning, Subtable, LARGEST_ADJUSTMENT};
 use crate::reference::kerning_by_copy::open;
+use crate::reference::kerning_choices::Choices;
 use crate::reference::kerning_trace::describe_pass;
 use crate::reference::line::{Line, DELETED, LARGEST_ROOM};
 use crate::reference::oracle::{Answer, Fault, LONGEST_TABLE};
@@ -19,8 +21,11 @@ use crate::wire::entries::Entry;
 use std::rc::Rc;
 
 /// A call of a pass.
+#[derive(Clone)]
 pub struct Pass {
     pub edition: Edition,
+    /// What is chosen, by the entry that takes choices; None is the entry without them.
+    pub choices: Option<Choices>,
     pub lent: Kerned,
     pub start: u64,
     /// The answer and the used adjustments that a document gives, from fresh ones.
@@ -35,6 +40,10 @@ impl Pass {
             Some(answer) => answer,
             None => self.made(table, &mut lent)?,
         };
+        if let Some(true) = self.choices.map(Choices::joins_pairs) {
+            let (_, by_neighbours) = Pass { choices: None, written: None, ..self.clone() }.after(table)?;
+            count_joined(self.entry(), by_neighbours.along != lent.along);
+        }
         match &self.written {
             Some(written) if *written != (answer, lent.along.clone()) => Err(Fault::Disputed),
             _ => Ok((answer, lent)),
@@ -54,7 +63,7 @@ impl Pass {
         };
         let length = lent.line.length();
         let mut of_steps = lent.along.clone();
-        let answer = lent.pass(&subtable)?;
+        let answer = lent.pass(&subtable, self.choices.unwrap_or(Choices::NONE))?;
         if let Some(machine) = open(kerning, &table) {
             let glyphs = &lent.line.glyphs[..length];
             if machine.pass(glyphs, &mut of_steps[..length], &mut |_, _, _| {})? != answer || of_steps != lent.along {
@@ -67,12 +76,13 @@ impl Pass {
 
 impl Question for Pass {
     fn entry(&self) -> Entry {
-        self.edition.kerning.its(ENTRIES)
+        self.edition.kerning.its(if self.choices.is_some() { ENTRIES_BY } else { ENTRIES })
     }
 
     fn arguments(&self, _held: u64, call: &mut Vec<u8>) {
         self.lent.lend(self.start, call);
         call.extend(self.edition.version.to_le_bytes());
+        call.extend(self.choices.iter().flat_map(|choices| choices.0.to_le_bytes()));
     }
 
     fn reply(&self, table: &[u8], _held: u64, reply: &mut Vec<u8>) -> Result<(), Fault> {
@@ -83,18 +93,25 @@ impl Question for Pass {
 
     fn describe(&self, _held: u64) -> String {
         let Edition { kerning, version, .. } = self.edition;
-        format!("{} pass at start {}, version {}, lent {}", kerning.name(), self.start, version, self.lent.describe())
+        let chosen = describe_choices(self.choices);
+        let told = format!("{} pass at start {}, version {}{}", kerning.name(), self.start, version, chosen);
+        format!("{}, lent {}", told, self.lent.describe())
     }
 
     fn describe_reply(&self, reply: &[u8]) -> String {
         self.lent.describe_reply(reply)
     }
 
+    fn with_choices(&self, choices: Choices) -> Option<Box<dyn Question>> {
+        Some(Box::new(Pass { choices: Some(choices), written: None, ..self.clone() }))
+    }
+
     fn trace(&self, table: &[u8]) -> Vec<String> {
+        let choices = self.choices.unwrap_or(Choices::NONE);
         let Edition { kerning, version, .. } = self.edition;
         match table.get(self.start as usize..) {
             Some(bytes) if self.lent.refuses_pass(table).is_none() => {
-                describe_pass(kerning, &kerning.alone(version, bytes), &self.lent)
+                describe_pass(kerning, &kerning.alone(version, bytes), choices, &self.lent)
             }
             _ => Vec::new(),
         }
@@ -102,6 +119,7 @@ impl Question for Pass {
 }
 
 const ENTRIES: [Entry; 2] = [Entry::KernPass, Entry::KerxPass];
+const ENTRIES_BY: [Entry; 2] = [Entry::KernPassBy, Entry::KerxPassBy];
 
 /// Passes of kern or kerx.
 pub struct Passes(pub Kerning);
@@ -133,7 +151,7 @@ impl Part for Passes {
 
     fn chosen(&self, _entry: Entry, chosen: Chosen, _source: &mut Source) -> Box<dyn Question> {
         let edition = Edition::new(self.0, chosen.version, 0);
-        Box::new(Pass { edition, lent: chosen.lent, start: chosen.start, written: None })
+        Box::new(Pass { edition, choices: None, lent: chosen.lent, start: chosen.start, written: None })
     }
 
     fn seed(&self, random: &mut Random, _entry: Entry) -> Seed {
@@ -142,7 +160,7 @@ impl Part for Passes {
 }
 
 fn ask_pass(asked: &mut dyn Ask, edition: Edition, table: &Rc<[u8]>, start: usize, lent: &Kerned) {
-    asked.ask(table, Box::new(Pass { edition, lent: lent.clone(), start: start as u64, written: None }));
+    asked.ask(table, Box::new(Pass { edition, choices: None, lent: lent.clone(), start: start as u64, written: None }));
 }
 
 fn ask_line(asked: &mut dyn Ask, edition: Edition, table: &Rc<[u8]>, glyphs: &[u16]) {
@@ -155,7 +173,7 @@ fn examples(asked: &mut dyn Ask, kerning: Kerning) {
         let Documented { edition, table, start, line, pass, .. } = example;
         let lent = Kerned { line: line_of(line, line.len()), along: vec![0; line.len()] };
         let (start, written) = (*start as u64, Some(pass.clone()));
-        asked.ask(&Rc::from(&table[..]), Box::new(Pass { edition: *edition, lent, start, written }));
+        asked.ask(&Rc::from(&table[..]), Box::new(Pass { edition: *edition, choices: None, lent, start, written }));
     }
 }
 
@@ -335,7 +353,7 @@ fn random_subtables(asked: &mut dyn Ask, kerning: Kerning, random: &mut Random, 
             let used = random.below(longest + 1);
             let room = used + random.among(&[0, 0, 1, 9]);
             let lent = Kerned::any(random, &glyphs, used, room);
-            asked.ask(&table, Box::new(Pass { edition, lent, start, written: None }));
+            asked.ask(&table, Box::new(Pass { edition, choices: None, lent, start, written: None }));
         }
         left -= lines;
     }

@@ -3,9 +3,11 @@
 use crate::fuzz::case::Chosen;
 use crate::fuzz::seeds::{self, Seed};
 use crate::fuzz::source::Source;
+use crate::questions::kerning_choices::{count_joined, describe_choices};
 use crate::questions::passes::for_each_table;
 use crate::questions::{Ask, Part, Question};
 use crate::reference::kerning::{Kerned, Kerning, ALONE_AT};
+use crate::reference::kerning_choices::Choices;
 use crate::reference::kerning_run::Run;
 use crate::reference::kerning_trace::describe_run;
 use crate::reference::line::{Line, LARGEST_ROOM};
@@ -23,9 +25,12 @@ use crate::wire::reply::number;
 use std::ops::Range;
 use std::rc::Rc;
 
-/// A call of `aat_kern_run` or `aat_kerx_run`.
+/// A call of a run.
+#[derive(Clone)]
 pub struct KerningRun {
     pub kerning: Kerning,
+    /// What is chosen, by the entry that takes choices; None is the entry without them.
+    pub choices: Option<Choices>,
     pub lent: Kerned,
     pub start: u64,
     /// Not 0 where the text runs from right to left; kern is not told.
@@ -36,7 +41,8 @@ pub struct KerningRun {
 
 impl KerningRun {
     fn run<'a>(&self, table: &'a [u8]) -> Run<'a> {
-        Run { kerning: self.kerning, table, start: self.start, right_to_left: self.right_to_left != 0 }
+        let (right_to_left, choices) = (self.right_to_left != 0, self.choices.unwrap_or(Choices::NONE));
+        Run { kerning: self.kerning, table, start: self.start, right_to_left, choices }
     }
 
     /// The answer, what the call has to leave, and the heads, where they are counted.
@@ -47,6 +53,11 @@ impl KerningRun {
             return Ok((answer, lent, None));
         }
         let (answer, heads) = run.make(&mut lent)?;
+        if run.choices.joins_pairs() {
+            let mut by_neighbours = self.lent.clone();
+            Run { choices: Choices::NONE, ..run }.make(&mut by_neighbours)?;
+            count_joined(self.entry(), by_neighbours.along != lent.along);
+        }
         match &self.written {
             Some(written) if answer != Answer::Done(()) || *written != lent.along => Err(Fault::Disputed),
             _ => Ok((answer, lent, Some(heads))),
@@ -56,7 +67,7 @@ impl KerningRun {
 
 impl Question for KerningRun {
     fn entry(&self) -> Entry {
-        self.kerning.its(ENTRIES)
+        self.kerning.its(if self.choices.is_some() { ENTRIES_BY } else { ENTRIES })
     }
 
     fn arguments(&self, held: u64, call: &mut Vec<u8>) {
@@ -65,6 +76,7 @@ impl Question for KerningRun {
         if self.kerning == Kerning::Kerx {
             call.extend(self.right_to_left.to_le_bytes());
         }
+        call.extend(self.choices.iter().flat_map(|choices| choices.0.to_le_bytes()));
     }
 
     fn reply(&self, table: &[u8], held: u64, reply: &mut Vec<u8>) -> Result<(), Fault> {
@@ -76,12 +88,17 @@ impl Question for KerningRun {
 
     fn describe(&self, held: u64) -> String {
         let told = format!("{} run at start {}, right to left {}", self.kerning.name(), self.start, self.right_to_left);
-        format!("{}, lent heads {}, {}", told, held as u32, self.lent.describe())
+        let chosen = describe_choices(self.choices);
+        format!("{}{}, lent heads {}, {}", told, chosen, held as u32, self.lent.describe())
     }
 
     fn describe_reply(&self, reply: &[u8]) -> String {
         let (rest, heads) = reply.split_at(reply.len() - 4);
         format!("heads {}, {}", number(heads), self.lent.describe_reply(rest))
+    }
+
+    fn with_choices(&self, choices: Choices) -> Option<Box<dyn Question>> {
+        Some(Box::new(KerningRun { choices: Some(choices), written: None, ..self.clone() }))
     }
 
     fn trace(&self, table: &[u8]) -> Vec<String> {
@@ -94,6 +111,7 @@ impl Question for KerningRun {
 }
 
 const ENTRIES: [Entry; 2] = [Entry::KernRun, Entry::KerxRun];
+const ENTRIES_BY: [Entry; 2] = [Entry::KernRunBy, Entry::KerxRunBy];
 
 /// Runs of kern or kerx.
 pub struct Runs(pub Kerning);
@@ -121,7 +139,7 @@ impl Part for Runs {
 
     fn chosen(&self, _entry: Entry, chosen: Chosen, _source: &mut Source) -> Box<dyn Question> {
         let Chosen { start, right_to_left, lent, .. } = chosen;
-        Box::new(KerningRun { kerning: self.0, lent, start, right_to_left, written: None })
+        Box::new(KerningRun { kerning: self.0, choices: None, lent, start, right_to_left, written: None })
     }
 
     fn seed(&self, random: &mut Random, _entry: Entry) -> Seed {
@@ -134,7 +152,7 @@ fn ask_run(asked: &mut dyn Ask, kerning: Kerning, table: &Rc<[u8]>, start: usize
     let ways: &[u32] = if kerning == Kerning::Kerx { &[0, 1, 0x8000_0000] } else { &[0] };
     for right_to_left in ways {
         let (lent, start, right_to_left) = (lent.clone(), start as u64, *right_to_left);
-        asked.ask(table, Box::new(KerningRun { kerning, lent, start, right_to_left, written: None }));
+        asked.ask(table, Box::new(KerningRun { kerning, choices: None, lent, start, right_to_left, written: None }));
     }
 }
 
@@ -151,7 +169,10 @@ fn examples(asked: &mut dyn Ask, kerning: Kerning) {
         let Documented { table, line, run, .. } = example;
         let lent = Kerned::of(line_of(&line, line.len()));
         let (start, written) = (ALONE_AT as u64, Some(run));
-        asked.ask(&Rc::from(table), Box::new(KerningRun { kerning, lent, start, right_to_left: 0, written }));
+        asked.ask(
+            &Rc::from(table),
+            Box::new(KerningRun { kerning, choices: None, lent, start, right_to_left: 0, written }),
+        );
     }
 }
 
@@ -219,7 +240,10 @@ fn refused_lines(asked: &mut dyn Ask, kerning: Kerning) {
                         let start = random.among(&[0, BEFORE, BEFORE, usize::MAX]);
                         let right_to_left = random.below(2) as u32;
                         let start = start as u64;
-                        asked.ask(&table, Box::new(KerningRun { kerning, lent, start, right_to_left, written: None }));
+                        asked.ask(
+                            &table,
+                            Box::new(KerningRun { kerning, choices: None, lent, start, right_to_left, written: None }),
+                        );
                     }
                 }
             }
@@ -260,7 +284,7 @@ fn random_tables(asked: &mut dyn Ask, kerning: Kerning, random: &mut Random, cas
         let room = used + random.among(&[0, 1, 9]);
         let lent = Kerned::any(random, glyphs, used, room);
         let right_to_left = random.among(&[0, 1, 2, u32::MAX]);
-        asked.ask(table, Box::new(KerningRun { kerning, lent, start, right_to_left, written: None }));
+        asked.ask(table, Box::new(KerningRun { kerning, choices: None, lent, start, right_to_left, written: None }));
     });
 }
 

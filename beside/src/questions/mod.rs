@@ -1,6 +1,7 @@
 //! The questions that are put to both sides, one file for the entries of a part.
 
 pub mod classes;
+pub mod kerning_choices;
 pub mod kerning_lists;
 pub mod kerning_pairs;
 pub mod kerning_passes;
@@ -21,6 +22,7 @@ use crate::fuzz::case::Chosen;
 use crate::fuzz::seeds::Seed;
 use crate::fuzz::source::Source;
 use crate::reference::kerning::Kerning::{Kern, Kerx};
+use crate::reference::kerning_choices::Choices;
 use crate::reference::oracle::Fault;
 use crate::reference::step::MACHINES;
 use crate::tables::kinds::KINDS;
@@ -49,6 +51,10 @@ pub trait Question {
     fn describe_reply(&self, reply: &[u8]) -> String;
     /// The same question to the entry that also says why nothing was found, where there is one.
     fn with_reason(&self) -> Option<Box<dyn Question>> {
+        None
+    }
+    /// The same question to the entry that is told these choices, where there is one.
+    fn with_choices(&self, _choices: Choices) -> Option<Box<dyn Question>> {
         None
     }
     /// What the crate does, step by step, where there are steps.
@@ -118,6 +124,8 @@ pub static PARTS: &[&dyn Part] = &[
     &kerning_lists::Lists(Kerx),
     &kerning_runs::Runs(Kerx),
     &lone_insertion::Insertions,
+    &kerning_choices::ByChoices(Kern),
+    &kerning_choices::ByChoices(Kerx),
 ];
 
 /// The part that an entry belongs to.

@@ -1,5 +1,6 @@
 //! The crate's kerning, as published, under document 01's rules of pairs and passes.
 
+use crate::reference::kerning_choices::Choices;
 use crate::reference::line::{Line, LARGEST_ROOM};
 use crate::reference::oracle::aat::{kern, kerx};
 use crate::reference::oracle::{caught, caught_as_none, Answer, Fault, LONGEST_TABLE};
@@ -233,10 +234,10 @@ impl Kerned {
         (&self.line.glyphs[..length], &mut self.along[..length])
     }
 
-    /// The pass by a subtable.
-    pub fn pass(&mut self, subtable: &Subtable) -> Result<Answer<()>, Fault> {
+    /// The pass by a subtable and these choices.
+    pub fn pass(&mut self, subtable: &Subtable, choices: Choices) -> Result<Answer<()>, Fault> {
         let (glyphs, along) = self.used();
-        subtable.pass(glyphs, along)
+        subtable.pass_by(choices, glyphs, along)
     }
 
     /// Turns the line and its adjustments round.

@@ -1,6 +1,7 @@
 //! Document 01's whole run of a kern or kerx table, over the crate's subtables.
 
 use crate::reference::kerning::{Kerned, Kerning, Subtable};
+use crate::reference::kerning_choices::Choices;
 use crate::reference::oracle::aat::{kern, kerx};
 use crate::reference::oracle::{caught, Answer, Fault};
 use crate::reference::run::{refusal_of_run, MOST_HEADS};
@@ -11,6 +12,7 @@ pub struct Run<'a> {
     pub table: &'a [u8],
     pub start: u64,
     pub right_to_left: bool,
+    pub choices: Choices,
 }
 
 /// A subtable on the way of a run.
@@ -48,7 +50,7 @@ impl<'a> Run<'a> {
             }
             heads += 1;
             show(&visit, lent);
-            visit.make(lent)?;
+            visit.make(lent, self.choices)?;
         }
         Ok((Answer::Done(()), heads))
     }
@@ -87,7 +89,7 @@ impl<'a> Visit<'a> {
     }
 
     /// The pass, the line turned round before and after where that is asked for.
-    fn make(&self, lent: &mut Kerned) -> Result<(), Fault> {
+    fn make(&self, lent: &mut Kerned, choices: Choices) -> Result<(), Fault> {
         let subtable = match &self.subtable {
             Some(subtable) if self.passed_over.is_none() => subtable,
             _ => return Ok(()),
@@ -95,7 +97,7 @@ impl<'a> Visit<'a> {
         if self.is_turned {
             lent.reverse();
         }
-        lent.pass(subtable)?;
+        lent.pass(subtable, choices)?;
         if self.is_turned {
             lent.reverse();
         }

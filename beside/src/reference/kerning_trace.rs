@@ -2,16 +2,17 @@
 
 use crate::reference::kerning::{Kerned, Kerning, Subtable};
 use crate::reference::kerning_by_copy::{machines, open, Machine};
+use crate::reference::kerning_choices::Choices;
 use crate::reference::kerning_run::{Run, Visit};
 use crate::reference::oracle::Answer;
 use crate::reference::trace::{describe_state, end_pass, end_run};
 use crate::wire::along::describe_along;
 
-/// The steps of the pass by the one subtable of a table made by `alone`.
-pub fn describe_pass(kerning: Kerning, table: &[u8], lent: &Kerned) -> Vec<String> {
+/// The steps of the pass by the one subtable of a table made by `alone`, and by these choices.
+pub fn describe_pass(kerning: Kerning, table: &[u8], choices: Choices, lent: &Kerned) -> Vec<String> {
     let mut steps = Vec::new();
     if let Ok(Some(subtable)) = Subtable::alone(kerning, table) {
-        add_steps(&subtable, open(kerning, table), lent.clone(), &mut steps);
+        add_steps(&subtable, open(kerning, table), choices, lent.clone(), &mut steps);
     }
     steps
 }
@@ -31,7 +32,7 @@ pub fn describe_run(run: &Run, lent: &Kerned) -> Vec<String> {
             if visit.is_turned {
                 lent.reverse();
             }
-            add_steps(subtable, machine, lent, &mut steps);
+            add_steps(subtable, machine, run.choices, lent, &mut steps);
         }
     };
     let mut lent = lent.clone();
@@ -52,7 +53,13 @@ impl Subtable<'_> {
 }
 
 /// The steps of a machine, each with the state and the adjustments before it, or the pairs, each with its number.
-fn add_steps(subtable: &Subtable, machine: Option<Machine>, mut lent: Kerned, steps: &mut Vec<String>) {
+fn add_steps(
+    subtable: &Subtable,
+    machine: Option<Machine>,
+    choices: Choices,
+    mut lent: Kerned,
+    steps: &mut Vec<String>,
+) {
     let (glyphs, along) = lent.used();
     let answer = match machine {
         Some(machine) => machine.pass(glyphs, along, &mut |state, place, along| {
@@ -60,14 +67,15 @@ fn add_steps(subtable: &Subtable, machine: Option<Machine>, mut lent: Kerned, st
             steps.push(format!("{}; state {}; {}", told, describe_state(state), describe_along(along)));
         }),
         None => {
-            for (place, pair) in glyphs.windows(2).enumerate() {
-                let number = match subtable.get(pair[0], pair[1]) {
+            for (first, second) in choices.pairs(glyphs) {
+                let [left, right] = [first, second].map(|place| glyphs[place]);
+                let number = match subtable.get(left, right) {
                     Answer::Done(number) => number.to_string(),
                     _ => "nothing".into(),
                 };
-                steps.push(format!("pair at place {}, glyphs {} {}: {}", place, pair[0], pair[1], number));
+                steps.push(format!("pair at places {} {}, glyphs {} {}: {}", first, second, left, right, number));
             }
-            subtable.pass(glyphs, along)
+            subtable.pass_by(choices, glyphs, along)
         }
     };
     end_pass(steps, answer, &describe_along(along));

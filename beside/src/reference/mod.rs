@@ -2,6 +2,7 @@
 
 pub mod kerning;
 pub mod kerning_by_copy;
+pub mod kerning_choices;
 pub mod kerning_lists_by_copy;
 pub mod kerning_run;
 pub mod kerning_trace;

@@ -56,4 +56,8 @@ entries! {
     LookupWhy "aat_lookup_why",
     KernPairWhy "aat_kern_pair_why",
     KerxPairWhy "aat_kerx_pair_why",
+    KernPassBy "aat_kern_pass_by",
+    KerxPassBy "aat_kerx_pass_by",
+    KernRunBy "aat_kern_run_by",
+    KerxRunBy "aat_kerx_run_by",
 }

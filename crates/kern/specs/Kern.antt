@@ -5,6 +5,7 @@ use Rattle.laws.specs.Choose.{ifEq}
 use Rattle.answers.specs.declared.Answer.the-variants as Answer′
 use Rattle.answers.specs.declared.Refusal.the-variants as Refusal′
 use Rattle.kerning.specs.Additions.{Kerned, nothingAdded}
+use Rattle.kerning.specs.declared.choices.Choices.{Choices}
 use Rattle.pairs.specs.Pairs.{orderedKern}
 use Rattle.pairs.specs.Reply.{replyOf}
 use Rattle.pairs.specs.Pass as Pairs′
@@ -15,10 +16,11 @@ use Rattle.kern_machine.specs.Machine.{headSize}
 use Rattle.kerning_lists.specs.Family.{Family}
 use Rattle.kern.specs.Heads.{headIn, listOf}
 
--- the pass by the subtable that begins with these bytes, of this format: ordered pairs or the machine; others are left out
-unfoldable pub worked : List ℕ → (version format : ℕ) → (glyphs : List ℕ) → (used : ℕ) → Kerned
-worked bytes version format glyphs used =
-    ifEq format 0 (Pairs′.workedBy bytes (orderedKern bytes (headSize version)) glyphs used)
+-- the pass by the subtable that begins with these bytes, of this format: ordered pairs or the machine; others are left out.
+-- Choices concern pairs alone
+unfoldable pub worked : List ℕ → (version format : ℕ) → (glyphs : List ℕ) → (used : ℕ) → Choices → Kerned
+worked bytes version format glyphs used choices =
+    ifEq format 0 (Pairs′.workedBy bytes (orderedKern bytes (headSize version)) glyphs used (choices .pairs))
     (ifEq format 1 (Machine′.worked bytes version glyphs used) (nothingAdded (Answer′.Refused Refusal′.Head)))
 
 -- the answer for a pair of glyphs; the machine has no pairs

@@ -2,6 +2,8 @@
 use answers::Answer;
 use answers::Check;
 use answers::Refusal;
+use kerning::choices;
+use kerning::choices::Choices;
 use kerning_lists::Cursor;
 use kerning_lists::Head;
 use kerning_lists::ListHead;
@@ -18,6 +20,7 @@ ghost use Rattle.answers.specs.Limits.{roomLimit};
 ghost use Rattle.line.specs.Line.{lineOf};
 ghost use Rattle.kerning.specs.Additions.{addAll};
 ghost use Rattle.kerning.specs.Bounds.{Within};
+ghost use Rattle.kerning.specs.Choices.{unchosen};
 ghost use Rattle.kerning_lists.specs.Family.{headAt, walkOf, passed, passCall, pairIn, pairCall, adds, runCall, listFrom, listCall, subtableCall};
 ghost use Rattle.kerning_lists.specs.Walk.{walkAnswer, visited, headsFrom};
 ghost use Rattle.kerning_lists.specs.Run.{contribution, contributions, usedPart};
@@ -155,14 +158,16 @@ fn work(
     glyphs: &[u16],
     used: usize,
     along: &mut [i64],
+    choices: Choices,
 ) -> Answer
     requires { ⌜ (used ≤ length (now glyphs)) × (used ≤ length (now along)) × (used ≤ roomLimit) × Within (2 ^ 60) (now along) ⌝ }
-    ensures answer { λ r. ⌜ r ≡ worked (now (bytes .entry)) version format (now (glyphs .entry)) used .answer ⌝ }
-    ensures along { λ _. ⌜ now (along .exit) ≡ addAll (worked (now (bytes .entry)) version format (now (glyphs .entry)) used .additions) (now (along .entry)) ⌝ }
+    ensures answer { λ r. ⌜ r ≡ worked (now (bytes .entry)) version format (now (glyphs .entry)) used choices .answer ⌝ }
+    ensures along { λ _. ⌜ now (along .exit) ≡ addAll (worked (now (bytes .entry)) version format (now (glyphs .entry)) used choices .additions) (now (along .entry)) ⌝ }
 {
+    let rule = choices.pairs;
     if format == 0 {
         let opened = pairs::ordered_kern(bytes, kern_machine::head_size(version));
-        return pairs::work(bytes, opened, glyphs, used, along);
+        return pairs::work(bytes, opened, glyphs, used, along, rule);
     }
     if format == 1 {
         return kern_machine::work(bytes, version, glyphs, used, along);
@@ -209,23 +214,31 @@ fn visit(
     glyphs: &[u16],
     used: usize,
     along: &mut [i64],
+    choices: Choices,
 )
     requires { ⌜ (used ≤ length (now glyphs)) × (used ≤ length (now along)) × (used ≤ roomLimit) × Within (2 ^ 60) (now along) × (subtable .turned ≡ false) ⌝ }
-    ensures { λ _. ⌜ now (along .exit) ≡ addAll (contribution (adds kern (now (bytes .entry)) version used) (now (glyphs .entry)) used subtable) (now (along .entry)) ⌝ }
+    ensures { λ _. ⌜ now (along .exit) ≡ addAll (contribution (adds kern (now (bytes .entry)) version used choices) (now (glyphs .entry)) used subtable) (now (along .entry)) ⌝ }
 {
     if subtable.passed_over {
         return;
     }
     let part = parse::from(bytes, subtable.body);
-    let _ = work(part, version, subtable.format, glyphs, used, along);
+    let _ = work(part, version, subtable.format, glyphs, used, along, choices);
 }
 
 // The subtables one after the other, from the first on.
-fn run_list(bytes: &[u8], list: ListHead, glyphs: &[u16], used: usize, along: &mut [i64]) -> Run
+fn run_list(
+    bytes: &[u8],
+    list: ListHead,
+    glyphs: &[u16],
+    used: usize,
+    along: &mut [i64],
+    choices: Choices,
+) -> Run
     requires { ⌜ (used ≤ length (now glyphs)) × (used ≤ length (now along)) × (used ≤ roomLimit) × Within 0 (now along) ⌝ }
     ensures answer { λ r. ⌜ r .answer ≡ walkAnswer (headsFrom (headAt kern false (now (bytes .entry)) (list .version)) (list .count) (list .first)) ⌝ }
     ensures heads { λ r. ⌜ r .heads ≡ length (visited (headsFrom (headAt kern false (now (bytes .entry)) (list .version)) (list .count) (list .first))) ⌝ }
-    ensures along { λ _. ⌜ now (along .exit) ≡ addAll (contributions (adds kern (now (bytes .entry)) (list .version) used) (now (glyphs .entry)) used (visited (headsFrom (headAt kern false (now (bytes .entry)) (list .version)) (list .count) (list .first)))) (now (along .entry)) ⌝ }
+    ensures along { λ _. ⌜ now (along .exit) ≡ addAll (contributions (adds kern (now (bytes .entry)) (list .version) used choices) (now (glyphs .entry)) used (visited (headsFrom (headAt kern false (now (bytes .entry)) (list .version)) (list .count) (list .first)))) (now (along .entry)) ⌝ }
 {
     let mut heads = 0;
     let mut left = list.count;
@@ -243,7 +256,7 @@ fn run_list(bytes: &[u8], list: ListHead, glyphs: &[u16], used: usize, along: &m
                 heads,
             };
         }
-        visit(bytes, list.version, subtable, glyphs, used, along);
+        visit(bytes, list.version, subtable, glyphs, used, along, choices);
         heads += 1;
         left -= 1;
         at = subtable.next;
@@ -255,19 +268,19 @@ fn run_list(bytes: &[u8], list: ListHead, glyphs: &[u16], used: usize, along: &m
 }
 
 // The used adjustments, zeroed first, with what the list's subtables add.
-fn run_part(bytes: &[u8], glyphs: &[u16], along: &mut [i64]) -> Run
+fn run_part(bytes: &[u8], glyphs: &[u16], along: &mut [i64], choices: Choices) -> Run
     requires { ⌜ (length (now along) ≤ length (now glyphs)) × (length (now along) ≤ roomLimit) ⌝ }
     ensures answer { λ r. ⌜ r .answer ≡ walkAnswer (walkOf kern false (now (bytes .entry))) ⌝ }
     ensures heads { λ r. ⌜ r .heads ≡ length (visited (walkOf kern false (now (bytes .entry)))) ⌝ }
-    ensures along { λ _. ⌜ now (along .exit) ≡ usedPart (walkOf kern false (now (bytes .entry))) (adds kern (now (bytes .entry)) (listOf (now (bytes .entry)) .version) (length (now (along .entry)))) (now (glyphs .entry)) (length (now (along .entry))) ⌝ }
+    ensures along { λ _. ⌜ now (along .exit) ≡ usedPart (walkOf kern false (now (bytes .entry))) (adds kern (now (bytes .entry)) (listOf (now (bytes .entry)) .version) (length (now (along .entry))) choices) (now (glyphs .entry)) (length (now (along .entry))) ⌝ }
 {
     kerning_lists::zero(along);
     let used = along.len();
-    run_list(bytes, list_of(bytes), glyphs, used, along)
+    run_list(bytes, list_of(bytes), glyphs, used, along, choices)
 }
 
-// A whole run over the list at `start`.
-pub fn run(
+// A whole run over the list at `start` by the choices made.
+pub fn run_by(
     table: &[u8],
     start: usize,
     glyphs: &[u16],
@@ -275,10 +288,11 @@ pub fn run(
     homes: &[u16],
     used: usize,
     along: &mut [i64],
+    choices: Choices,
 ) -> Run
-    ensures answer { λ r. ⌜ r .answer ≡ runCall kern (now (table .entry)) start false (lineOf (now (glyphs .entry)) (now (tags .entry)) (now (homes .entry)) used) (now (along .entry)) .answer ⌝ }
-    ensures heads { λ r. ⌜ r .heads ≡ runCall kern (now (table .entry)) start false (lineOf (now (glyphs .entry)) (now (tags .entry)) (now (homes .entry)) used) (now (along .entry)) .heads ⌝ }
-    ensures along { λ _. ⌜ now (along .exit) ≡ runCall kern (now (table .entry)) start false (lineOf (now (glyphs .entry)) (now (tags .entry)) (now (homes .entry)) used) (now (along .entry)) .along ⌝ }
+    ensures answer { λ r. ⌜ r .answer ≡ runCall kern (now (table .entry)) start false (lineOf (now (glyphs .entry)) (now (tags .entry)) (now (homes .entry)) used) (now (along .entry)) choices .answer ⌝ }
+    ensures heads { λ r. ⌜ r .heads ≡ runCall kern (now (table .entry)) start false (lineOf (now (glyphs .entry)) (now (tags .entry)) (now (homes .entry)) used) (now (along .entry)) choices .heads ⌝ }
+    ensures along { λ _. ⌜ now (along .exit) ≡ runCall kern (now (table .entry)) start false (lineOf (now (glyphs .entry)) (now (tags .entry)) (now (homes .entry)) used) (now (along .entry)) choices .along ⌝ }
 {
     if let Check::Refused(why) = kerning_lists::refuse_run(
         table.len(),
@@ -298,23 +312,65 @@ pub fn run(
         kerning_lists::list_bytes(table, start),
         glyphs,
         &mut along[..used],
+        choices,
+    )
+}
+
+// The same with no choice made.
+pub fn run(
+    table: &[u8],
+    start: usize,
+    glyphs: &[u16],
+    tags: &[u16],
+    homes: &[u16],
+    used: usize,
+    along: &mut [i64],
+) -> Run
+    ensures answer { λ r. ⌜ r .answer ≡ runCall kern (now (table .entry)) start false (lineOf (now (glyphs .entry)) (now (tags .entry)) (now (homes .entry)) used) (now (along .entry)) unchosen .answer ⌝ }
+    ensures heads { λ r. ⌜ r .heads ≡ runCall kern (now (table .entry)) start false (lineOf (now (glyphs .entry)) (now (tags .entry)) (now (homes .entry)) used) (now (along .entry)) unchosen .heads ⌝ }
+    ensures along { λ _. ⌜ now (along .exit) ≡ runCall kern (now (table .entry)) start false (lineOf (now (glyphs .entry)) (now (tags .entry)) (now (homes .entry)) used) (now (along .entry)) unchosen .along ⌝ }
+{
+    run_by(
+        table,
+        start,
+        glyphs,
+        tags,
+        homes,
+        used,
+        along,
+        choices::none(),
     )
 }
 
 // The pass by the subtable that begins with `bytes`, its head included.
-fn pass_in(bytes: &[u8], version: u16, glyphs: &[u16], used: usize, along: &mut [i64]) -> Answer
+fn pass_in(
+    bytes: &[u8],
+    version: u16,
+    glyphs: &[u16],
+    used: usize,
+    along: &mut [i64],
+    choices: Choices,
+) -> Answer
     requires { ⌜ (used ≤ length (now glyphs)) × (used ≤ length (now along)) × (used ≤ roomLimit) × Within (2 ^ 60) (now along) ⌝ }
-    ensures answer { λ r. ⌜ r ≡ passed kern (now (bytes .entry)) version (now (glyphs .entry)) used .answer ⌝ }
-    ensures along { λ _. ⌜ now (along .exit) ≡ addAll (passed kern (now (bytes .entry)) version (now (glyphs .entry)) used .additions) (now (along .entry)) ⌝ }
+    ensures answer { λ r. ⌜ r ≡ passed kern (now (bytes .entry)) version (now (glyphs .entry)) used choices .answer ⌝ }
+    ensures along { λ _. ⌜ now (along .exit) ≡ addAll (passed kern (now (bytes .entry)) version (now (glyphs .entry)) used choices .additions) (now (along .entry)) ⌝ }
 {
     let Head::At(subtable) = head_in(version, 0, bytes) else {
         return Answer::Refused(Refusal::Head);
     };
-    work(bytes, version, subtable.format, glyphs, used, along)
+    work(
+        bytes,
+        version,
+        subtable.format,
+        glyphs,
+        used,
+        along,
+        choices,
+    )
 }
 
-// The pass over a line, by the subtable at `start` of a list of this version; HEAD is the pass's own answer.
-pub fn pass(
+// The pass over a line, by the subtable at `start` of a list of this version and the choices made; HEAD is the pass's own answer.
+pub fn pass_by(
     table: &[u8],
     start: usize,
     version: u16,
@@ -323,9 +379,10 @@ pub fn pass(
     homes: &[u16],
     used: usize,
     along: &mut [i64],
+    choices: Choices,
 ) -> Answer
-    ensures answer { λ r. ⌜ r ≡ passCall kern (now (table .entry)) start version (lineOf (now (glyphs .entry)) (now (tags .entry)) (now (homes .entry)) used) (now (along .entry)) .answer ⌝ }
-    ensures along { λ _. ⌜ now (along .exit) ≡ addAll (passCall kern (now (table .entry)) start version (lineOf (now (glyphs .entry)) (now (tags .entry)) (now (homes .entry)) used) (now (along .entry)) .additions) (now (along .entry)) ⌝ }
+    ensures answer { λ r. ⌜ r ≡ passCall kern (now (table .entry)) start version (lineOf (now (glyphs .entry)) (now (tags .entry)) (now (homes .entry)) used) (now (along .entry)) choices .answer ⌝ }
+    ensures along { λ _. ⌜ now (along .exit) ≡ addAll (passCall kern (now (table .entry)) start version (lineOf (now (glyphs .entry)) (now (tags .entry)) (now (homes .entry)) used) (now (along .entry)) choices .additions) (now (along .entry)) ⌝ }
 {
     if let Check::Refused(why) = kerning::refuse_pass(
         table.len(),
@@ -337,5 +394,39 @@ pub fn pass(
     ) {
         return Answer::Refused(why);
     }
-    pass_in(parse::from(table, start), version, glyphs, used, along)
+    pass_in(
+        parse::from(table, start),
+        version,
+        glyphs,
+        used,
+        along,
+        choices,
+    )
+}
+
+// The same with no choice made.
+pub fn pass(
+    table: &[u8],
+    start: usize,
+    version: u16,
+    glyphs: &[u16],
+    tags: &[u16],
+    homes: &[u16],
+    used: usize,
+    along: &mut [i64],
+) -> Answer
+    ensures answer { λ r. ⌜ r ≡ passCall kern (now (table .entry)) start version (lineOf (now (glyphs .entry)) (now (tags .entry)) (now (homes .entry)) used) (now (along .entry)) unchosen .answer ⌝ }
+    ensures along { λ _. ⌜ now (along .exit) ≡ addAll (passCall kern (now (table .entry)) start version (lineOf (now (glyphs .entry)) (now (tags .entry)) (now (homes .entry)) used) (now (along .entry)) unchosen .additions) (now (along .entry)) ⌝ }
+{
+    pass_by(
+        table,
+        start,
+        version,
+        glyphs,
+        tags,
+        homes,
+        used,
+        along,
+        choices::none(),
+    )
 }

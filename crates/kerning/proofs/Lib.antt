@@ -5,3 +5,4 @@ pub mod Scans
 pub mod Ruling
 pub mod Walking
 pub mod Calls
+pub mod Choosing

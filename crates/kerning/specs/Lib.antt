@@ -3,3 +3,4 @@ pub mod Additions
 pub mod Line
 pub mod Lists
 pub mod Bounds
+pub mod Choices

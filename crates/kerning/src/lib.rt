@@ -1,4 +1,5 @@
 // What the kerning of kern and of kerx share: additions to the adjustments, the LINE test, and lists of numbers.
+pub mod choices;
 pub mod lists;
 
 use answers::Check;

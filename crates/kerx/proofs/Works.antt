@@ -14,6 +14,7 @@ use Rattle.answers.specs.declared.Answer.the-variants as Answer′
 use Rattle.answers.specs.declared.Refusal.the-variants as Refusal′
 use Rattle.kerning.specs.Additions.{addAll, nothingAdded}
 use Rattle.kerning.specs.Bounds.{Within}
+use Rattle.kerning.specs.declared.choices.Choices.{Choices}
 use Rattle.kerning.proofs.Adding.{addAll-none, within-more}
 use Rattle.pairs.specs.Pairs.{orderedKerx, classesKerx}
 use Rattle.pairs.specs.Reply.{replyOf}
@@ -32,47 +33,47 @@ use Rattle.laws.specs.Backward.{backward}
 use Rattle.kerning_lists.proofs.Calls.{Works, works-same, works-nothing}
 use Rattle.kerx.specs.Kerx.{worked, pairBy}
 
-module _ (bytes : List ℕ) (version format : ℕ) (glyphs : List ℕ) (used : ℕ) (before : List ℤ) where
+module _ (bytes : List ℕ) (version format : ℕ) (glyphs : List ℕ) (used : ℕ) (choices : Choices) (before : List ℤ) where
   pub works-ordered : {opened : Opened} {answer : Answer} {after : List ℤ} → format ≡ 0 → opened ≡ orderedKerx bytes
-      → answer ≡ Pairs′.workedBy bytes opened glyphs used .answer → after ≡ addAll (Pairs′.workedBy bytes opened glyphs used .additions) before
-      → Works (worked bytes version format glyphs used) before answer after
+      → answer ≡ Pairs′.workedBy bytes opened glyphs used (choices .pairs) .answer → after ≡ addAll (Pairs′.workedBy bytes opened glyphs used (choices .pairs) .additions) before
+      → Works (worked bytes version format glyphs used choices) before answer after
   unfolding worked
   works-ordered z o a l =
-      works-same (ap (λ (x : Opened). Pairs′.workedBy bytes x glyphs used) o ∙ rw (eq-eqb format 0 z)) (record { answers = a; leaves = l })
+      works-same (ap (λ (x : Opened). Pairs′.workedBy bytes x glyphs used (choices .pairs)) o ∙ rw (eq-eqb format 0 z)) (record { answers = a; leaves = l })
 
   pub works-machine : {answer : Answer} {after : List ℤ} → (format ≡ 0 → ⊥) → format ≡ 1 → answer ≡ Machine′.worked bytes version glyphs used .answer
-      → after ≡ addAll (Machine′.worked bytes version glyphs used .additions) before → Works (worked bytes version format glyphs used) before answer after
+      → after ≡ addAll (Machine′.worked bytes version glyphs used .additions) before → Works (worked bytes version format glyphs used choices) before answer after
   unfolding worked
   works-machine n z a l = works-same (rw (ne-eqb format 0 n, eq-eqb format 1 z)) (record { answers = a; leaves = l })
 
   pub works-classes : {opened : Opened} {answer : Answer} {after : List ℤ} → (format ≡ 0 → ⊥) → (format ≡ 1 → ⊥) → format ≡ 2
-      → opened ≡ classesKerx bytes → answer ≡ Pairs′.workedBy bytes opened glyphs used .answer
-      → after ≡ addAll (Pairs′.workedBy bytes opened glyphs used .additions) before → Works (worked bytes version format glyphs used) before answer after
+      → opened ≡ classesKerx bytes → answer ≡ Pairs′.workedBy bytes opened glyphs used (choices .pairs) .answer
+      → after ≡ addAll (Pairs′.workedBy bytes opened glyphs used (choices .pairs) .additions) before → Works (worked bytes version format glyphs used choices) before answer after
   unfolding worked
   works-classes n m z o a l =
-      works-same (ap (λ (x : Opened). Pairs′.workedBy bytes x glyphs used) o ∙ rw (ne-eqb format 0 n, ne-eqb format 1 m, eq-eqb format 2 z))
+      works-same (ap (λ (x : Opened). Pairs′.workedBy bytes x glyphs used (choices .pairs)) o ∙ rw (ne-eqb format 0 n, ne-eqb format 1 m, eq-eqb format 2 z))
       (record { answers = a; leaves = l })
 
   pub works-none : (format ≡ 0 → ⊥) → (format ≡ 1 → ⊥) → (format ≡ 2 → ⊥)
-      → Works (worked bytes version format glyphs used) before (Answer′.Refused Refusal′.Head) before
+      → Works (worked bytes version format glyphs used choices) before (Answer′.Refused Refusal′.Head) before
   unfolding worked
   works-none n m k = works-nothing before (rw (ne-eqb format 0 n, ne-eqb format 1 m, ne-eqb format 2 k))
 
 -- whatever the format, little is added
-pub worked-little : (bytes : List ℕ) (version format : ℕ) (glyphs : List ℕ) (used b : ℕ) (along : List ℤ) → used ≤ roomLimit → Within b along
-    → Within (b + 2 ^ 39) (addAll (worked bytes version format glyphs used .additions) along)
+pub worked-little : (bytes : List ℕ) (version format : ℕ) (glyphs : List ℕ) (used : ℕ) (choices : Choices) (b : ℕ) (along : List ℤ) → used ≤ roomLimit → Within b along
+    → Within (b + 2 ^ 39) (addAll (worked bytes version format glyphs used choices .additions) along)
 unfolding worked
-worked-little bytes version format glyphs used b along h w = go (eqb format 0) (eqb format 1) (eqb format 2)
+worked-little bytes version format glyphs used choices b along h w = go (eqb format 0) (eqb format 1) (eqb format 2)
   where
     go : (zero one two : Bool) → Within (b + 2 ^ 39)
         (addAll
-        (cond zero (Pairs′.workedBy bytes (orderedKerx bytes) glyphs used)
+        (cond zero (Pairs′.workedBy bytes (orderedKerx bytes) glyphs used (choices .pairs))
         (cond one (Machine′.worked bytes version glyphs used)
-        (cond two (Pairs′.workedBy bytes (classesKerx bytes) glyphs used) (nothingAdded (Answer′.Refused Refusal′.Head)))) .additions)
+        (cond two (Pairs′.workedBy bytes (classesKerx bytes) glyphs used (choices .pairs)) (nothingAdded (Answer′.Refused Refusal′.Head)))) .additions)
         along)
-    go true one two = PairLaws.worked-within bytes (orderedKerx bytes) glyphs used along h w
+    go true one two = PairLaws.worked-within bytes (orderedKerx bytes) glyphs used (choices .pairs) along h w
     go false true two = Bounds′.worked-within bytes version glyphs used along h w
-    go false false true = PairLaws.worked-within bytes (classesKerx bytes) glyphs used along h w
+    go false false true = PairLaws.worked-within bytes (classesKerx bytes) glyphs used (choices .pairs) along h w
     go false false false = within-more (omega arith) (subst (Within b) (sym (addAll-none along)) w)
 
 -- a line turned round and back
@@ -80,13 +81,13 @@ pub back-again : (used : ℕ) (xs : List ℕ) {once twice : List ℕ} → used �
 back-again used xs h e f = f ∙ ap (backward used) e ∙ backward-twice 0 used xs h
 
 -- and its adjustments with it
-pub added-back : (used version format : ℕ) (part glyphs : List ℕ) (along : List ℤ) {turned : List ℕ} {once worked₁ after : List ℤ} → used ≤ length along
-    → turned ≡ backward used glyphs → once ≡ backward used along → worked₁ ≡ addAll (worked part version format turned used .additions) once
+pub added-back : (used version format : ℕ) (part glyphs : List ℕ) (choices : Choices) (along : List ℤ) {turned : List ℕ} {once worked₁ after : List ℤ} → used ≤ length along
+    → turned ≡ backward used glyphs → once ≡ backward used along → worked₁ ≡ addAll (worked part version format turned used choices .additions) once
     → after ≡ backward used worked₁
-    → after ≡ addAll (turnedBack used (worked part version format (backward used glyphs) used .additions)) along
-added-back used version format part glyphs along h g e w f =
-    f ∙ ap (backward used) (w ∙ ap₂ (λ (x : List ℕ) (y : List ℤ). addAll (worked part version format x used .additions) y) g e)
-    ∙ turned-and-back (worked part version format (backward used glyphs) used .additions) used along h
+    → after ≡ addAll (turnedBack used (worked part version format (backward used glyphs) used choices .additions)) along
+added-back used version format part glyphs choices along h g e w f =
+    f ∙ ap (backward used) (w ∙ ap₂ (λ (x : List ℕ) (y : List ℤ). addAll (worked part version format x used choices .additions) y) g e)
+    ∙ turned-and-back (worked part version format (backward used glyphs) used choices .additions) used along h
 
 -- the answer for a pair
 module _ (bytes : List ℕ) (version format left right : ℕ) where

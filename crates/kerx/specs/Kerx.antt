@@ -5,6 +5,7 @@ use Rattle.laws.specs.Choose.{ifEq}
 use Rattle.answers.specs.declared.Answer.the-variants as Answer′
 use Rattle.answers.specs.declared.Refusal.the-variants as Refusal′
 use Rattle.kerning.specs.Additions.{Kerned, nothingAdded}
+use Rattle.kerning.specs.declared.choices.Choices.{Choices}
 use Rattle.pairs.specs.Pairs.{orderedKerx, classesKerx}
 use Rattle.pairs.specs.Reply.{replyOf}
 use Rattle.pairs.specs.Pass as Pairs′
@@ -14,12 +15,13 @@ use Rattle.kerx_machine.specs.Machine as Machine′
 use Rattle.kerning_lists.specs.Family.{Family}
 use Rattle.kerx.specs.Heads.{headIn, listOf}
 
--- the pass by the subtable that begins with these bytes, of this format: ordered pairs, the machine, or class pairs; others are left out
-unfoldable pub worked : List ℕ → (version format : ℕ) → (glyphs : List ℕ) → (used : ℕ) → Kerned
-worked bytes version format glyphs used =
-    ifEq format 0 (Pairs′.workedBy bytes (orderedKerx bytes) glyphs used)
+-- the pass by the subtable that begins with these bytes, of this format: ordered pairs, the machine, or class pairs; others are left out.
+-- Choices concern pairs alone
+unfoldable pub worked : List ℕ → (version format : ℕ) → (glyphs : List ℕ) → (used : ℕ) → Choices → Kerned
+worked bytes version format glyphs used choices =
+    ifEq format 0 (Pairs′.workedBy bytes (orderedKerx bytes) glyphs used (choices .pairs))
     (ifEq format 1 (Machine′.worked bytes version glyphs used)
-    (ifEq format 2 (Pairs′.workedBy bytes (classesKerx bytes) glyphs used) (nothingAdded (Answer′.Refused Refusal′.Head))))
+    (ifEq format 2 (Pairs′.workedBy bytes (classesKerx bytes) glyphs used (choices .pairs)) (nothingAdded (Answer′.Refused Refusal′.Head))))
 
 -- the answer for a pair of glyphs; the machine has no pairs
 unfoldable pub pairBy : List ℕ → (version format left right : ℕ) → PairReply

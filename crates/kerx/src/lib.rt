@@ -2,6 +2,8 @@
 use answers::Answer;
 use answers::Check;
 use answers::Refusal;
+use kerning::choices;
+use kerning::choices::Choices;
 use kerning_lists::Cursor;
 use kerning_lists::Head;
 use kerning_lists::ListHead;
@@ -19,6 +21,7 @@ ghost use Rattle.laws.specs.Backward.{backward};
 ghost use Rattle.line.specs.Line.{lineOf};
 ghost use Rattle.kerning.specs.Additions.{addAll};
 ghost use Rattle.kerning.specs.Bounds.{Within};
+ghost use Rattle.kerning.specs.Choices.{unchosen};
 ghost use Rattle.kerning_lists.specs.Family.{headAt, walkOf, passed, passCall, pairIn, pairCall, adds, runCall, listFrom, listCall, subtableCall};
 ghost use Rattle.kerning_lists.specs.Walk.{walkAnswer, visited, headsFrom};
 ghost use Rattle.kerning_lists.specs.Run.{turnedBack, contribution, contributions, usedPart};
@@ -153,19 +156,21 @@ fn work(
     glyphs: &[u16],
     used: usize,
     along: &mut [i64],
+    choices: Choices,
 ) -> Answer
     requires { ⌜ (used ≤ length (now glyphs)) × (used ≤ length (now along)) × (used ≤ roomLimit) × Within (2 ^ 60) (now along) ⌝ }
-    ensures answer { λ r. ⌜ r ≡ worked (now (bytes .entry)) version format (now (glyphs .entry)) used .answer ⌝ }
-    ensures along { λ _. ⌜ now (along .exit) ≡ addAll (worked (now (bytes .entry)) version format (now (glyphs .entry)) used .additions) (now (along .entry)) ⌝ }
+    ensures answer { λ r. ⌜ r ≡ worked (now (bytes .entry)) version format (now (glyphs .entry)) used choices .answer ⌝ }
+    ensures along { λ _. ⌜ now (along .exit) ≡ addAll (worked (now (bytes .entry)) version format (now (glyphs .entry)) used choices .additions) (now (along .entry)) ⌝ }
 {
+    let rule = choices.pairs;
     if format == 0 {
-        return pairs::work(bytes, pairs::ordered_kerx(bytes), glyphs, used, along);
+        return pairs::work(bytes, pairs::ordered_kerx(bytes), glyphs, used, along, rule);
     }
     if format == 1 {
         return kerx_machine::work(bytes, version, glyphs, used, along);
     }
     if format == 2 {
-        return pairs::work(bytes, pairs::classes_kerx(bytes), glyphs, used, along);
+        return pairs::work(bytes, pairs::classes_kerx(bytes), glyphs, used, along, rule);
     }
     Answer::Refused(Refusal::Head)
 }
@@ -212,15 +217,16 @@ fn work_turned(
     tags: &mut [u16],
     used: usize,
     along: &mut [i64],
+    choices: Choices,
 )
     requires { ⌜ (used ≤ length (now glyphs)) × (used ≤ length (now tags)) × (used ≤ length (now along)) × (used ≤ roomLimit) × Within (2 ^ 60) (now along) ⌝ }
     ensures glyphs { λ _. ⌜ now (glyphs .exit) ≡ now (glyphs .entry) ⌝ }
     ensures tags { λ _. ⌜ now (tags .exit) ≡ now (tags .entry) ⌝ }
-    ensures along { λ _. ⌜ now (along .exit) ≡ addAll (turnedBack used (worked (now (part .entry)) version format (backward used (now (glyphs .entry))) used .additions)) (now (along .entry)) ⌝ }
+    ensures along { λ _. ⌜ now (along .exit) ≡ addAll (turnedBack used (worked (now (part .entry)) version format (backward used (now (glyphs .entry))) used choices .additions)) (now (along .entry)) ⌝ }
 {
     line::edits::reverse(glyphs, tags, used);
     kerning_lists::turn(along, used);
-    let _ = work(part, version, format, glyphs, used, along);
+    let _ = work(part, version, format, glyphs, used, along, choices);
     line::edits::reverse(glyphs, tags, used);
     kerning_lists::turn(along, used); // the adjustments too
 }
@@ -234,21 +240,31 @@ fn visit(
     tags: &mut [u16],
     used: usize,
     along: &mut [i64],
+    choices: Choices,
 )
     requires { ⌜ (used ≤ length (now glyphs)) × (used ≤ length (now tags)) × (used ≤ length (now along)) × (used ≤ roomLimit) × Within (2 ^ 60) (now along) ⌝ }
     ensures glyphs { λ _. ⌜ now (glyphs .exit) ≡ now (glyphs .entry) ⌝ }
     ensures tags { λ _. ⌜ now (tags .exit) ≡ now (tags .entry) ⌝ }
-    ensures along { λ _. ⌜ now (along .exit) ≡ addAll (contribution (adds kerx (now (bytes .entry)) version used) (now (glyphs .entry)) used subtable) (now (along .entry)) ⌝ }
+    ensures along { λ _. ⌜ now (along .exit) ≡ addAll (contribution (adds kerx (now (bytes .entry)) version used choices) (now (glyphs .entry)) used subtable) (now (along .entry)) ⌝ }
 {
     if subtable.passed_over {
         return;
     }
     let part = parse::from(bytes, subtable.body);
     if subtable.turned {
-        work_turned(part, version, subtable.format, glyphs, tags, used, along);
+        work_turned(
+            part,
+            version,
+            subtable.format,
+            glyphs,
+            tags,
+            used,
+            along,
+            choices,
+        );
         return;
     }
-    let _ = work(part, version, subtable.format, glyphs, used, along);
+    let _ = work(part, version, subtable.format, glyphs, used, along, choices);
 }
 
 // The subtables one after the other, from the first on.
@@ -260,13 +276,14 @@ fn run_list(
     tags: &mut [u16],
     used: usize,
     along: &mut [i64],
+    choices: Choices,
 ) -> Run
     requires { ⌜ (used ≤ length (now glyphs)) × (used ≤ length (now tags)) × (used ≤ length (now along)) × (used ≤ roomLimit) × Within 0 (now along) ⌝ }
     ensures answer { λ r. ⌜ r .answer ≡ walkAnswer (headsFrom (headAt kerx rtl (now (bytes .entry)) (list .version)) (list .count) (list .first)) ⌝ }
     ensures heads { λ r. ⌜ r .heads ≡ length (visited (headsFrom (headAt kerx rtl (now (bytes .entry)) (list .version)) (list .count) (list .first))) ⌝ }
     ensures glyphs { λ _. ⌜ now (glyphs .exit) ≡ now (glyphs .entry) ⌝ }
     ensures tags { λ _. ⌜ now (tags .exit) ≡ now (tags .entry) ⌝ }
-    ensures along { λ _. ⌜ now (along .exit) ≡ addAll (contributions (adds kerx (now (bytes .entry)) (list .version) used) (now (glyphs .entry)) used (visited (headsFrom (headAt kerx rtl (now (bytes .entry)) (list .version)) (list .count) (list .first)))) (now (along .entry)) ⌝ }
+    ensures along { λ _. ⌜ now (along .exit) ≡ addAll (contributions (adds kerx (now (bytes .entry)) (list .version) used choices) (now (glyphs .entry)) used (visited (headsFrom (headAt kerx rtl (now (bytes .entry)) (list .version)) (list .count) (list .first)))) (now (along .entry)) ⌝ }
 {
     let mut heads = 0;
     let mut left = list.count;
@@ -284,7 +301,16 @@ fn run_list(
                 heads,
             };
         }
-        visit(bytes, list.version, subtable, glyphs, tags, used, along);
+        visit(
+            bytes,
+            list.version,
+            subtable,
+            glyphs,
+            tags,
+            used,
+            along,
+            choices,
+        );
         heads += 1;
         left -= 1;
         at = subtable.next;
@@ -296,21 +322,37 @@ fn run_list(
 }
 
 // The used adjustments, zeroed first, with what the list's subtables add.
-fn run_part(bytes: &[u8], rtl: bool, glyphs: &mut [u16], tags: &mut [u16], along: &mut [i64]) -> Run
+fn run_part(
+    bytes: &[u8],
+    rtl: bool,
+    glyphs: &mut [u16],
+    tags: &mut [u16],
+    along: &mut [i64],
+    choices: Choices,
+) -> Run
     requires { ⌜ (length (now along) ≤ length (now glyphs)) × (length (now along) ≤ length (now tags)) × (length (now along) ≤ roomLimit) ⌝ }
     ensures answer { λ r. ⌜ r .answer ≡ walkAnswer (walkOf kerx rtl (now (bytes .entry))) ⌝ }
     ensures heads { λ r. ⌜ r .heads ≡ length (visited (walkOf kerx rtl (now (bytes .entry)))) ⌝ }
     ensures glyphs { λ _. ⌜ now (glyphs .exit) ≡ now (glyphs .entry) ⌝ }
     ensures tags { λ _. ⌜ now (tags .exit) ≡ now (tags .entry) ⌝ }
-    ensures along { λ _. ⌜ now (along .exit) ≡ usedPart (walkOf kerx rtl (now (bytes .entry))) (adds kerx (now (bytes .entry)) (listOf (now (bytes .entry)) .version) (length (now (along .entry)))) (now (glyphs .entry)) (length (now (along .entry))) ⌝ }
+    ensures along { λ _. ⌜ now (along .exit) ≡ usedPart (walkOf kerx rtl (now (bytes .entry))) (adds kerx (now (bytes .entry)) (listOf (now (bytes .entry)) .version) (length (now (along .entry))) choices) (now (glyphs .entry)) (length (now (along .entry))) ⌝ }
 {
     kerning_lists::zero(along);
     let used = along.len();
-    run_list(bytes, list_of(bytes), rtl, glyphs, tags, used, along)
+    run_list(
+        bytes,
+        list_of(bytes),
+        rtl,
+        glyphs,
+        tags,
+        used,
+        along,
+        choices,
+    )
 }
 
-// A whole run over the list at `start`, of a line that goes from right to left or not. The line is turned and turned back, and so unchanged.
-pub fn run(
+// A whole run over the list at `start` by the choices made, of a line that goes from right to left or not. The line is turned and turned back, and so unchanged.
+pub fn run_by(
     table: &[u8],
     start: usize,
     rtl: bool,
@@ -319,12 +361,13 @@ pub fn run(
     homes: &[u16],
     used: usize,
     along: &mut [i64],
+    choices: Choices,
 ) -> Run
-    ensures answer { λ r. ⌜ r .answer ≡ runCall kerx (now (table .entry)) start rtl (lineOf (now (glyphs .entry)) (now (tags .entry)) (now (homes .entry)) used) (now (along .entry)) .answer ⌝ }
-    ensures heads { λ r. ⌜ r .heads ≡ runCall kerx (now (table .entry)) start rtl (lineOf (now (glyphs .entry)) (now (tags .entry)) (now (homes .entry)) used) (now (along .entry)) .heads ⌝ }
+    ensures answer { λ r. ⌜ r .answer ≡ runCall kerx (now (table .entry)) start rtl (lineOf (now (glyphs .entry)) (now (tags .entry)) (now (homes .entry)) used) (now (along .entry)) choices .answer ⌝ }
+    ensures heads { λ r. ⌜ r .heads ≡ runCall kerx (now (table .entry)) start rtl (lineOf (now (glyphs .entry)) (now (tags .entry)) (now (homes .entry)) used) (now (along .entry)) choices .heads ⌝ }
     ensures glyphs { λ _. ⌜ now (glyphs .exit) ≡ now (glyphs .entry) ⌝ }
     ensures tags { λ _. ⌜ now (tags .exit) ≡ now (tags .entry) ⌝ }
-    ensures along { λ _. ⌜ now (along .exit) ≡ runCall kerx (now (table .entry)) start rtl (lineOf (now (glyphs .entry)) (now (tags .entry)) (now (homes .entry)) used) (now (along .entry)) .along ⌝ }
+    ensures along { λ _. ⌜ now (along .exit) ≡ runCall kerx (now (table .entry)) start rtl (lineOf (now (glyphs .entry)) (now (tags .entry)) (now (homes .entry)) used) (now (along .entry)) choices .along ⌝ }
 {
     if let Check::Refused(why) = kerning_lists::refuse_run(
         table.len(),
@@ -346,23 +389,69 @@ pub fn run(
         glyphs,
         tags,
         &mut along[..used],
+        choices,
+    )
+}
+
+// The same with no choice made.
+pub fn run(
+    table: &[u8],
+    start: usize,
+    rtl: bool,
+    glyphs: &mut [u16],
+    tags: &mut [u16],
+    homes: &[u16],
+    used: usize,
+    along: &mut [i64],
+) -> Run
+    ensures answer { λ r. ⌜ r .answer ≡ runCall kerx (now (table .entry)) start rtl (lineOf (now (glyphs .entry)) (now (tags .entry)) (now (homes .entry)) used) (now (along .entry)) unchosen .answer ⌝ }
+    ensures heads { λ r. ⌜ r .heads ≡ runCall kerx (now (table .entry)) start rtl (lineOf (now (glyphs .entry)) (now (tags .entry)) (now (homes .entry)) used) (now (along .entry)) unchosen .heads ⌝ }
+    ensures glyphs { λ _. ⌜ now (glyphs .exit) ≡ now (glyphs .entry) ⌝ }
+    ensures tags { λ _. ⌜ now (tags .exit) ≡ now (tags .entry) ⌝ }
+    ensures along { λ _. ⌜ now (along .exit) ≡ runCall kerx (now (table .entry)) start rtl (lineOf (now (glyphs .entry)) (now (tags .entry)) (now (homes .entry)) used) (now (along .entry)) unchosen .along ⌝ }
+{
+    run_by(
+        table,
+        start,
+        rtl,
+        glyphs,
+        tags,
+        homes,
+        used,
+        along,
+        choices::none(),
     )
 }
 
 // The pass by the subtable that begins with `bytes`, its head included.
-fn pass_in(bytes: &[u8], version: u16, glyphs: &[u16], used: usize, along: &mut [i64]) -> Answer
+fn pass_in(
+    bytes: &[u8],
+    version: u16,
+    glyphs: &[u16],
+    used: usize,
+    along: &mut [i64],
+    choices: Choices,
+) -> Answer
     requires { ⌜ (used ≤ length (now glyphs)) × (used ≤ length (now along)) × (used ≤ roomLimit) × Within (2 ^ 60) (now along) ⌝ }
-    ensures answer { λ r. ⌜ r ≡ passed kerx (now (bytes .entry)) version (now (glyphs .entry)) used .answer ⌝ }
-    ensures along { λ _. ⌜ now (along .exit) ≡ addAll (passed kerx (now (bytes .entry)) version (now (glyphs .entry)) used .additions) (now (along .entry)) ⌝ }
+    ensures answer { λ r. ⌜ r ≡ passed kerx (now (bytes .entry)) version (now (glyphs .entry)) used choices .answer ⌝ }
+    ensures along { λ _. ⌜ now (along .exit) ≡ addAll (passed kerx (now (bytes .entry)) version (now (glyphs .entry)) used choices .additions) (now (along .entry)) ⌝ }
 {
     let Head::At(subtable) = head_in(false, version, 0, bytes) else {
         return Answer::Refused(Refusal::Head);
     };
-    work(bytes, version, subtable.format, glyphs, used, along)
+    work(
+        bytes,
+        version,
+        subtable.format,
+        glyphs,
+        used,
+        along,
+        choices,
+    )
 }
 
-// The pass over a line, by the subtable at `start` of a list of this version; HEAD is the pass's own answer.
-pub fn pass(
+// The pass over a line, by the subtable at `start` of a list of this version and the choices made; HEAD is the pass's own answer.
+pub fn pass_by(
     table: &[u8],
     start: usize,
     version: u16,
@@ -371,9 +460,10 @@ pub fn pass(
     homes: &[u16],
     used: usize,
     along: &mut [i64],
+    choices: Choices,
 ) -> Answer
-    ensures answer { λ r. ⌜ r ≡ passCall kerx (now (table .entry)) start version (lineOf (now (glyphs .entry)) (now (tags .entry)) (now (homes .entry)) used) (now (along .entry)) .answer ⌝ }
-    ensures along { λ _. ⌜ now (along .exit) ≡ addAll (passCall kerx (now (table .entry)) start version (lineOf (now (glyphs .entry)) (now (tags .entry)) (now (homes .entry)) used) (now (along .entry)) .additions) (now (along .entry)) ⌝ }
+    ensures answer { λ r. ⌜ r ≡ passCall kerx (now (table .entry)) start version (lineOf (now (glyphs .entry)) (now (tags .entry)) (now (homes .entry)) used) (now (along .entry)) choices .answer ⌝ }
+    ensures along { λ _. ⌜ now (along .exit) ≡ addAll (passCall kerx (now (table .entry)) start version (lineOf (now (glyphs .entry)) (now (tags .entry)) (now (homes .entry)) used) (now (along .entry)) choices .additions) (now (along .entry)) ⌝ }
 {
     if let Check::Refused(why) = kerning::refuse_pass(
         table.len(),
@@ -385,5 +475,39 @@ pub fn pass(
     ) {
         return Answer::Refused(why);
     }
-    pass_in(parse::from(table, start), version, glyphs, used, along)
+    pass_in(
+        parse::from(table, start),
+        version,
+        glyphs,
+        used,
+        along,
+        choices,
+    )
+}
+
+// The same with no choice made.
+pub fn pass(
+    table: &[u8],
+    start: usize,
+    version: u16,
+    glyphs: &[u16],
+    tags: &[u16],
+    homes: &[u16],
+    used: usize,
+    along: &mut [i64],
+) -> Answer
+    ensures answer { λ r. ⌜ r ≡ passCall kerx (now (table .entry)) start version (lineOf (now (glyphs .entry)) (now (tags .entry)) (now (homes .entry)) used) (now (along .entry)) unchosen .answer ⌝ }
+    ensures along { λ _. ⌜ now (along .exit) ≡ addAll (passCall kerx (now (table .entry)) start version (lineOf (now (glyphs .entry)) (now (tags .entry)) (now (homes .entry)) used) (now (along .entry)) unchosen .additions) (now (along .entry)) ⌝ }
+{
+    pass_by(
+        table,
+        start,
+        version,
+        glyphs,
+        tags,
+        homes,
+        used,
+        along,
+        choices::none(),
+    )
 }

@@ -1,5 +1,7 @@
 -- Laws of kerning pairs.
 mod Laws
+mod Scans
 pub mod Passes
 pub mod Manual
 pub mod Reasons
+pub mod Joined

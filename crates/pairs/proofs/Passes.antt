@@ -1,10 +1,11 @@
--- The pair pass's loop: the pairs among the places below i have added theirs.
+-- The pair pass's loops: over a stretch of places that count, and over the stretches.
 use Prim.Native.Nat.{ℕ, zero, suc, _+_, _-_, _*_, _<_, _≤_, _^_}
 use mathlib.Core.Path.{_≡_, refl, sym, _∙_, ap, subst}
-use mathlib.Core.Bool.{Bool, true, false}
-use mathlib.Core.List.{List, _++_}
+use mathlib.Core.Bool.{Bool, true, false, cond}
+use mathlib.Core.List.{List, [], _++_, append-nil, append-assoc}
 use native.Mathlib.Numerals.{add-one}
 use native.Mathlib.Omega.{arith}
+use mathlib.Core.Logic.{_⊎_, inl, inr}
 use lib.IntN.{ℤ}
 use lib.ListN.{length, getD, drop, length-append}
 use mir.Syntax.{w16}
@@ -13,6 +14,7 @@ use mir.Facts.{toZ-ofZ}
 use Rattle.answers.specs.Limits.{roomLimit}
 use Rattle.line.proofs.Room.{room-small}
 use Rattle.laws.proofs.Signed.{signed16-size}
+use Rattle.laws.proofs.Numbers.{lt-or-ge}
 use Rattle.parse.specs.Reads.{inside, u16At, readI16}
 use Rattle.tables.specs.Records.{pairPlace}
 use Rattle.tables.specs.Search.{searched}
@@ -28,13 +30,14 @@ use Rattle.tables.specs.declared.lookup.Found.{Found}
 use Rattle.tables.specs.declared.lookup.Found.the-variants as Found′
 use Rattle.kerning.specs.Additions.{Addition, addAt, addAll}
 use Rattle.kerning.specs.Bounds.{Within}
+use Rattle.kerning.specs.declared.choices.PairRule.{PairRule}
 use Rattle.kerning.proofs.Signs.{size-16}
 use Rattle.kerning.proofs.Adding.{length-addAll, addAll-none, addAll-append, within-addAll, within-more, Small, small-none, small-one, small-append}
 use Rattle.pairs.specs.Pairs.{keyOf, numberAt, numberIn, orderedNumber, onClass, numberInRow, classNumber, pairNumber}
 use Rattle.pairs.specs.Reply.{replyOf}
 use Rattle.pairs.specs.declared.PairReply.the-variants as Reply′
-use Rattle.pairs.specs.Work.{onFound, openedNumber, Sized}
-use Rattle.pairs.specs.Pass.{additionOf, everyPlace, lastBelow, pairsBelow, workedBy}
+use Rattle.pairs.specs.Work.{onFound, openedNumber, FirstFrom, stretch, Sized}
+use Rattle.pairs.specs.Pass.{additionOf, Before, none, place as placed, lastBelow, withBefore, pairsBelow, counts, workedBy}
 use Rattle.pairs.specs.declared.PairTable.{PairTable}
 use Rattle.pairs.specs.declared.PairTable.the-variants.{Ordered, Classes}
 use Rattle.pairs.specs.declared.Opened.{Opened}
@@ -117,79 +120,271 @@ unfolding addAll
 added-by place along s f g = rw f (g ∙ ap (λ (x : ℤ). addAt place x along) (toZ-ofZ (subst Sized f s)))
 
 module _ (number : (left right : ℕ) → Number) (glyphs : List ℕ) (all : (left right : ℕ) → Sized (number left right)) where
-  abbrev below : ℕ → List Addition
-  below = pairsBelow everyPlace number glyphs
-
-  below-next : (j : ℕ) → below (suc (suc j)) ≡ below (suc j) ++ additionOf j (number (getD glyphs j 0) (getD glyphs (suc j) 0))
-  unfolding pairsBelow lastBelow
-  below-next j = refl
-
-  -- what the loop knows at place i
-  pub record Pairing (used b : ℕ) (along₀ along : List ℤ) (i : ℕ) : Type 0 where
-    pub begun : 1 ≤ i
-    pub within : i ≤ used + (1 - used)
-    pub same : along ≡ addAll (below i) along₀
+  -- what the loop over a stretch knows: the rest adds what the whole adds
+  pub record Stretching (before from stop b : ℕ) (along₀ along : List ℤ) (left place : ℕ) : Type 0 where
+    pub begun : left < place
+    pub within : place ≤ stop
+    pub same : addAll (stretch number glyphs left place (stop - place)) along ≡ addAll (stretch number glyphs before from (stop - from)) along₀
     pub long : length along ≡ length along₀
-    pub small : Within (b + i * 32768) along
+    pub small : Within (b + place * 32768) along
 
-  pub pairing-start : (used b : ℕ) (along : List ℤ) → Within b along → Pairing used b along along 1
-  unfolding pairsBelow lastBelow addAll
-  pairing-start used b along w =
-      record { begun = omega arith; within = omega arith; same = refl; long = refl; small = within-more (omega arith) w }
+  pub stretching-start : (before from stop b : ℕ) (along : List ℤ) → before < from → from ≤ stop → Within b along
+      → Stretching before from stop b along along before from
+  stretching-start before from stop b along h w small =
+      record { begun = h; within = w; same = refl; long = refl; small = within-more (omega arith) small }
 
-  pub pairing-next : {used b : ℕ} {along₀ along after : List ℤ} {i : ℕ} (added : List Addition) → Pairing used b along₀ along i → i < used
-      → after ≡ addAll added along → added ≡ additionOf (i - 1) (number (getD glyphs (i - 1) 0) (getD glyphs i 0)) → Pairing used b along₀ after (i + 1)
-  pairing-next {used} {b} {along₀} {along} {after} {i} added p h f same =
-      let j : ℕ = i - 1 in
-      let s : i ≡ suc j = omega (arith, p .begun) in
-      let n : Number = number (getD glyphs j 0) (getD glyphs i 0) in
-      let z : Sized n = all (getD glyphs j 0) (getD glyphs i 0) in
-      let e : after ≡ addAll (additionOf j n) along = f ∙ ap (λ (a : List Addition). addAll a along) same in
-      let r : below (i + 1) ≡ below i ++ additionOf j n =
-      subst (λ (k : ℕ). below (k + 1) ≡ below k ++ additionOf j (number (getD glyphs j 0) (getD glyphs k 0))) (sym s)
-      (ap below (add-one (suc j)) ∙ below-next j) in
+  stretch-next : (left place n : ℕ) {m : ℕ} → m ≡ suc n
+      → stretch number glyphs left place m ≡ additionOf left (number (getD glyphs left 0) (getD glyphs place 0)) ++ stretch number glyphs place (suc place) n
+  unfolding stretch
+  stretch-next left place n e = ap (stretch number glyphs left place) e
+
+  pub stretching-next : {before from stop b : ℕ} {along₀ along after : List ℤ} {left place : ℕ} (added : List Addition)
+      → Stretching before from stop b along₀ along left place → place < stop → after ≡ addAll added along
+      → added ≡ additionOf left (number (getD glyphs left 0) (getD glyphs place 0)) → Stretching before from stop b along₀ after place (place + 1)
+  stretching-next {before} {from} {stop} {b} {along₀} {along} {after} {left} {place} added p h f same =
+      let n : Number = number (getD glyphs left 0) (getD glyphs place 0) in
+      let e : after ≡ addAll (additionOf left n) along = f ∙ ap (λ (a : List Addition). addAll a along) same in
+      let rest : ℕ = stop - (place + 1) in
+      let r : stretch number glyphs left place (stop - place) ≡ additionOf left n ++ stretch number glyphs place (place + 1) rest =
+      stretch-next left place rest (omega arith) ∙ ap (λ (k : ℕ). additionOf left n ++ stretch number glyphs place k rest) (sym (add-one place)) in
       record {
         begun = omega arith;
         within = omega arith;
-        same = e ∙ ap (addAll (additionOf j n)) (p .same) ∙ sym (addAll-append (below i) (additionOf j n) along₀) ∙ ap (λ (x : List Addition). addAll x along₀) (sym r);
-        long = ap length e ∙ length-addAll (additionOf j n) along ∙ p .long;
+        same =
+            ap (addAll (stretch number glyphs place (place + 1) rest)) e
+            ∙ sym (addAll-append (additionOf left n) (stretch number glyphs place (place + 1) rest) along)
+            ∙ ap (λ (x : List Addition). addAll x along) (sym r) ∙ p .same;
+        long = ap length e ∙ length-addAll (additionOf left n) along ∙ p .long;
         small =
-            subst (Within (b + (i + 1) * 32768)) (sym e)
-            (within-more (omega (arith, few-addition j n)) (within-addAll along (small-addition j n z) (p .small)));
+            subst (Within (b + (place + 1) * 32768)) (sym e)
+            (within-more (omega (arith, few-addition left n)) (within-addAll along (small-addition left n (all (getD glyphs left 0) (getD glyphs place 0))) (p .small)));
       }
 
-  pub pairing-done : {used b : ℕ} {along₀ along : List ℤ} {i : ℕ} → Pairing used b along₀ along i → used ≤ i → along ≡ addAll (below used) along₀
-  unfolding pairsBelow lastBelow
-  pairing-done {used} {b} {along₀} {along} {i} p h = go used i (p .begun) (p .within) h (p .same)
+  pub stretching-done : {before from stop b : ℕ} {along₀ along : List ℤ} {left place : ℕ} → Stretching before from stop b along₀ along left place → stop ≤ place
+      → along ≡ addAll (stretch number glyphs before from (stop - from)) along₀
+  unfolding stretch addAll
+  stretching-done {before} {from} {stop} {b} {along₀} {along} {left} {place} p h =
+      let none : stop - place ≡ 0 = omega arith in
+      ap (λ (n : ℕ). addAll (stretch number glyphs left place n) along) (sym none) ∙ p .same
+
+-- the laws of pairs whatever places count
+module _ (counts : ℕ → Bool) where
+  pub last-counted : (n : ℕ) → counts n ≡ true → lastBelow counts (suc n) ≡ placed n
+  unfolding lastBelow
+  last-counted n e = rw e
+
+  pub last-skipped : (n : ℕ) → counts n ≡ false → lastBelow counts (suc n) ≡ lastBelow counts n
+  unfolding lastBelow
+  last-skipped n e = rw e
+
+  -- over places that don't count, told as n places from one on
+  pub last-over : (from n : ℕ) → ((k : ℕ) → from ≤ k → k < n + from → counts k ≡ false) → lastBelow counts (n + from) ≡ lastBelow counts from
+  last-over from zero all = ap (lastBelow counts) (omega arith)
+  last-over from (suc n) all =
+      ap (lastBelow counts) (omega arith) ∙ last-skipped (n + from) (all (n + from) (omega arith) (omega arith)) ∙ last-over from n (λ k l h. all k l (omega arith))
+
+  module _ (number : (left right : ℕ) → Number) (glyphs : List ℕ) where
+    abbrev below : ℕ → List Addition
+    below = pairsBelow counts number glyphs
+
+    below-skipped : (n : ℕ) → counts n ≡ false → below (suc n) ≡ below n
+    unfolding pairsBelow
+    below-skipped n e = rw e (append-nil (below n))
+
+    pub below-next : (n p : ℕ) → counts n ≡ true → lastBelow counts n ≡ placed p
+        → below (suc n) ≡ below n ++ additionOf p (number (getD glyphs p 0) (getD glyphs n 0))
+    unfolding pairsBelow
+    below-next n p e l = rw (e, l)
+
+    below-first : (n : ℕ) → counts n ≡ true → lastBelow counts n ≡ none → below (suc n) ≡ below n
+    unfolding pairsBelow
+    below-first n e l = rw (e, l) (append-nil (below n))
+
+    below-over : (from n : ℕ) → ((k : ℕ) → from ≤ k → k < n + from → counts k ≡ false) → below (n + from) ≡ below from
+    below-over from zero all = ap below (omega arith)
+    below-over from (suc n) all =
+        ap below (omega arith) ∙ below-skipped (n + from) (all (n + from) (omega arith) (omega arith)) ∙ below-over from n (λ k l h. all k l (omega arith))
+
+    -- over a stretch of places that all count
+    below-stretch : (before from n : ℕ) → lastBelow counts from ≡ placed before → ((k : ℕ) → from ≤ k → k < from + n → counts k ≡ true)
+        → below (from + n) ≡ below from ++ stretch number glyphs before from n
+    unfolding stretch
+    below-stretch before from zero l all = ap below (omega arith) ∙ sym (append-nil (below from))
+    below-stretch before from (suc n) l all =
+        let one : List Addition = additionOf before (number (getD glyphs before 0) (getD glyphs from 0)) in
+        let here : counts from ≡ true = all from (omega arith) (omega arith) in
+        ap below (omega arith)
+        ∙ below-stretch from (suc from) n (last-counted from here) (λ k a b. all k (omega arith) (omega arith))
+        ∙ ap (λ (x : List Addition). x ++ stretch number glyphs from (suc from) n) (below-next from before here l)
+        ∙ append-assoc (below from) one (stretch number glyphs from (suc from) n)
+
+    module _ (all : (left right : ℕ) → Sized (number left right)) where
+      small-with : (before : Before) (n : ℕ) → Small (withBefore counts number glyphs before n)
+      small-with none n = small-none
+      small-with (placed p) n = small-addition p (number (getD glyphs p 0) (getD glyphs n 0)) (all (getD glyphs p 0) (getD glyphs n 0))
+
+      small-below : (n : ℕ) → Small (below n)
+      unfolding pairsBelow
+      small-below zero = small-none
+      small-below (suc n) = small-append (small-below n) (go (counts n))
+        where
+          go : (t : Bool) → Small (cond t (withBefore counts number glyphs (lastBelow counts n) n) [])
+          go true = small-with (lastBelow counts n) n
+          go false = small-none
+
+    few-with : (before : Before) (n : ℕ) → length (withBefore counts number glyphs before n) ≤ 1
+    few-with none n = omega arith
+    few-with (placed p) n = few-addition p (number (getD glyphs p 0) (getD glyphs n 0))
+
+    -- a pair pass adds at most 32,768 for each place
+    few-below : (n : ℕ) → length (below n) ≤ n
+    unfolding pairsBelow
+    few-below zero = omega arith
+    few-below (suc n) =
+        let one : List Addition = cond (counts n) (withBefore counts number glyphs (lastBelow counts n) n) [] in
+        omega (arith, length-append (below n) one, few-below n, go (counts n))
+      where
+        go : (t : Bool) → length (cond t (withBefore counts number glyphs (lastBelow counts n) n) []) ≤ 1
+        go true = few-with (lastBelow counts n) n
+        go false = omega arith
+
+    module _ (all : (left right : ℕ) → Sized (number left right)) where
+      within-below : (n : ℕ) {b : ℕ} (along : List ℤ) → n ≤ roomLimit → Within b along → Within (b + 2 ^ 39) (addAll (below n) along)
+      within-below n along h w = within-more (omega (arith, few-below n, room-small)) (within-addAll along (small-below all n) w)
+
+-- what the loop over the stretches knows: the pairs among the places below `from` have added theirs, and `from` counts, if it is not the end
+module _ (counts : ℕ → Bool) (number : (left right : ℕ) → Number) (glyphs : List ℕ) where
+  pub record Joining (used : ℕ) (along₀ along : List ℤ) (before from : ℕ) : Type 0 where
+    pub within : from ≤ used
+    pub here : from < used → counts from ≡ true
+    pub last : from < used → lastBelow counts from ≡ placed before
+    pub begun : from < used → before < from
+    pub same : along ≡ addAll (below counts number glyphs from) along₀
+
+  -- to the next place that counts, over those that don't
+  record Over (used stop from : ℕ) : Type 0 where
+    forth : stop ≤ from
+    last : lastBelow counts from ≡ lastBelow counts stop
+    same : below counts number glyphs from ≡ below counts number glyphs stop
+
+  over : (used stop : ℕ) {from : ℕ} → stop ≤ used → FirstFrom counts true stop used from → Over used stop from
+  over used stop {from} h f =
+      let forth : stop ≤ from = go (lt-or-ge from used) in
+      let n : ℕ = from - stop in
+      let e : n + stop ≡ from = omega arith in
+      record {
+        forth = forth;
+        last = ap (lastBelow counts) (sym e) ∙ last-over counts stop n (λ k a b. f .skipped k a (omega arith));
+        same = ap (below counts number glyphs) (sym e) ∙ below-over counts number glyphs stop n (λ k a b. f .skipped k a (omega arith));
+      }
     where
-      go : (u i : ℕ) → 1 ≤ i → i ≤ u + (1 - u) → u ≤ i → along ≡ addAll (below i) along₀ → along ≡ addAll (below u) along₀
-      go zero i a w k e = let one : i ≡ 1 = omega arith in rw one at e
-      go (suc u) i a w k e = let one : i ≡ suc u = omega arith in rw one at e
+      go : (from < used) ⊎ (used ≤ from) → stop ≤ from
+      go (inl k) = f .here k .0
+      go (inr k) = omega arith
 
-  small-below : (n : ℕ) → Small (below n)
-  unfolding pairsBelow lastBelow
-  small-below zero = small-none
-  small-below (suc zero) = small-none
-  small-below (suc (suc n)) =
-      small-append (small-below (suc n)) (small-addition n (number (getD glyphs n 0) (getD glyphs (suc n) 0)) (all (getD glyphs n 0) (getD glyphs (suc n) 0)))
+  pub joining-start : (used : ℕ) (along : List ℤ) {before from : ℕ} → FirstFrom counts true 0 used before → FirstFrom counts true (before + 1) used from
+      → Joining used along along before from
+  unfolding pairsBelow lastBelow addAll
+  joining-start used along {before} {from} f g = go (lt-or-ge before used)
+    where
+      first : Over used 0 before
+      first = over used 0 (omega arith) f
 
-  -- a pair pass adds at most 32,768 for each place
-  few-below : (n : ℕ) → length (below n) ≤ n
-  unfolding pairsBelow lastBelow
-  few-below zero = omega arith
-  few-below (suc zero) = omega arith
-  few-below (suc (suc n)) =
-      let one : List Addition = additionOf n (number (getD glyphs n 0) (getD glyphs (suc n) 0)) in
-      omega (arith, length-append (below (suc n)) one, few-below (suc n), few-addition n (number (getD glyphs n 0) (getD glyphs (suc n) 0)))
+      go : (before < used) ⊎ (used ≤ before) → Joining used along along before from
+      go (inl h) =
+          let one : counts before ≡ true = f .here h .1 in
+          let o : Over used (before + 1) from = over used (before + 1) (omega arith) g in
+          let l : lastBelow counts (before + 1) ≡ placed before = ap (lastBelow counts) (add-one before) ∙ last-counted counts before one in
+          let e : below counts number glyphs (before + 1) ≡ [] =
+          ap (below counts number glyphs) (add-one before) ∙ below-first counts number glyphs before one (first .last) ∙ first .same in
+          record {
+            within = g .within;
+            here = λ k. g .here k .1;
+            last = λ k. o .last ∙ l;
+            begun = λ k. omega (arith, o .forth);
+            same = ap (λ (x : List Addition). addAll x along) (sym (o .same ∙ e));
+          }
+      go (inr h) =
+          let end : from ≡ before = at-end (lt-or-ge from used) in
+          record {
+            within = g .within;
+            here = λ k. g .here k .1;
+            last = λ k. absurd (past k);
+            begun = λ k. absurd (past k);
+            same = ap (λ (x : List Addition). addAll x along) (sym (ap (below counts number glyphs) end ∙ first .same));
+          }
+        where
+          past : from < used → ⊥
+          past k = omega (arith, g .here k .0)
 
-pub worked-within : (bytes : List ℕ) (opened : Opened) (glyphs : List ℕ) (used : ℕ) {b : ℕ} (along : List ℤ) → used ≤ roomLimit → Within b along
-    → Within (b + 2 ^ 39) (addAll (workedBy bytes opened glyphs used .additions) along)
+          at-end : (from < used) ⊎ (used ≤ from) → from ≡ before
+          at-end (inl k) = absurd (past k)
+          at-end (inr k) = omega (arith, f .within, g .within)
+
+  -- a stretch begins where it counts, and so does not end there
+  pub joining-longer : {used : ℕ} {along₀ along : List ℤ} {before from stop : ℕ} → Joining used along₀ along before from → from < used
+      → FirstFrom counts false from used stop → from < stop
+  joining-longer {used} {along₀} {along} {before} {from} {stop} p h f = go (lt-or-ge from stop)
+    where
+      go : (from < stop) ⊎ (stop ≤ from) → from < stop
+      go (inl k) = k
+      go (inr k) =
+          let i : stop < used = omega arith in
+          let e : stop ≡ from = omega (arith, f .here i .0) in
+          let one : counts from ≡ true = p .here h in
+          let none : counts stop ≡ false = f .here i .1 in
+          let no : _≡_ {A = ℕ} 0 1 = cc in
+          absurd (omega arith)
+
+  pub joining-next : {used : ℕ} {along₀ along after : List ℤ} {before from stop next : ℕ} → Joining used along₀ along before from → from < used
+      → FirstFrom counts false from used stop → after ≡ addAll (stretch number glyphs before from (stop - from)) along → FirstFrom counts true stop used next
+      → Joining used along₀ after (stop - 1) next
+  joining-next {used} {along₀} {along} {after} {before} {from} {stop} {next} p h f e g =
+      let longer : from < stop = joining-longer p h f in
+      let o : Over used stop next = over used stop (f .within) g in
+      let end : suc (stop - 1) ≡ stop = omega arith in
+      let n : ℕ = stop - from in
+      let l : lastBelow counts stop ≡ placed (stop - 1) =
+      ap (lastBelow counts) (sym end) ∙ last-counted counts (stop - 1) (f .skipped (stop - 1) (omega arith) (omega arith)) in
+      let there : from + n ≡ stop = omega arith in
+      let s : below counts number glyphs stop ≡ below counts number glyphs from ++ stretch number glyphs before from n =
+      ap (below counts number glyphs) (sym there) ∙ below-stretch counts number glyphs before from n (p .last h) (λ k a b. f .skipped k a (omega arith)) in
+      record {
+        within = g .within;
+        here = λ k. g .here k .1;
+        last = λ k. o .last ∙ l;
+        begun = λ k. omega (arith, o .forth);
+        same =
+            e ∙ ap (addAll (stretch number glyphs before from n)) (p .same)
+            ∙ sym (addAll-append (below counts number glyphs from) (stretch number glyphs before from n) along₀)
+            ∙ ap (λ (x : List Addition). addAll x along₀) (sym (o .same ∙ s));
+      }
+
+  pub joining-less : {used : ℕ} {along₀ along : List ℤ} {before from stop next : ℕ} → Joining used along₀ along before from → from < used
+      → FirstFrom counts false from used stop → FirstFrom counts true stop used next → used - next < used - from
+  joining-less {used} {along₀} {along} {before} {from} {stop} {next} p h f g =
+      omega (arith, joining-longer p h f, over used stop (f .within) g .forth, g .within)
+
+  pub joining-done : {used : ℕ} {along₀ along : List ℤ} {before from : ℕ} → Joining used along₀ along before from → used ≤ from
+      → along ≡ addAll (below counts number glyphs used) along₀
+  joining-done {used} {along₀} {along} {before} {from} p h =
+      let end : from ≡ used = omega (arith, p .within) in
+      p .same ∙ ap (λ (n : ℕ). addAll (below counts number glyphs n) along₀) end
+
+  pub joining-long : {used : ℕ} {along₀ along : List ℤ} {before from : ℕ} → Joining used along₀ along before from → length along ≡ length along₀
+  joining-long {used} {along₀} {along} {before} {from} p = ap length (p .same) ∙ length-addAll (below counts number glyphs from) along₀
+
+  pub joining-small : (all : (left right : ℕ) → Sized (number left right)) {used : ℕ} {along₀ along : List ℤ} {before from : ℕ}
+      → Joining used along₀ along before from → used ≤ roomLimit → Within (2 ^ 60) along₀ → Within (2 ^ 61) along
+  joining-small all {used} {along₀} {along} {before} {from} p h w =
+      subst (Within (2 ^ 61)) (sym (p .same)) (within-more (omega arith) (within-below counts number glyphs all from along₀ (omega (arith, p .within)) w))
+
+pub worked-within : (bytes : List ℕ) (opened : Opened) (glyphs : List ℕ) (used : ℕ) (rule : PairRule) {b : ℕ} (along : List ℤ) → used ≤ roomLimit → Within b along
+    → Within (b + 2 ^ 39) (addAll (workedBy bytes opened glyphs used rule .additions) along)
 unfolding workedBy
-worked-within bytes (Ready pairs) glyphs used along h w =
-    let all : (left right : ℕ) → Sized (pairNumber bytes pairs left right) = sized bytes pairs in
-    within-more (omega (arith, few-below (pairNumber bytes pairs) glyphs all used, room-small))
-    (within-addAll along (small-below (pairNumber bytes pairs) glyphs all used) w)
-worked-within bytes Short glyphs used along h w = within-more (omega arith) (subst (Within _) (sym (addAll-none along)) w)
+worked-within bytes (Ready pairs) glyphs used rule along h w =
+    within-below (counts rule glyphs) (pairNumber bytes pairs) glyphs (sized bytes pairs) used along h w
+worked-within bytes Short glyphs used rule along h w = within-more (omega arith) (subst (Within _) (sym (addAll-none along)) w)
 
 -- the number of a reply
 pub reply-number : (bytes : List ℕ) (pairs : PairTable) (left right : ℕ) {opened : Opened} {number : Number} {z : ℤ} → opened ≡ Ready pairs

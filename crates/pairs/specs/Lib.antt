@@ -4,3 +4,4 @@ pub mod Reply
 pub mod Pass
 pub mod Work
 pub mod Manual
+pub mod Joined

@@ -1,11 +1,14 @@
--- The pair pass: each pair of neighbours adds its number to the first of the two places.
+-- The pair pass: each pair adds its number to the first of its two places.
 use Prim.Native.Nat.{ℕ, zero, suc}
 use mathlib.Core.Bool.{Bool, true, cond}
 use mathlib.Core.List.{List, [], _∷_, _++_}
+use lib.Dec.{ltb}
 use lib.ListN.{getD}
 use Rattle.answers.specs.declared.Answer.the-variants as Answer′
 use Rattle.answers.specs.declared.Refusal.the-variants as Refusal′
 use Rattle.kerning.specs.Additions.{Addition, Kerned, nothingAdded}
+use Rattle.kerning.specs.declared.choices.PairRule.{PairRule}
+use Rattle.kerning.specs.declared.choices.PairRule.the-variants.{Neighbours, Joined}
 use Rattle.pairs.specs.Pairs.{pairNumber}
 use Rattle.pairs.specs.declared.Opened.{Opened}
 use Rattle.pairs.specs.declared.Opened.the-variants.{Ready, Short}
@@ -43,8 +46,17 @@ module _ (counts : ℕ → Bool) where
 abbrev pub everyPlace : ℕ → Bool
 everyPlace p = true
 
+-- whether a place counts, by its glyph: for neighbours every place does; for joined pairs where the glyph is below 0xFFFF
+abbrev pub isCounted : PairRule → (glyph : ℕ) → Bool
+isCounted Neighbours glyph = true
+isCounted Joined glyph = ltb glyph 0xFFFF
+
+-- the places of a line that count
+abbrev pub counts : PairRule → (glyphs : List ℕ) → ℕ → Bool
+counts rule glyphs p = isCounted rule (getD glyphs p 0)
+
 -- the pass over the first `used` glyphs, by a subtable's pairs; HEAD where they can't be opened
-unfoldable pub workedBy : List ℕ → Opened → (glyphs : List ℕ) → (used : ℕ) → Kerned
-workedBy bytes (Ready pairs) glyphs used =
-    record { answer = Answer′.Done; additions = pairsBelow everyPlace (pairNumber bytes pairs) glyphs used }
-workedBy bytes Short glyphs used = nothingAdded (Answer′.Refused Refusal′.Head)
+unfoldable pub workedBy : List ℕ → Opened → (glyphs : List ℕ) → (used : ℕ) → PairRule → Kerned
+workedBy bytes (Ready pairs) glyphs used rule =
+    record { answer = Answer′.Done; additions = pairsBelow (counts rule glyphs) (pairNumber bytes pairs) glyphs used }
+workedBy bytes Short glyphs used rule = nothingAdded (Answer′.Refused Refusal′.Head)

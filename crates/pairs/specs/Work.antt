@@ -1,7 +1,10 @@
 -- For the code alone; no entry and no promise rests on it, and nobody has to believe it. The number of a pair by tables of classes that are opened once,
--- and that a number has 16 bits, with which the code shows that it does not overflow.
-use Prim.Native.Nat.{ℕ, _+_}
-use mathlib.Core.List.{List}
+-- the first place of some, what a stretch of places adds, and that a number has 16 bits, with which the code shows that it does not overflow.
+use Prim.Native.Nat.{ℕ, zero, suc, _+_, _<_, _≤_}
+use mathlib.Core.Path.{_≡_}
+use mathlib.Core.Bool.{Bool, not}
+use mathlib.Core.List.{List, [], _++_}
+use lib.ListN.{getD}
 use mir.Syntax.{w16}
 use mir.Val.{SFits}
 use Rattle.tables.specs.Opened.{foundIn}
@@ -10,6 +13,8 @@ use Rattle.tables.specs.declared.lookup.Why.the-variants.{NotCovered}
 use Rattle.tables.specs.declared.lookup.Found.{Found}
 use Rattle.tables.specs.declared.lookup.Found.the-variants as Found′
 use Rattle.pairs.specs.Pairs.{numberAt}
+use Rattle.kerning.specs.Additions.{Addition}
+use Rattle.pairs.specs.Pass.{additionOf}
 use Rattle.pairs.specs.declared.Number.{Number}
 use Rattle.pairs.specs.declared.Number.the-variants.{By, Nothing}
 
@@ -22,6 +27,18 @@ unfoldable pub openedNumber : List ℕ → (rows : List ℕ) → Opened → (col
 openedNumber bytes rows leftRows columns rightColumns array left right =
     onFound (foundIn rows leftRows left)
     (λ row. onFound (foundIn columns rightColumns right) (λ column. numberAt bytes (array + row + column)))
+
+-- the first place from `from` on of which the test says so, or `used`, where there is none below
+pub record FirstFrom (test : ℕ → Bool) (so : Bool) (from used place : ℕ) : Type 0 where
+  pub within : place ≤ used
+  pub skipped : (k : ℕ) → from ≤ k → k < place → test k ≡ not so
+  pub here : place < used → (from ≤ place) × (test place ≡ so)
+
+-- what n places from `from` on add, each with the one before it and the first with `before`
+module _ (number : (left right : ℕ) → Number) (glyphs : List ℕ) where
+  unfoldable pub stretch : (before from n : ℕ) → List Addition
+  stretch before from zero = []
+  stretch before from (suc n) = additionOf before (number (getD glyphs before 0) (getD glyphs from 0)) ++ stretch from (suc from) n
 
 -- a pair's number is one of 16 bits
 abbrev pub Sized : Number → Type 0

@@ -1,6 +1,7 @@
 // Kerning pairs, for kern and kerx alike: ordered pairs (format 0 of both) and class pairs (kerx format 2).
 use answers::Answer;
 use answers::Refusal;
+use kerning::choices::PairRule;
 use tables::lookup;
 use tables::lookup::Found;
 use tables::lookup::Why;
@@ -9,6 +10,7 @@ use tables::records;
 use tables::records::Keys;
 use tables::records::Spot;
 ghost use mathlib.Core.Path.{_≡_};
+ghost use mathlib.Core.Bool.{true, false};
 ghost use Prim.Native.Nat.{_-_, _<_, _≤_, _^_};
 ghost use lib.ListN.{length};
 ghost use Rattle.answers.specs.Limits.{roomLimit};
@@ -17,10 +19,10 @@ ghost use Rattle.tables.specs.Opened.{LiesIn};
 ghost use Rattle.kerning.specs.Additions.{addAll};
 ghost use Rattle.kerning.specs.Bounds.{Within};
 ghost use Rattle.pairs.specs.Reply.{replyOf};
-ghost use Rattle.pairs.specs.Pass.{additionOf, everyPlace, pairsBelow, workedBy};
+ghost use Rattle.pairs.specs.Pass.{additionOf, isCounted, counts, pairsBelow, workedBy};
 ghost use Rattle.pairs.specs.Pairs.{keyOf, orderedKern, orderedKerx, classesKerx, numberAt, orderedNumber, numberInRow, classNumber, pairNumber};
 ghost use Rattle.pairs.specs.declared.PairTable.the-variants.{Ordered, Classes};
-ghost use Rattle.pairs.specs.Work.{openedNumber, Sized};
+ghost use Rattle.pairs.specs.Work.{openedNumber, FirstFrom, stretch, Sized};
 
 // Where a subtable's pairs lie, from its own start on: as many ordered pairs as counted, or the left glyphs' rows, the right
 // ones' columns, and the array.
@@ -172,26 +174,82 @@ pub fn reply(bytes: &[u8], opened: Opened, left: u16, right: u16) -> PairReply
     }
 }
 
-// What a pair gives is added to the place of its left glyph, the one before `place`.
-fn add_before(along: &mut [i64], place: usize, number: Number)
-    requires { ⌜ (1 ≤ place) × (place ≤ length (now along)) × Within (2 ^ 62) (now along) × Sized number ⌝ }
-    ensures { λ _. ⌜ now (along .exit) ≡ addAll (additionOf (place - 1) number) (now (along .entry)) ⌝ }
+// The number of a deleted glyph.
+const DELETED: u16 = 0xFFFF;
+
+// Whether the place of a glyph counts.
+fn counts(rule: PairRule, glyph: u16) -> bool
+    ensures { λ r. ⌜ r ≡ isCounted rule glyph ⌝ }
+{
+    match rule {
+        PairRule::Neighbours => true,
+        PairRule::Joined => glyph < DELETED,
+    }
+}
+
+// The first place from `from` on that counts, or the line's end.
+fn next_counted(rule: PairRule, glyphs: &[u16], used: usize, from: usize) -> usize
+    requires { ⌜ used ≤ length (now glyphs) ⌝ }
+    ensures { λ r. ⌜ FirstFrom (counts rule (now (glyphs .entry))) true from used r ⌝ }
+{
+    let mut place = from;
+    while place < used {
+        if counts(rule, glyphs[place]) {
+            return place;
+        }
+        place += 1;
+    }
+    used
+}
+
+// The first place from `from` on that does not count, or the line's end.
+fn next_skipped(rule: PairRule, glyphs: &[u16], used: usize, from: usize) -> usize
+    requires { ⌜ used ≤ length (now glyphs) ⌝ }
+    ensures { λ r. ⌜ FirstFrom (counts rule (now (glyphs .entry))) false from used r ⌝ }
+{
+    let PairRule::Joined = rule else {
+        return used;
+    };
+    let mut place = from;
+    while place < used {
+        if !counts(PairRule::Joined, glyphs[place]) {
+            return place;
+        }
+        place += 1;
+    }
+    used
+}
+
+// What a pair gives is added to the place of its left glyph.
+fn add_number(along: &mut [i64], place: usize, number: Number)
+    requires { ⌜ (place < length (now along)) × Within (2 ^ 62) (now along) × Sized number ⌝ }
+    ensures { λ _. ⌜ now (along .exit) ≡ addAll (additionOf place number) (now (along .entry)) ⌝ }
 {
     let Number::By(amount) = number else {
         return;
     };
-    kerning::add(along, place - 1, amount);
+    kerning::add(along, place, amount);
 }
 
-// Neighbours, from the first two on: by any pairs.
-fn add_each(bytes: &[u8], pairs: PairTable, glyphs: &[u16], used: usize, along: &mut [i64])
-    requires { ⌜ (used ≤ length (now glyphs)) × (used ≤ length (now along)) × (used ≤ roomLimit) × Within (2 ^ 60) (now along) ⌝ }
-    ensures { λ _. ⌜ now (along .exit) ≡ addAll (pairsBelow everyPlace (pairNumber (now (bytes .entry)) pairs) (now (glyphs .entry)) used) (now (along .entry)) ⌝ }
+// A stretch of places, each with the one before it and the first with `before`: by any pairs.
+fn add_each(
+    bytes: &[u8],
+    pairs: PairTable,
+    glyphs: &[u16],
+    before: usize,
+    from: usize,
+    stop: usize,
+    along: &mut [i64],
+)
+    requires { ⌜ (before < from) × (from ≤ stop) × (stop ≤ length (now glyphs)) × (stop ≤ length (now along)) × (stop ≤ roomLimit) × Within (2 ^ 61) (now along) ⌝ }
+    ensures { λ _. ⌜ now (along .exit) ≡ addAll (stretch (pairNumber (now (bytes .entry)) pairs) (now (glyphs .entry)) before from (stop - from)) (now (along .entry)) ⌝ }
 {
-    let mut place = 1;
-    while place < used {
-        let number = number_of(bytes, pairs, glyphs[place - 1], glyphs[place]);
-        add_before(along, place, number);
+    let mut left = before;
+    let mut place = from;
+    while place < stop {
+        let number = number_of(bytes, pairs, glyphs[left], glyphs[place]);
+        add_number(along, left, number);
+        left = place;
         place += 1;
     }
 }
@@ -209,35 +267,57 @@ fn inside_number(bytes: &[u8], first: u16, count: u32, left: u16, right: u16) ->
     }
 }
 
-// Neighbours by ordered pairs that all lie in the table.
-fn add_inside(bytes: &[u8], first: u16, count: u32, glyphs: &[u16], used: usize, along: &mut [i64])
-    requires { ⌜ (pairPlace first count ≤ length (now bytes)) × (used ≤ length (now glyphs)) × (used ≤ length (now along)) × (used ≤ roomLimit) × Within (2 ^ 60) (now along) ⌝ }
-    ensures { λ _. ⌜ now (along .exit) ≡ addAll (pairsBelow everyPlace (pairNumber (now (bytes .entry)) (Ordered first count)) (now (glyphs .entry)) used) (now (along .entry)) ⌝ }
+// A stretch by ordered pairs that all lie in the table.
+fn add_inside(
+    bytes: &[u8],
+    first: u16,
+    count: u32,
+    glyphs: &[u16],
+    before: usize,
+    from: usize,
+    stop: usize,
+    along: &mut [i64],
+)
+    requires { ⌜ (pairPlace first count ≤ length (now bytes)) × (before < from) × (from ≤ stop) × (stop ≤ length (now glyphs)) × (stop ≤ length (now along)) × (stop ≤ roomLimit) × Within (2 ^ 61) (now along) ⌝ }
+    ensures { λ _. ⌜ now (along .exit) ≡ addAll (stretch (pairNumber (now (bytes .entry)) (Ordered first count)) (now (glyphs .entry)) before from (stop - from)) (now (along .entry)) ⌝ }
 {
-    let mut place = 1;
-    while place < used {
-        let number = inside_number(bytes, first, count, glyphs[place - 1], glyphs[place]);
-        add_before(along, place, number);
+    let mut left = before;
+    let mut place = from;
+    while place < stop {
+        let number = inside_number(bytes, first, count, glyphs[left], glyphs[place]);
+        add_number(along, left, number);
+        left = place;
         place += 1;
     }
 }
 
-// Neighbours by ordered pairs.
-fn add_ordered(bytes: &[u8], first: u16, count: u32, glyphs: &[u16], used: usize, along: &mut [i64])
-    requires { ⌜ (used ≤ length (now glyphs)) × (used ≤ length (now along)) × (used ≤ roomLimit) × Within (2 ^ 60) (now along) ⌝ }
-    ensures { λ _. ⌜ now (along .exit) ≡ addAll (pairsBelow everyPlace (pairNumber (now (bytes .entry)) (Ordered first count)) (now (glyphs .entry)) used) (now (along .entry)) ⌝ }
+// A stretch by ordered pairs.
+fn add_ordered(
+    bytes: &[u8],
+    first: u16,
+    count: u32,
+    glyphs: &[u16],
+    before: usize,
+    from: usize,
+    stop: usize,
+    along: &mut [i64],
+)
+    requires { ⌜ (before < from) × (from ≤ stop) × (stop ≤ length (now glyphs)) × (stop ≤ length (now along)) × (stop ≤ roomLimit) × Within (2 ^ 61) (now along) ⌝ }
+    ensures { λ _. ⌜ now (along .exit) ≡ addAll (stretch (pairNumber (now (bytes .entry)) (Ordered first count)) (now (glyphs .entry)) before from (stop - from)) (now (along .entry)) ⌝ }
 {
     if bytes.len() < records::pair_place(first, count) {
         add_each(
             bytes,
             PairTable::Ordered { first, count },
             glyphs,
-            used,
+            before,
+            from,
+            stop,
             along,
         );
         return;
     }
-    add_inside(bytes, first, count, glyphs, used, along);
+    add_inside(bytes, first, count, glyphs, before, from, stop, along);
 }
 
 // The number of a pair by its classes, whose tables are opened; why there is none is not told apart.
@@ -263,25 +343,28 @@ fn opened_number(
     number_at(bytes, array as usize + row as usize + column as usize)
 }
 
-// Neighbours by classes.
+// A stretch by classes.
 fn add_classes(
     bytes: &[u8],
     rows: u32,
     columns: u32,
     array: u32,
     glyphs: &[u16],
-    used: usize,
+    before: usize,
+    from: usize,
+    stop: usize,
     along: &mut [i64],
 )
-    requires { ⌜ (used ≤ length (now glyphs)) × (used ≤ length (now along)) × (used ≤ roomLimit) × Within (2 ^ 60) (now along) ⌝ }
-    ensures { λ _. ⌜ now (along .exit) ≡ addAll (pairsBelow everyPlace (pairNumber (now (bytes .entry)) (Classes rows columns array)) (now (glyphs .entry)) used) (now (along .entry)) ⌝ }
+    requires { ⌜ (before < from) × (from ≤ stop) × (stop ≤ length (now glyphs)) × (stop ≤ length (now along)) × (stop ≤ roomLimit) × Within (2 ^ 61) (now along) ⌝ }
+    ensures { λ _. ⌜ now (along .exit) ≡ addAll (stretch (pairNumber (now (bytes .entry)) (Classes rows columns array)) (now (glyphs .entry)) before from (stop - from)) (now (along .entry)) ⌝ }
 {
     let lefts = parse::from(bytes, rows as usize);
     let rights = parse::from(bytes, columns as usize);
     let left_rows = opened::open(lefts);
     let right_columns = opened::open(rights);
-    let mut place = 1;
-    while place < used {
+    let mut left = before;
+    let mut place = from;
+    while place < stop {
         let number = opened_number(
             bytes,
             lefts,
@@ -289,42 +372,90 @@ fn add_classes(
             rights,
             right_columns,
             array,
-            glyphs[place - 1],
+            glyphs[left],
             glyphs[place],
         );
-        add_before(along, place, number);
+        add_number(along, left, number);
+        left = place;
         place += 1;
     }
 }
 
-// Neighbours, from the first two on.
-fn add_pairs(bytes: &[u8], pairs: PairTable, glyphs: &[u16], used: usize, along: &mut [i64])
-    requires { ⌜ (used ≤ length (now glyphs)) × (used ≤ length (now along)) × (used ≤ roomLimit) × Within (2 ^ 60) (now along) ⌝ }
-    ensures { λ _. ⌜ now (along .exit) ≡ addAll (pairsBelow everyPlace (pairNumber (now (bytes .entry)) pairs) (now (glyphs .entry)) used) (now (along .entry)) ⌝ }
+// A stretch by whatever pairs.
+fn add_stretch(
+    bytes: &[u8],
+    pairs: PairTable,
+    glyphs: &[u16],
+    before: usize,
+    from: usize,
+    stop: usize,
+    along: &mut [i64],
+)
+    requires { ⌜ (before < from) × (from ≤ stop) × (stop ≤ length (now glyphs)) × (stop ≤ length (now along)) × (stop ≤ roomLimit) × Within (2 ^ 61) (now along) ⌝ }
+    ensures { λ _. ⌜ now (along .exit) ≡ addAll (stretch (pairNumber (now (bytes .entry)) pairs) (now (glyphs .entry)) before from (stop - from)) (now (along .entry)) ⌝ }
 {
     match pairs {
         PairTable::Ordered { first, count } => {
-            add_ordered(bytes, first, count, glyphs, used, along);
+            add_ordered(bytes, first, count, glyphs, before, from, stop, along);
         }
         PairTable::Classes {
             rows,
             columns,
             array,
         } => {
-            add_classes(bytes, rows, columns, array, glyphs, used, along);
+            add_classes(
+                bytes,
+                rows,
+                columns,
+                array,
+                glyphs,
+                before,
+                from,
+                stop,
+                along,
+            );
         }
     }
 }
 
-// The pair pass by the subtable that begins with `bytes`, of which `opened` is what opening its pairs gives.
-pub fn work(bytes: &[u8], opened: Opened, glyphs: &[u16], used: usize, along: &mut [i64]) -> Answer
+// The pairs of a line, stretch by stretch of places that count.
+fn add_pairs(
+    bytes: &[u8],
+    pairs: PairTable,
+    glyphs: &[u16],
+    used: usize,
+    along: &mut [i64],
+    rule: PairRule,
+)
     requires { ⌜ (used ≤ length (now glyphs)) × (used ≤ length (now along)) × (used ≤ roomLimit) × Within (2 ^ 60) (now along) ⌝ }
-    ensures answer { λ r. ⌜ r ≡ workedBy (now (bytes .entry)) opened (now (glyphs .entry)) used .answer ⌝ }
-    ensures along { λ _. ⌜ now (along .exit) ≡ addAll (workedBy (now (bytes .entry)) opened (now (glyphs .entry)) used .additions) (now (along .entry)) ⌝ }
+    ensures { λ _. ⌜ now (along .exit) ≡ addAll (pairsBelow (counts rule (now (glyphs .entry))) (pairNumber (now (bytes .entry)) pairs) (now (glyphs .entry)) used) (now (along .entry)) ⌝ }
+{
+    let mut before = next_counted(rule, glyphs, used, 0);
+    let mut from = next_counted(rule, glyphs, used, before + 1);
+    while from < used {
+        let stop = next_skipped(rule, glyphs, used, from);
+        add_stretch(bytes, pairs, glyphs, before, from, stop, along);
+        before = stop - 1;
+        from = next_counted(rule, glyphs, used, stop);
+    }
+}
+
+// The pair pass by the subtable that begins with `bytes`, of which `opened` is what opening its pairs gives.
+pub fn work(
+    bytes: &[u8],
+    opened: Opened,
+    glyphs: &[u16],
+    used: usize,
+    along: &mut [i64],
+    rule: PairRule,
+) -> Answer
+    requires { ⌜ (used ≤ length (now glyphs)) × (used ≤ length (now along)) × (used ≤ roomLimit) × Within (2 ^ 60) (now along) ⌝ }
+    ensures answer { λ r. ⌜ r ≡ workedBy (now (bytes .entry)) opened (now (glyphs .entry)) used rule .answer ⌝ }
+    ensures along { λ _. ⌜ now (along .exit) ≡ addAll (workedBy (now (bytes .entry)) opened (now (glyphs .entry)) used rule .additions) (now (along .entry)) ⌝ }
 {
     let Opened::Ready(pairs) = opened else {
         return Answer::Refused(Refusal::Head);
     };
-    add_pairs(bytes, pairs, glyphs, used, along);
+    add_pairs(bytes, pairs, glyphs, used, along, rule);
     Answer::Done
 }

@@ -34,15 +34,18 @@ use Rattle.insertion.proofs.Manual.{glyphs-by-manual, list-by-manual, list-past
 use Rattle.chains.proofs.ManualWalk.{walk-as-manual}
 use Rattle.chains.proofs.Manual.{order-as-manual, reverse-as-manual, vertical-as-manual, chain-as-manual, chains-end, feature-as-manual, features-end, subtable-as-manual, subtables-end}
 use Rattle.pairs.proofs.Reasons.{pair-passes-on, absent-uncovered, left-speaks-first, right-speaks-next, number-speaks-last, pass-drops}
+use Rattle.pairs.proofs.Joined.{neighbours-all, joined-pairs, joined-without-deleted}
+use Rattle.kerning.proofs.Choosing.{unnamed-bits}
+use Rattle.kerning_lists.proofs.Families.{by-default, runs-by-default}
 use Rattle.kern.proofs.Cursors as KernCursor
 use Rattle.kern.proofs.Manual.{kern-as-manual, kern-without-list, kern-pair-as-manual}
 use Rattle.kern_machine.proofs.Manual.{list-as-manual}
 use Rattle.kerx.proofs.Cursors as KerxCursor
 use Rattle.kerx.proofs.Manual.{kerx-as-manual, kerx-without-list, kerx-pair-as-manual, kerx-class-as-manual}
 use Rattle.promises.specs.Demand1.{Demand1}
-use Rattle.promises.specs.Demand2.{Lookups, Reasons, StateTables, Verbs, SubtableLists, Chains, Kerning, Demand2}
+use Rattle.promises.specs.Demand2.{Lookups, Reasons, StateTables, Verbs, SubtableLists, Chains, Kerning, Choosing, Demand2}
 use Rattle.promises.specs.Demand3.{Demand3}
-use Rattle.promises.proofs.Known.{known-answers, known-reasons}
+use Rattle.promises.proofs.Known.{known-answers, known-reasons, known-pairs}
 
 pub demand1 : Demand1
 demand1 =
@@ -158,6 +161,18 @@ kerning =
       list-as-manual = list-as-manual;
     }
 
+choosing : Choosing
+choosing =
+    record {
+      by-default = by-default;
+      runs-by-default = runs-by-default;
+      neighbours-all = neighbours-all;
+      unnamed-bits = unnamed-bits;
+      joined-pairs = joined-pairs;
+      joined-without-deleted = joined-without-deleted;
+      known-pairs = known-pairs;
+    }
+
 pub demand2 : Demand2
 demand2 =
     record {
@@ -168,6 +183,7 @@ demand2 =
       subtable-lists = subtable-lists;
       chains = chains;
       kerning = kerning;
+      choosing = choosing;
       index-as-manual = index-as-manual;
       u8-from = u8-from;
       u16-from = u16-from;

@@ -1,10 +1,11 @@
 -- Demand 2: on document 01's domain the results equal the crate's. The contracts say of every entry which definition it equals, and runs beside the
 -- crate compare them. Here are the theorems that join these definitions to Apple's manual, and to the verbs as document 01 draws them. The manual was
 -- not at hand: docs/DIFFERENCES.md says what stands in for it, and lists where the crate does otherwise, which the hypotheses here leave out.
-use Prim.Native.Nat.{ℕ, suc, _+_, _*_, _-_, _<_, _≤_}
+use Prim.Native.Nat.{ℕ, suc, _+_, _*_, _-_, _%_, _<_, _≤_}
 use mathlib.Core.Path.{_≡_}
 use mathlib.Core.Bool.{Bool, false}
 use mathlib.Core.List.{List, []}
+use lib.IntN.{ℤ}
 use lib.ListN.{length, getD, take, drop}
 use Rattle.laws.specs.Choose.{ifLt}
 use Rattle.answers.specs.Limits.{tableLimit, headLimit}
@@ -57,14 +58,19 @@ use Rattle.chains.specs.declared.NextSubtable.the-variants as Subtable
 use Rattle.pairs.specs.Pairs.{keyOf, numberAt, pairNumber}
 use Rattle.pairs.specs.Reply.{numberReply}
 use Rattle.pairs.specs.Reply as Reply
-use Rattle.pairs.specs.Pass.{everyPlace, pairsBelow}
+use Rattle.pairs.specs.Pass.{everyPlace, pairsBelow, workedBy}
+use Rattle.pairs.specs.Joined.{JoinedPair, AddedBy}
 use Rattle.pairs.specs.declared.PairTable.{PairTable}
 use Rattle.pairs.specs.declared.PairTable.the-variants.{Ordered, Classes}
+use Rattle.pairs.specs.declared.Opened.{Opened}
 use Rattle.pairs.specs.declared.Opened.the-variants as Opened
 use Rattle.pairs.specs.declared.Number.{Number}
 use Rattle.pairs.specs.declared.Number.the-variants as Number
 use Rattle.pairs.specs.Manual.{Rising, OrderedValue, ClassValue, Legible, Covered}
 use Rattle.pairs.specs.Manual as Pair
+use Rattle.line.specs.Line.{Line}
+use Rattle.kerning.specs.Choices.{choicesOf, unchosen}
+use Rattle.kerning.specs.declared.choices.PairRule.the-variants.{Neighbours, Joined}
 use Rattle.kerning_lists.specs.Manual as List′
 use Rattle.kerning_lists.specs.Manual.{NoneInPart}
 use Rattle.kerning_lists.specs.Family as Family′
@@ -73,7 +79,7 @@ use Rattle.kern.specs.Manual as Kern
 use Rattle.kern_machine.specs.Manual.{WholeList}
 use Rattle.kerx.specs.Kerx.{kerx}
 use Rattle.kerx.specs.Manual as Kerx
-use Rattle.promises.specs.Known.{AllKnown, KnownReasons}
+use Rattle.promises.specs.Known.{AllKnown, KnownReasons, KnownPairs}
 
 -- Lookup tables and their survey.
 pub record Lookups : Type 0 where
@@ -271,6 +277,27 @@ pub record Kerning : Type 0 where
   pub list-as-manual : (bytes : List ℕ) (crossed : Bool) (flags : ℕ) (stack : List ℕ) (depth used : ℕ)
       → WholeList bytes crossed flags stack depth used
 
+-- What a caller may choose. Demand 2 itself speaks of no choice made: the neighbour rule.
+pub record Choosing : Type 0 where
+  -- with no bit set passes and runs, of kern and of kerx, are those of the entries that take no choices
+  pub by-default : (family : Family′.Family) (table : List ℕ) (start version : ℕ) (l : Line) (along : List ℤ)
+      → Family′.passCall family table start version l along (choicesOf 0) ≡ Family′.passCall family table start version l along unchosen
+  pub runs-by-default : (family : Family′.Family) (table : List ℕ) (start : ℕ) (rtl : Bool) (l : Line) (along : List ℤ)
+      → Family′.runCall family table start rtl l along (choicesOf 0) ≡ Family′.runCall family table start rtl l along unchosen
+  -- there every place counts
+  pub neighbours-all : (bytes : List ℕ) (pairs : PairTable) (glyphs : List ℕ) (used : ℕ)
+      → workedBy bytes (Opened.Ready pairs) glyphs used (unchosen .pairs) .additions ≡ pairsBelow everyPlace (pairNumber bytes pairs) glyphs used
+  -- bits without a name are not looked at
+  pub unnamed-bits : (bits : ℕ) → choicesOf bits ≡ choicesOf (bits % 2)
+  -- joined pairs: the additions are those of the pairs of two glyphs below 0xFFFF with only 0xFFFF between them, each to the first of the two
+  pub joined-pairs : (bytes : List ℕ) (pairs : PairTable) (glyphs : List ℕ) (used : ℕ) → ((k : ℕ) → k < used → getD glyphs k 0 ≤ 0xFFFF)
+      → AddedBy (JoinedPair glyphs used) (pairNumber bytes pairs) glyphs (workedBy bytes (Opened.Ready pairs) glyphs used Joined .additions)
+  -- without 0xFFFF among the used glyphs both rules give the same
+  pub joined-without-deleted : (bytes : List ℕ) (opened : Opened) (glyphs : List ℕ) (used : ℕ) → ((k : ℕ) → k < used → getD glyphs k 0 < 0xFFFF)
+      → workedBy bytes opened glyphs used Joined ≡ workedBy bytes opened glyphs used Neighbours
+  -- known cases by computation
+  pub known-pairs : KnownPairs
+
 pub record Demand2 : Type 0 where
   pub lookups : Lookups
   pub reasons : Reasons
@@ -279,6 +306,7 @@ pub record Demand2 : Type 0 where
   pub subtable-lists : SubtableLists
   pub chains : Chains
   pub kerning : Kerning
+  pub choosing : Choosing
   -- the index of a language is that of the first tag whose bytes are the name; it is found where all tags up to it lie in the table, none of them empty at
   -- its end
   pub index-as-manual : (table : List ℕ) (start : ℕ) (name : List ℕ) → length table ≤ tableLimit

@@ -2,12 +2,17 @@
 use Prim.Native.Nat.{ℕ}
 use mathlib.Core.Path.{_≡_}
 use mathlib.Core.List.{List, [], _∷_, map}
-use lib.ListN.{take}
+use lib.ListN.{length, take}
 use Rattle.answers.specs.Numbers.{numberOf, answerOf}
 use Rattle.answers.specs.declared.Answer.the-variants as Answer
 use Rattle.answers.specs.declared.Reply.{Reply}
 use Rattle.answers.specs.declared.Reply.the-variants.{Value, Nothing, Refused}
 use lib.IntN.{ℤ, pos, negsuc}
+use Rattle.kerning.specs.Additions.{addAll}
+use Rattle.kerning.specs.Choices.{choicesOf}
+use Rattle.kerning_lists.specs.Run.{zeros}
+use Rattle.kerning_lists.specs.Family.{passed}
+use Rattle.kern.specs.Kern.{kern}
 use Rattle.line.specs.Line.{Line}
 use Rattle.line.specs.Entries.{Left, freshOf, verbCall}
 use Rattle.state_tables.specs.Classes.{classExtended}
@@ -98,3 +103,18 @@ pub record KnownReasons : Type 0 where
   pub before-the-first : lookupReply trimmed 0 4 ≡ Lookup.Nothing NotCovered
   pub cut-off : lookupReply (take 8 trimmed) 0 6 ≡ Lookup.Nothing CutShort
   pub format-three : lookupReply (0 ∷ 3 ∷ []) 0 6 ≡ Lookup.Nothing UnknownFormat
+
+-- a kern subtable of the old edition: the pair 5 6, and 10 for it
+abbrev onePair : List ℕ
+onePair = 0 ∷ 0 ∷ 0 ∷ 20 ∷ 0 ∷ 1 ∷ 0 ∷ 1 ∷ 0 ∷ 6 ∷ 0 ∷ 0 ∷ 0 ∷ 0 ∷ 0 ∷ 5 ∷ 0 ∷ 6 ∷ 0 ∷ 10 ∷ []
+
+-- what the pass by it makes of adjustments of 0, with the choices of these bits
+unfoldable pub kernedBy : (bits : ℕ) → (glyphs : List ℕ) → List ℤ
+kernedBy bits glyphs = addAll (passed kern onePair 0 glyphs (length glyphs) (choicesOf bits) .additions) (zeros (length glyphs))
+
+-- a deleted glyph between the two parts neighbours and not joined pairs; before and behind them it parts neither
+pub record KnownPairs : Type 0 where
+  pub neighbours-parted : kernedBy 0 (5 ∷ 0xFFFF ∷ 6 ∷ []) ≡ map pos (0 ∷ 0 ∷ 0 ∷ [])
+  pub joined-over-it : kernedBy 1 (5 ∷ 0xFFFF ∷ 6 ∷ []) ≡ map pos (10 ∷ 0 ∷ 0 ∷ [])
+  pub neighbours-beside-it : kernedBy 0 (0xFFFF ∷ 5 ∷ 6 ∷ 0xFFFF ∷ []) ≡ map pos (0 ∷ 10 ∷ 0 ∷ 0 ∷ [])
+  pub joined-beside-it : kernedBy 1 (0xFFFF ∷ 5 ∷ 6 ∷ 0xFFFF ∷ []) ≡ map pos (0 ∷ 10 ∷ 0 ∷ 0 ∷ [])

@@ -12,10 +12,10 @@ use Rattle.kern.proofs.run_list.Statement.{statement}
 use Rattle.kern.proofs.run_list.Tie as tie
 
 abbrev Inv-loop : tie.InvT-loop
-Inv-loop bytes list glyphs used along₀ heads₀ left₀ at₀ along heads left at = Running (adds kern bytes (list .version) used) glyphs used (headAt kern false bytes (list .version)) (headsOf (headAt kern false bytes (list .version)) (list .count) (list .first)) along₀ along heads left at
+Inv-loop bytes list glyphs used along₀ choices heads₀ left₀ at₀ along heads left at = Running (adds kern bytes (list .version) used choices) glyphs used (headAt kern false bytes (list .version)) (headsOf (headAt kern false bytes (list .version)) (list .count) (list .first)) along₀ along heads left at
 
 abbrev μ-loop : tie.MeasureT-loop
-μ-loop bytes list glyphs used along₀ heads₀ left₀ at₀ along heads left at = left
+μ-loop bytes list glyphs used along₀ choices heads₀ left₀ at₀ along heads left at = left
 
 loop-holds : tie.Need-loop-holds Inv-loop μ-loop
 loop-holds c = running-start _ _ _ _ _ _ _ (c .before .before .pre .3)
@@ -73,7 +73,7 @@ loop-again c =
     let at-loop-test = at-head-at .before in
     let at-loop = at-loop-test .before in
     let start = at-loop .before .before .before in
-    running-next _ _ _ _ _ _ (at-loop .loop .inv) (at-loop-test .loop-test .taken) (sym (at-head-at .head-at .ensures) ∙ at-subtable .subtable .given .1) (limit-ahead (at-loop .loop .inv .within) (at-if1 .if1 .left)) (at-visit .visit .ensures) (contribution-little _ _ _ (λ s gs b along w. worked-little _ _ _ _ _ b along (start .pre .2) w) _ _ (omega arith) (at-loop .loop .inv .small))
+    running-next _ _ _ _ _ _ (at-loop .loop .inv) (at-loop-test .loop-test .taken) (sym (at-head-at .head-at .ensures) ∙ at-subtable .subtable .given .1) (limit-ahead (at-loop .loop .inv .within) (at-if1 .if1 .left)) (at-visit .visit .ensures) (contribution-little _ _ _ (λ s gs b along w. worked-little _ _ _ _ _ _ b along (start .pre .2) w) _ _ (omega arith) (at-loop .loop .inv .small))
 
 same-length-3 : tie.Need-same-length-3 Inv-loop μ-loop
 same-length-3 c = c .before .loop .inv .long

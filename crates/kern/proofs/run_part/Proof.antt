@@ -29,7 +29,7 @@ returns c =
     let at-run-list = c .before in
     let at-list-of = at-run-list .before .before in
     let at-zero = at-list-of .before .before in
-    let p = part-is kern _ false _ _ (at-zero .zero .ensures) (ap length (at-zero .zero .ensures) ∙ length-zeros _) (at-list-of .list-of .ensures) (at-run-list .run-list .ensures .0) (at-run-list .run-list .ensures .1 .0) (at-run-list .run-list .ensures .1 .1) in
+    let p = part-is kern _ false _ _ _ (at-zero .zero .ensures) (ap length (at-zero .zero .ensures) ∙ length-zeros _) (at-list-of .list-of .ensures) (at-run-list .run-list .ensures .0) (at-run-list .run-list .ensures .1 .0) (at-run-list .run-list .ensures .1 .1) in
     (p .answers, (p .counts, p .leaves))
 
 pub run-part-spec : {M : Type 1} → statement M

@@ -14,7 +14,7 @@ enum-told : tie.Need-enum-told
 enum-told c = search needs
 
 returns : tie.Need-returns
-returns c = let w = passes-cut kerx _ _ _ _ _ (c .before .before .head-in .ensures) (c .enum-told .given .1) in (w .answers, w .leaves)
+returns c = let w = passes-cut kerx _ _ _ _ _ _ (c .before .before .head-in .ensures) (c .enum-told .given .1) in (w .answers, w .leaves)
 
 work-requires : tie.Need-work-requires
 work-requires c κs = search needs
@@ -27,7 +27,7 @@ returns-2 c =
     let at-work = c .before in
     let at-subtable = at-work .before .before .before in
     let at-head-in = at-subtable .before .before in
-    let w = passes-by kerx _ _ _ _ _ (at-head-in .head-in .ensures) (at-subtable .subtable .given .1) (record { answers = at-work .work .ensures .0; leaves = at-work .work .ensures .1 }) in
+    let w = passes-by kerx _ _ _ _ _ _ (at-head-in .head-in .ensures) (at-subtable .subtable .given .1) (record { answers = at-work .work .ensures .0; leaves = at-work .work .ensures .1 }) in
     (w .answers, w .leaves)
 
 pub pass-in-spec : {M : Type 1} → statement M

@@ -8,13 +8,13 @@ use Rattle.kerx.proofs.run_list.Statement.{statement}
 use Rattle.kerx.proofs.run_list.Tie as tie
 
 abbrev Inv-loop : tie.InvT-loop
-Inv-loop bytes list rtl glyphs₀ tags₀ used along₀ heads₀ left₀ at₀ glyphs tags along heads left at = Going bytes list rtl glyphs₀ tags₀ used along₀ glyphs tags along heads left at
+Inv-loop bytes list rtl glyphs₀ tags₀ used along₀ choices heads₀ left₀ at₀ glyphs tags along heads left at = Going bytes list rtl glyphs₀ tags₀ used along₀ choices glyphs tags along heads left at
 
 abbrev μ-loop : tie.MeasureT-loop
-μ-loop bytes list rtl glyphs₀ tags₀ used along₀ heads₀ left₀ at₀ glyphs tags along heads left at = left
+μ-loop bytes list rtl glyphs₀ tags₀ used along₀ choices heads₀ left₀ at₀ glyphs tags along heads left at = left
 
 loop-holds : tie.Need-loop-holds Inv-loop μ-loop
-loop-holds c = going-start _ _ _ _ _ _ _ (c .before .before .before .pre .4)
+loop-holds c = going-start _ _ _ _ _ _ _ _ (c .before .before .before .pre .4)
 
 head-at-requires : tie.Need-head-at-requires Inv-loop μ-loop
 head-at-requires c κs = search needs
@@ -83,7 +83,7 @@ loop-again c =
     let at-loop-test = at-head-at .before in
     let at-loop = at-loop-test .before in
     let start = at-loop .before .before .before .before in
-    going-next _ _ _ _ _ _ _ (at-loop .loop .inv) (start .pre .3) (start .pre .2) (at-loop-test .loop-test .taken) (sym (at-head-at .head-at .ensures) ∙ at-subtable .subtable .given .1) (limit-ahead (at-loop .loop .inv .running .within) (at-if1 .if1 .left)) (at-visit .visit .ensures .0) (at-visit .visit .ensures .1 .0) (at-visit .visit .ensures .1 .1)
+    going-next _ _ _ _ _ _ _ _ (at-loop .loop .inv) (start .pre .3) (start .pre .2) (at-loop-test .loop-test .taken) (sym (at-head-at .head-at .ensures) ∙ at-subtable .subtable .given .1) (limit-ahead (at-loop .loop .inv .running .within) (at-if1 .if1 .left)) (at-visit .visit .ensures .0) (at-visit .visit .ensures .1 .0) (at-visit .visit .ensures .1 .1)
 
 same-length-7 : tie.Need-same-length-7 Inv-loop μ-loop
 same-length-7 c = ap length (c .before .loop .inv .sameGlyphs)

@@ -34,7 +34,7 @@ returns c =
     let at-run-list = c .before .before .before .before .before in
     let at-list-of = at-run-list .before .before .before .before in
     let at-zero = at-list-of .before .before in
-    let p = part-is kerx _ _ _ _ (at-zero .zero .ensures) (ap length (at-zero .zero .ensures) ∙ length-zeros _) (at-list-of .list-of .ensures) (at-run-list .run-list .ensures .0) (at-run-list .run-list .ensures .1 .0) (at-run-list .run-list .ensures .1 .1 .1 .1) in
+    let p = part-is kerx _ _ _ _ _ (at-zero .zero .ensures) (ap length (at-zero .zero .ensures) ∙ length-zeros _) (at-list-of .list-of .ensures) (at-run-list .run-list .ensures .0) (at-run-list .run-list .ensures .1 .0) (at-run-list .run-list .ensures .1 .1 .1 .1) in
     (p .answers, (p .counts, (at-run-list .run-list .ensures .1 .1 .0, (at-run-list .run-list .ensures .1 .1 .1 .0, p .leaves))))
 
 pub run-part-spec : {M : Type 1} → statement M

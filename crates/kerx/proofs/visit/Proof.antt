@@ -6,7 +6,7 @@ use Rattle.kerx.proofs.visit.Statement.{statement}
 use Rattle.kerx.proofs.visit.Tie as tie
 
 returns : tie.Need-returns
-returns c = (refl, (refl, visits-none kerx _ _ _ _ _ _ (c .if1 .taken)))
+returns c = (refl, (refl, visits-none kerx _ _ _ _ _ _ _ (c .if1 .taken)))
 
 from-requires : tie.Need-from-requires
 from-requires c κs = search needs
@@ -29,7 +29,7 @@ returns-2 c =
     let at-if2 = at-work-turned .before .before .before .before in
     let at-from = at-if2 .before in
     let at-if1 = at-from .before in
-    (at-work-turned .work-turned .ensures .0, (at-work-turned .work-turned .ensures .1 .0, visits-turned kerx _ _ _ _ _ _ (at-if1 .if1 .left) (at-if2 .if2 .taken) (at-from .from .ensures) (at-work-turned .work-turned .ensures .1 .1)))
+    (at-work-turned .work-turned .ensures .0, (at-work-turned .work-turned .ensures .1 .0, visits-turned kerx _ _ _ _ _ _ _ (at-if1 .if1 .left) (at-if2 .if2 .taken) (at-from .from .ensures) (at-work-turned .work-turned .ensures .1 .1)))
 
 work-requires : tie.Need-work-requires
 work-requires c κs = search needs
@@ -46,7 +46,7 @@ returns-3 c =
     let at-if2 = at-work .before .before .before in
     let at-from = at-if2 .before in
     let at-if1 = at-from .before in
-    (refl, (refl, visits kerx _ _ _ _ _ _ (at-if1 .if1 .left) (at-if2 .if2 .left) (at-from .from .ensures) (at-work .work .ensures .1)))
+    (refl, (refl, visits kerx _ _ _ _ _ _ _ (at-if1 .if1 .left) (at-if2 .if2 .left) (at-from .from .ensures) (at-work .work .ensures .1)))
 
 pub visit-spec : {M : Type 1} → statement M
 visit-spec =

@@ -13,7 +13,7 @@ same-length : tie.Need-same-length
 same-length c = search needs
 
 returns : tie.Need-returns
-returns c = let w = works-ordered _ _ _ _ _ _ (c .before .before .before .before .if1 .taken) (c .before .before .before .ordered-kerx .ensures) (c .before .work .ensures .0) (c .before .work .ensures .1) in (w .answers, w .leaves)
+returns c = let w = works-ordered _ _ _ _ _ _ _ (c .before .before .before .before .if1 .taken) (c .before .before .before .ordered-kerx .ensures) (c .before .work .ensures .0) (c .before .work .ensures .1) in (w .answers, w .leaves)
 
 work-requires-2 : tie.Need-work-requires-2
 work-requires-2 c κs = search needs
@@ -22,7 +22,7 @@ same-length-2 : tie.Need-same-length-2
 same-length-2 c = search needs
 
 returns-2 : tie.Need-returns-2
-returns-2 c = let w = works-machine _ _ _ _ _ _ (c .before .before .before .before .if1 .left) (c .before .before .before .if2 .taken) (c .before .work2 .ensures .0) (c .before .work2 .ensures .1) in (w .answers, w .leaves)
+returns-2 c = let w = works-machine _ _ _ _ _ _ _ (c .before .before .before .before .if1 .left) (c .before .before .before .if2 .taken) (c .before .work2 .ensures .0) (c .before .work2 .ensures .1) in (w .answers, w .leaves)
 
 classes-kerx-requires : tie.Need-classes-kerx-requires
 classes-kerx-requires c κs = search needs
@@ -40,11 +40,11 @@ returns-3 c =
     let at-if3 = at-classes-kerx .before in
     let at-if2 = at-if3 .before in
     let at-if1 = at-if2 .before in
-    let w = works-classes _ _ _ _ _ _ (at-if1 .if1 .left) (at-if2 .if2 .left) (at-if3 .if3 .taken) (at-classes-kerx .classes-kerx .ensures) (at-work3 .work3 .ensures .0) (at-work3 .work3 .ensures .1) in
+    let w = works-classes _ _ _ _ _ _ _ (at-if1 .if1 .left) (at-if2 .if2 .left) (at-if3 .if3 .taken) (at-classes-kerx .classes-kerx .ensures) (at-work3 .work3 .ensures .0) (at-work3 .work3 .ensures .1) in
     (w .answers, w .leaves)
 
 returns-4 : tie.Need-returns-4
-returns-4 c = let w = works-none _ _ _ _ _ _ (c .before .before .if1 .left) (c .before .if2 .left) (c .if3 .left) in (w .answers, w .leaves)
+returns-4 c = let w = works-none _ _ _ _ _ _ _ (c .before .before .if1 .left) (c .before .if2 .left) (c .if3 .left) in (w .answers, w .leaves)
 
 pub work-spec : {M : Type 1} → statement M
 work-spec =

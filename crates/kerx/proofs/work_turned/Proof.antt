@@ -39,7 +39,7 @@ returns c =
     let at-turn = at-work .before .before .before .before in
     let at-reverse = at-turn .before .before .before .before .before .before in
     let start = at-reverse .before .before .before .before .before .before in
-    (back-again _ _ (start .pre .0) (at-reverse .reverse .ensures .0) (at-reverse2 .reverse2 .ensures .0), (back-again _ _ (start .pre .1) (at-reverse .reverse .ensures .1) (at-reverse2 .reverse2 .ensures .1), added-back _ _ _ _ _ _ (start .pre .2) (at-reverse .reverse .ensures .0) (at-turn .turn .ensures) (at-work .work .ensures .1) (at-turn2 .turn2 .ensures)))
+    (back-again _ _ (start .pre .0) (at-reverse .reverse .ensures .0) (at-reverse2 .reverse2 .ensures .0), (back-again _ _ (start .pre .1) (at-reverse .reverse .ensures .1) (at-reverse2 .reverse2 .ensures .1), added-back _ _ _ _ _ _ _ (start .pre .2) (at-reverse .reverse .ensures .0) (at-turn .turn .ensures) (at-work .work .ensures .1) (at-turn2 .turn2 .ensures)))
 
 pub work-turned-spec : {M : Type 1} → statement M
 work-turned-spec =

@@ -9,15 +9,15 @@ use Rattle.line.proofs.Room.{room-small}
 use Rattle.pairs.specs.Work.{Sized}
 use Rattle.pairs.specs.Pairs.{pairNumber}
 use Rattle.pairs.specs.declared.PairTable.the-variants.{Classes}
-use Rattle.pairs.proofs.Passes.{sized, sized-opened, opened-adds, Pairing, pairing-start, pairing-next, pairing-done}
+use Rattle.pairs.proofs.Passes.{sized, sized-opened, opened-adds, Stretching, stretching-start, stretching-next, stretching-done}
 use Rattle.pairs.proofs.add_classes.Statement.{statement}
 use Rattle.pairs.proofs.add_classes.Tie as tie
 
 abbrev Inv-loop : tie.InvT-loop
-Inv-loop bytes rows columns array glyphs used along₀ lefts rights left-rows right-columns place₀ along place = Pairing (pairNumber bytes (Classes rows columns array)) glyphs (sized bytes (Classes rows columns array)) used (2 ^ 60) along₀ along place
+Inv-loop bytes rows columns array glyphs before from stop along₀ lefts rights left-rows right-columns left₀ place₀ along left place = Stretching (pairNumber bytes (Classes rows columns array)) glyphs (sized bytes (Classes rows columns array)) before from stop (2 ^ 61) along₀ along left place
 
 abbrev μ-loop : tie.MeasureT-loop
-μ-loop bytes rows columns array glyphs used along₀ lefts rights left-rows right-columns place₀ along place = used - place
+μ-loop bytes rows columns array glyphs before from stop along₀ lefts rights left-rows right-columns left₀ place₀ along left place = stop - place
 
 from-requires : tie.Need-from-requires Inv-loop μ-loop
 from-requires c κs = search needs
@@ -34,10 +34,7 @@ open-requires-2 c κs = search needs
 loop-holds : tie.Need-loop-holds Inv-loop μ-loop
 loop-holds c =
     let start = c .before .before .before .before .before .before in
-    pairing-start _ _ _ _ _ _ (start .pre .3)
-
-sub-opened-number : tie.Need-sub-opened-number Inv-loop μ-loop
-sub-opened-number c = omega (arith, c .before .loop .inv .begun)
+    stretching-start _ _ _ _ _ _ _ _ (start .pre .0) (start .pre .1) (start .pre .5)
 
 mul-opened-number : tie.Need-mul-opened-number Inv-loop μ-loop
 mul-opened-number c = search needs
@@ -56,10 +53,10 @@ opened-number-requires c κs =
     let at-open2 = c .before .before .before .before in
     (subst⁻¹ (LiesIn _) (at-open2 .before .«open» .ensures) (opened-lies _), subst⁻¹ (LiesIn _) (at-open2 .open2 .ensures) (opened-lies _))
 
-add-before-requires : tie.Need-add-before-requires Inv-loop μ-loop
-add-before-requires c κs =
+add-number-requires : tie.Need-add-number-requires Inv-loop μ-loop
+add-number-requires c κs =
     let at-loop = c .before .before .before .before .before in
-    (at-loop .loop .inv .begun, omega (arith, at-loop .loop .inv .long), within-more (omega (arith, room-small)) (at-loop .loop .inv .small), subst⁻¹ Sized (c .before .opened-number .ensures) (sized-opened _ _ _ _ _ _ _ _))
+    (omega (arith, at-loop .loop .inv .begun, at-loop .loop .inv .within, at-loop .loop .inv .long), within-more (omega (arith, room-small)) (at-loop .loop .inv .small), subst⁻¹ Sized (c .before .opened-number .ensures) (sized-opened _ _ _ _ _ _ _ _))
 
 add-place : tie.Need-add-place Inv-loop μ-loop
 add-place c = omega arith
@@ -69,21 +66,21 @@ loop-less c = omega arith
 
 loop-again : tie.Need-loop-again Inv-loop μ-loop
 loop-again c =
-    let at-add-before = c .before in
-    let at-opened-number = at-add-before .before .before in
+    let at-add-number = c .before in
+    let at-opened-number = at-add-number .before .before in
     let at-loop-test = at-opened-number .before .before .before in
     let at-loop = at-loop-test .before in
     let at-open2 = at-loop .before in
     let at-from2 = at-open2 .before .before in
-    pairing-next _ _ _ _ (at-loop .loop .inv) (at-loop-test .loop-test .taken)
-    (at-add-before .add-before .ensures)
+    stretching-next _ _ _ _ (at-loop .loop .inv) (at-loop-test .loop-test .taken)
+    (at-add-number .add-number .ensures)
     (opened-adds _ _ _ _ _ _ (at-from2 .before .from .ensures) (at-from2 .from2 .ensures) (at-open2 .before .«open» .ensures) (at-open2 .open2 .ensures) (at-opened-number .opened-number .ensures) _)
 
 same-length : tie.Need-same-length Inv-loop μ-loop
 same-length c = c .before .loop .inv .long
 
 returns : tie.Need-returns Inv-loop μ-loop
-returns c = pairing-done _ _ _ (c .before .loop .inv) (c .loop-test .left)
+returns c = stretching-done _ _ _ (c .before .loop .inv) (c .loop-test .left)
 
 pub add-classes-spec : {M : Type 1} → statement M
 add-classes-spec =
@@ -96,13 +93,12 @@ add-classes-spec =
     open-requires
     open-requires-2
     loop-holds
-    sub-opened-number
     mul-opened-number
     shared-slice-read-opened-number
     mul-opened-number-2
     shared-slice-read-opened-number-2
     opened-number-requires
-    add-before-requires
+    add-number-requires
     add-place
     loop-less
     loop-again

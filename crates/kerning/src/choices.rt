@@ -1,0 +1,45 @@
+// What a caller chooses for a pass or a run of kern or kerx.
+ghost use mathlib.Core.Path.{_≡_};
+ghost use Rattle.kerning.specs.Choices.{ruleOf, choicesOf, unchosen};
+
+// Which two places are a pair.
+pub enum PairRule {
+    // Neighbours, whatever their glyphs.
+    Neighbours,
+    // Joined pairs: two glyphs below 0xFFFF with only 0xFFFF between them.
+    Joined,
+}
+
+pub struct Choices {
+    pub pairs: PairRule,
+}
+
+// The bit of joined pairs.
+pub const JOINED_PAIRS: u32 = 1;
+
+fn rule_of(bits: u32) -> PairRule
+    ensures { λ r. ⌜ r ≡ ruleOf bits ⌝ }
+{
+    if bits / JOINED_PAIRS % 2 == 1 {
+        return PairRule::Joined;
+    }
+    PairRule::Neighbours
+}
+
+// The choices that the bits of a number make; those without a name are not looked at.
+pub fn choices_of(bits: u32) -> Choices
+    ensures { λ r. ⌜ r ≡ choicesOf bits ⌝ }
+{
+    Choices {
+        pairs: rule_of(bits),
+    }
+}
+
+// No choice made.
+pub fn none() -> Choices
+    ensures { λ r. ⌜ r ≡ unchosen ⌝ }
+{
+    Choices {
+        pairs: PairRule::Neighbours,
+    }
+}
