@@ -4,18 +4,18 @@
    - Every entry gives the number of its answer, an enum aat_answer. Any bytes, numbers and lengths get one, and the work
      ends. A pointer has to point to as many elements as the length behind it says, or the number in brackets; it is never null,
      not even where that is 0. What an entry writes may not overlap anything else that it is lent.
-   - On the answers from AAT_NOTHING to AAT_HEAD everything that was lent stays as it was, but for the reason that goes with
-     AAT_NOTHING (enum aat_why). What an entry writes otherwise stands under "Writes"; all else stays as it was on every
-     answer. Nothing is kept between calls.
+   - On the answers from AAT_NOTHING to AAT_HEAD, and on AAT_OVERLAP and AAT_SPACE, everything that was lent stays as it was,
+     but for the reason that goes with AAT_NOTHING (enum aat_why). What an entry writes otherwise stands under "Writes"; all
+     else stays as it was on every answer. Nothing is kept between calls.
    - table, table_len, start: the bytes of a font table, or of a whole font, and the byte of it where the entry's own table,
      subtable (its head included), state table or list of glyphs begins. Longer than AAT_LONGEST_TABLE is AAT_TABLE. Where a
      whole kern or kerx table is asked for, start 0 is no table, which has no subtables; elsewhere it is a start as any other.
    - glyph 0xFFFF is a deleted glyph. Flags told as uint32_t are set where they are not 0.
-   - Where several of AAT_TABLE to AAT_HEAD apply, the answer is the one with the smallest number.
+   - Where several of AAT_TABLE to AAT_HEAD, AAT_OVERLAP and AAT_SPACE apply, the answer is the one with the smallest number.
 
    The most work of a call, for a watchdog. A turn is one entry of a state table that is looked at.
-   - A lookup, class or pair looks at 16 records at most, a pair of kerx at 32; aat_survey at 65,535. aat_language_index
-     compares name with a tag for each 4 bytes of the table at most. LINE is tested by a look at each tag and home.
+   - A lookup, class or pair looks at 16 records at most, a pair of kerx at 32; aat_survey at 65,535; aat_mend at
+     as many, with two passes over 65,536 glyphs and 128 KiB of its stack for them. aat_language_index compares name with a tag for each 4 bytes of the table at most. LINE is tested by a look at each tag and home.
    - A step takes 1 turn, of contextual subtables and ligatures 18 at most.
    - A pass takes 18 turns for each place, and 18 more: 73,746 at most, in AAT_LARGEST_ROOM places. Insertion passes count
      the places of the room, whatever used is. Non-contextual and pair passes look up each place once.
@@ -44,7 +44,7 @@ typedef __SIZE_TYPE__ size_t;
 #endif
 
 /* Rises with every entry or value that is added; what is there stays. */
-#define AAT_VERSION 5
+#define AAT_VERSION 6
 
 #ifdef __cplusplus
 extern "C" {
@@ -61,6 +61,8 @@ enum aat_answer {
     AAT_FULL = 7,    /* the next insertion would make the line longer than its room; what was done before it stays */
     AAT_ENDED = 8,   /* the work broke off, for want of an entry, a list or a slot of the stack; what was done before stays */
     AAT_LIMIT = 9,   /* a run has counted 65,535 heads and there is another; what was done before stays */
+    AAT_OVERLAP = 17, /* two records that a mended table would keep share a glyph */
+    AAT_SPACE = 18,  /* what is to be written does not fit where it is lent */
 };
 
 enum aat_verdict {
@@ -146,6 +148,19 @@ uint32_t aat_lookup_why(const uint8_t *table, size_t table_len, size_t start, ui
    Writes: verdict, an enum aat_verdict; record with AAT_BAD alone: the number of the first record that is out of order.
    With AAT_UNIT_SIZE no record is looked at or named; the unit size that the table states is its number of 16 bits at start + 2. */
 uint32_t aat_survey(const uint8_t *table, size_t table_len, size_t start, uint32_t *verdict, uint32_t *record);
+
+/* Mends the lookup table of format 2 or 6 at start whose records are out of order: writes to buffer a table of the same format
+   and unit size with the kept records in rising order, byte for byte, and with its search fields worked out afresh, modulo
+   65,536; zeros for no records. Of records of format 6 with one glyph the first is kept, and of format 2 each whose first glyph
+   is not above its last. No sentinel is written; one that is counted is a record like the others. The new table is surveyed as
+   AAT_SORTED, and each glyph finds in it what a look from the first record down finds in the old one.
+   Answers: AAT_DONE; AAT_TABLE; AAT_HEAD (format, unit size or count can't be read, a format other than 2 and 6, a unit size
+   other than 6 in format 2 and 4 in format 6, or a counted record that does not lie wholly in the table); AAT_OVERLAP (two kept
+   records of format 2 share a glyph); AAT_SPACE (buffer_len is below 12 and the unit size for each kept record, for which 12 +
+   6 for each counted one is always enough; or numbers_len is below the count). A count of 0 is AAT_DONE.
+   Writes: buffer, size bytes of it; size; numbers: for each old record its new number, or 0xFFFF for one that was dropped. */
+uint32_t aat_mend(const uint8_t *table, size_t table_len, size_t start, uint8_t *buffer, size_t buffer_len, uint16_t *numbers,
+                  size_t numbers_len, size_t *size);
 
 /* The class of a glyph in the extended (morx, kerx) or classic (kern) state table at start: 1 where the class table does
    not cover it, 2 for a deleted glyph.

@@ -61,9 +61,10 @@
       42 kerx_pass_by          as 41                             as 21
       43 kern_run_by           as 23, then choices 4             as 23
       44 kerx_run_by           as 24, then choices 4             as 23
+      45 mend                  start 8, buffer, size 8, numbers  answer 4, size 8, buffer, numbers
 
-   A name is its length 4 and the bytes. Glyphs, tags and homes are each a count 4 and so many numbers 2, the adjustments along
-   the line a count 4 and so many numbers 8; a reply has the numbers alone.
+   A name or a buffer is its length 4 and the bytes. Glyphs, tags, homes and new numbers of records are each a count 4 and so many
+   numbers 2, the adjustments along the line a count 4 and so many numbers 8; a reply has the bytes or numbers alone.
 
    Replies are sent when the input runs dry. Exit status 0 when it ends between calls, 1 for anything out of this form. */
 
@@ -93,6 +94,13 @@ static size_t used;
 /* The adjustments along a line, as many as a slice has numbers. */
 static int64_t along[AAT_LARGEST_ROOM + 64];
 static size_t along_len;
+
+/* Bytes that an entry may write: longer than a table, so that it can be seen that no length is refused. */
+static uint8_t buffer[AAT_LONGEST_TABLE + 4096];
+static size_t buffer_len, size;
+
+/* The new numbers of a lookup's records: more than there can be. */
+static uint16_t numbers[65536 + 64];
 
 /* A step's state, what it is told, and what it hands over. */
 static uint64_t state[AAT_LIGATURE_STATE], edits[AAT_EDITS];
@@ -182,6 +190,16 @@ static void put_line(void) {
     put_slice(&glyphs);
     put_slice(&tags);
     put_slice(&homes);
+}
+
+static void take_buffer(void) {
+    buffer_len = take_bytes(buffer, sizeof buffer);
+    size = take(8);
+}
+
+static void put_buffer(void) {
+    put(size, 8);
+    for (size_t i = 0; i < buffer_len; i++) put(buffer[i], 1);
 }
 
 static void take_numbers(uint64_t *numbers, int count) {
@@ -484,6 +502,17 @@ static void morx_should_reverse(void) {
     put(turned, 4);
 }
 
+static void mend(void) {
+    start = take(8);
+    take_buffer();
+    size_t numbers_len = take(4);
+    if (numbers_len > sizeof numbers / sizeof numbers[0]) exit(1);
+    for (size_t i = 0; i < numbers_len; i++) numbers[i] = (uint16_t)take(2);
+    put(aat_mend(table, table_len, start, buffer, buffer_len, numbers, numbers_len, &size), 4);
+    put_buffer();
+    for (size_t i = 0; i < numbers_len; i++) put(numbers[i], 2);
+}
+
 static void answer(uint8_t call) {
     if (8 <= call && call <= 13) take_pass();
     switch (call) {
@@ -532,6 +561,7 @@ static void answer(uint8_t call) {
     case 42: kern_by(aat_kerx_pass_by); break;
     case 43: kern_run_by(); break;
     case 44: kerx_run_by(); break;
+    case 45: mend(); break;
     default: exit(1);
     }
 }

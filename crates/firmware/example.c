@@ -96,6 +96,22 @@ static void insert_both_ways(void)
     printf("\n");
 }
 
+/* A lookup table out of order, mended into a buffer that is one byte short, and into one that is not. */
+static void mend_lookup(void)
+{
+    static const uint8_t shuffled[] = {0, 6, 0, 4, 0, 2, 0, 8, 0, 1, 0, 0, 0, 6, 0, 90, 0, 5, 0, 70};
+    uint8_t mended[sizeof shuffled];
+    uint16_t numbers[2] = {0, 0};
+    size_t size = 0, record;
+
+    if (aat_mend(shuffled, sizeof shuffled, 0, mended, sizeof mended - 1, numbers, 2, &size) != AAT_SPACE)
+        printf("a buffer that is too short was TAKEN\n");
+    expect_done(aat_mend(shuffled, sizeof shuffled, 0, mended, sizeof mended, numbers, 2, &size), "mending");
+    printf("mended in %u bytes:", (unsigned)size);
+    for (record = 0; record < 2; record++)
+        printf(" record %u is now %u%s", (unsigned)record, numbers[record], record == 0 ? "," : "\n");
+}
+
 int main(void)
 {
     uint16_t glyphs[ROOM] = {3, 5, 6}, tags[ROOM], homes[CHARACTERS];
@@ -119,5 +135,6 @@ int main(void)
             if (tags[place] == homes[character])
                 printf("character %u is at place %u\n", (unsigned)character, (unsigned)place);
     insert_both_ways();
+    mend_lookup();
     return EXIT_SUCCESS;
 }

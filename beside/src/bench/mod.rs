@@ -4,6 +4,7 @@ mod harfbuzz;
 mod sides;
 mod text;
 mod timed_kerning;
+mod timed_mending;
 mod timed_passes;
 mod timed_shaping;
 mod timed_text;
@@ -111,6 +112,7 @@ fn groups(random: &mut Random) -> Vec<Group> {
         Group::new("Passes over lines that differ", lines),
         Group::new("Machines of several states", states),
         timed_shaping::group(random),
+        Group::new("Mended lookup tables", timed_mending::subjects(random)),
     ]
 }
 

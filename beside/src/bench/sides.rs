@@ -91,6 +91,16 @@ pub mod ours {
             start: usize,
             end: usize,
         ) -> u32;
+        fn aat_mend(
+            table: *const u8,
+            table_len: usize,
+            start: usize,
+            buffer: *mut u8,
+            buffer_len: usize,
+            numbers: *mut u16,
+            numbers_len: usize,
+            size: *mut usize,
+        ) -> u32;
     }
 
     /// Declares entries that are lent a table, its start and a line, with what they are told before the line and behind it.
@@ -211,6 +221,15 @@ pub mod ours {
     pub fn run(line: &mut Line, table: &[u8]) {
         let mut heads = 0;
         call!(aat_morx_run, table, 0, [0], line, [&mut line.used, &mut heads]);
+    }
+
+    /// The mended lookup table that the table begins with.
+    #[inline(always)]
+    pub fn mend(table: &[u8], buffer: &mut [u8], numbers: &mut [u16]) {
+        let (written, length, list, count) = (buffer.as_mut_ptr(), buffer.len(), numbers.as_mut_ptr(), numbers.len());
+        let mut size = 0;
+        let answer = unsafe { aat_mend(table.as_ptr(), table.len(), 0, written, length, list, count, &mut size) };
+        assert_eq!(answer, 0, "a table that is mended");
     }
 
     /// A kerning pass by the subtable that the table begins with.

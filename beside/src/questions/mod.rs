@@ -11,6 +11,7 @@ pub mod language;
 pub mod lists;
 pub mod lone_insertion;
 pub mod lookup;
+pub mod mended;
 pub mod passes;
 pub mod reasons;
 pub mod runs;
@@ -126,6 +127,7 @@ pub static PARTS: &[&dyn Part] = &[
     &lone_insertion::Insertions,
     &kerning_choices::ByChoices(Kern),
     &kerning_choices::ByChoices(Kerx),
+    &mended::MendedTables,
 ];
 
 /// The part that an entry belongs to.

@@ -9,6 +9,7 @@ pub mod kerning_trace;
 pub mod line;
 pub mod lists_by_copy;
 pub mod ltag;
+pub mod mended;
 pub mod opened;
 pub mod oracle;
 pub mod pass;

@@ -1,4 +1,4 @@
-//! The crate, unchanged, and its answers in document 01's numbers.
+//! The crate, unchanged, and its answers in the documents' numbers.
 
 use std::cell::Cell;
 use std::panic::{catch_unwind, set_hook, take_hook, AssertUnwindSafe, Location};
@@ -25,7 +25,7 @@ pub const fn raw_tag(letters: &[u8; 4]) -> RawTag {
 /// The longest table that is not refused.
 pub const LONGEST_TABLE: usize = 16_777_216;
 
-/// An answer of document 01, with what DONE carries.
+/// An answer of the documents, with what DONE carries.
 #[derive(Clone, Copy, PartialEq)]
 pub enum Answer<T> {
     Done(T),
@@ -38,6 +38,8 @@ pub enum Answer<T> {
     Full,
     Ended,
     Limit,
+    Overlap,
+    Space,
 }
 
 impl<T: Copy> Answer<T> {
@@ -59,6 +61,8 @@ impl<T: Copy> Answer<T> {
             Answer::Full => 7,
             Answer::Ended => 8,
             Answer::Limit => 9,
+            Answer::Overlap => 17,
+            Answer::Space => 18,
         }
     }
 
@@ -75,6 +79,8 @@ impl<T: Copy> Answer<T> {
             Answer::Full => Answer::Full,
             Answer::Ended => Answer::Ended,
             Answer::Limit => Answer::Limit,
+            Answer::Overlap => Answer::Overlap,
+            Answer::Space => Answer::Space,
         }
     }
 

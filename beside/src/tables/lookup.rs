@@ -226,6 +226,29 @@ fn records_in_order(random: &mut Random, size: usize) -> Vec<Record> {
     (0..size).map(|number| base + number * stretch).map(any_record).collect()
 }
 
+/// Any records of a table that is to be mended: in order, turned round or shuffled, often with some that are the same, reversed or
+/// shared.
+pub fn any_records(random: &mut Random, format: u16, most: usize) -> Vec<Record> {
+    let size = random.below(most + 1);
+    let mut records = records_in_order(random, size);
+    match random.below(4) {
+        0 => {}
+        1 => records.reverse(),
+        _ => random.shuffle(&mut records),
+    }
+    let spoiled = if random.once_in(2) { 0 } else { random.below(size.min(6) + 1) };
+    for _ in 0..spoiled {
+        let place = random.below(records.len());
+        let (one, other) = (records[place], random.among(&records));
+        records[place] = match (format, random.below(6)) {
+            (6, _) | (_, 0) => Record { first: other.first, ..one },
+            (_, 1) => Record { last: other.last, ..one },
+            _ => Record { first: one.last, last: one.first.wrapping_sub(1), ..one },
+        };
+    }
+    records
+}
+
 /// Often puts something out of order.
 fn disturb(random: &mut Random, records: &mut Vec<Record>) {
     if records.is_empty() {

@@ -60,4 +60,5 @@ entries! {
     KerxPassBy "aat_kerx_pass_by",
     KernRunBy "aat_kern_run_by",
     KerxRunBy "aat_kerx_run_by",
+    Mend "aat_mend",
 }

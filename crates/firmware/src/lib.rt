@@ -26,6 +26,7 @@ mod cursors;
 mod kern_cursors;
 mod kern_steps;
 mod kerns;
+mod mends;
 mod reasons;
 mod runs;
 mod steps;

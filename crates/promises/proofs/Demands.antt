@@ -23,6 +23,8 @@ use Rattle.tables.proofs.Finding.{search-finds, search-finds-pair}
 use Rattle.tables.proofs.ManualLookup.{lookup-as-manual}
 use Rattle.tables.proofs.Reasons.{why-exact, uncovered-exact, lookup-passes-on}
 use Rattle.tables.proofs.Surveys.{survey-sound, survey-complete, survey-bad, survey-exact}
+use Rattle.mend.proofs.Powers.{exponent-exact}
+use Rattle.mend.proofs.Right.{mended-sorted, mended-lookup, mended-numbers, overlap-exact, mend-unchanged}
 use Rattle.state_tables.proofs.Manual.{class-by-lookup, class-drops, class-by-array, entry-as-manual}
 use Rattle.ltag.proofs.Manual.{index-as-manual}
 use Rattle.verbs.proofs.Drawing.{as-drawn}
@@ -43,7 +45,7 @@ use Rattle.kern_machine.proofs.Manual.{list-as-manual}
 use Rattle.kerx.proofs.Cursors as KerxCursor
 use Rattle.kerx.proofs.Manual.{kerx-as-manual, kerx-without-list, kerx-pair-as-manual, kerx-class-as-manual}
 use Rattle.promises.specs.Demand1.{Demand1}
-use Rattle.promises.specs.Demand2.{Lookups, Reasons, StateTables, Verbs, SubtableLists, Chains, Kerning, Choosing, Demand2}
+use Rattle.promises.specs.Demand2.{Lookups, Reasons, Mends, StateTables, Verbs, SubtableLists, Chains, Kerning, Choosing, Demand2}
 use Rattle.promises.specs.Demand3.{Demand3}
 use Rattle.promises.proofs.Known.{known-answers, known-reasons, known-pairs}
 
@@ -100,6 +102,17 @@ reasons =
       contextual-drops = contextual-drops;
       noncontextual-drops = noncontextual-drops;
       pass-drops = pass-drops;
+    }
+
+mends : Mends
+mends =
+    record {
+      mended-sorted = mended-sorted;
+      mended-lookup = mended-lookup;
+      mended-numbers = mended-numbers;
+      overlap-exact = overlap-exact;
+      mend-unchanged = mend-unchanged;
+      exponent-exact = exponent-exact;
     }
 
 state-tables : StateTables
@@ -178,6 +191,7 @@ demand2 =
     record {
       lookups = lookups;
       reasons = reasons;
+      mends = mends;
       state-tables = state-tables;
       verbs = verbs;
       subtable-lists = subtable-lists;

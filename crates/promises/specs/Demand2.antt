@@ -9,6 +9,9 @@ use lib.IntN.{ℤ}
 use lib.ListN.{length, getD, take, drop}
 use Rattle.laws.specs.Choose.{ifLt}
 use Rattle.answers.specs.Limits.{tableLimit, headLimit}
+use Rattle.answers.specs.declared.Answer.the-variants.{Done, Refused}
+use Rattle.answers.specs.declared.Refusal.{Refusal}
+use Rattle.answers.specs.declared.Refusal.the-variants.{Overlap}
 use Rattle.parse.specs.Reads.{u8At, u16At, u32At, readU16}
 use Rattle.parse.specs.declared.ReadU16.the-variants as U16
 use Rattle.parse.specs.declared.ReadU32.the-variants as U32
@@ -28,6 +31,10 @@ use Rattle.tables.specs.declared.lookup.Why.the-variants.{NotCovered, CutShort}
 use Rattle.tables.specs.declared.lookup.Found.the-variants as Found
 use Rattle.tables.specs.declared.survey.Surveyed.{Surveyed}
 use Rattle.tables.specs.declared.survey.Surveyed.the-variants.{Sorted, Bad}
+use Rattle.mend.specs.Table.{exponentOf}
+use Rattle.mend.specs.Mend.{lotOf, mendCall}
+use Rattle.mend.specs.Looks.{plainLook, newTable, AreBytes, Shared, Renumbered, LargestPower}
+use Rattle.mend.specs.declared.head.Lot.the-variants.{Of}
 use Rattle.state_tables.specs.States.{extendedAt, classicAt}
 use Rattle.state_tables.specs.Classes.{classOf}
 use Rattle.state_tables.specs.Manual as StateTable
@@ -149,6 +156,33 @@ pub record Reasons : Type 0 where
   pub pass-drops : (number : (left right : ℕ) → Number) (glyphs : List ℕ) (place : ℕ) (why : Why)
       → number (getD glyphs place 0) (getD glyphs (suc place) 0) ≡ Number.Nothing why
       → pairsBelow everyPlace number glyphs (suc (suc place)) ≡ pairsBelow everyPlace number glyphs (suc place)
+
+-- A mended lookup table.
+pub record Mends : Type 0 where
+  -- the survey of what is written is Sorted
+  pub mended-sorted : (buffer numbers : List ℕ) (size : ℕ) (table : List ℕ) (start : ℕ) → mendCall buffer numbers size table start .answer ≡ Done
+      → surveyAt (newTable (mendCall buffer numbers size table start)) ≡ Sorted
+  -- every glyph finds in it what a plain look from the first record down finds in the old table; it is not covered in one exactly when in the other
+  pub mended-lookup : (buffer numbers : List ℕ) (size : ℕ) (table : List ℕ) (start : ℕ) → AreBytes table → {kind : Kind} {count : ℕ}
+      → lotOf (drop start table) ≡ Of kind count → mendCall buffer numbers size table start .answer ≡ Done → (glyph : ℕ)
+      → lookupAt (newTable (mendCall buffer numbers size table start)) glyph ≡ plainLook (drop start table) kind glyph count 0
+  -- kept records have different numbers below the count of the new table, which has their bytes there; the others have 0xFFFF
+  pub mended-numbers : (buffer numbers : List ℕ) (size : ℕ) (table : List ℕ) (start : ℕ) → AreBytes table → {kind : Kind} {count : ℕ}
+      → lotOf (drop start table) ≡ Of kind count → mendCall buffer numbers size table start .answer ≡ Done
+      → Renumbered (drop start table) (newTable (mendCall buffer numbers size table start)) kind count
+      (u16At (newTable (mendCall buffer numbers size table start)) 4) (mendCall buffer numbers size table start .numbers)
+  -- OVERLAP exactly when two records to be kept share a glyph
+  pub overlap-exact : (buffer numbers : List ℕ) (size : ℕ) (table : List ℕ) (start : ℕ) → length table ≤ tableLimit → {kind : Kind} {count : ℕ}
+      → lotOf (drop start table) ≡ Of kind count
+      → (mendCall buffer numbers size table start .answer ≡ Refused Overlap → Shared (drop start table) kind count)
+      × (Shared (drop start table) kind count → mendCall buffer numbers size table start .answer ≡ Refused Overlap)
+  -- a refusal leaves buffer, numbers and size as they were
+  pub mend-unchanged : (buffer numbers : List ℕ) (size : ℕ) (table : List ℕ) (start : ℕ) {why : Refusal}
+      → mendCall buffer numbers size table start .answer ≡ Refused why
+      → (mendCall buffer numbers size table start .buffer ≡ buffer) × (mendCall buffer numbers size table start .numbers ≡ numbers)
+      × (mendCall buffer numbers size table start .size ≡ size)
+  -- the power of two in the search fields is the largest that is not above the number of records
+  pub exponent-exact : (n : ℕ) → 1 ≤ n → n < 65536 → LargestPower n (exponentOf n)
 
 -- State tables: classes and entries.
 pub record StateTables : Type 0 where
@@ -301,6 +335,7 @@ pub record Choosing : Type 0 where
 pub record Demand2 : Type 0 where
   pub lookups : Lookups
   pub reasons : Reasons
+  pub mends : Mends
   pub state-tables : StateTables
   pub verbs : Verbs
   pub subtable-lists : SubtableLists

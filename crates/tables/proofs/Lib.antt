@@ -4,6 +4,7 @@ mod Pairs
 mod Scanning
 pub mod Surveys
 pub mod Finding
+pub mod Found
 pub mod ManualLookup
 pub mod Reasons
 pub mod Openings
