@@ -4,18 +4,21 @@
    - Every entry gives the number of its answer, an enum aat_answer. Any bytes, numbers and lengths get one, and the work
      ends. A pointer has to point to as many elements as the length behind it says, or the number in brackets; it is never null,
      not even where that is 0. What an entry writes may not overlap anything else that it is lent.
-   - On the answers from AAT_NOTHING to AAT_HEAD, and on AAT_OVERLAP and AAT_SPACE, everything that was lent stays as it was,
-     but for the reason that goes with AAT_NOTHING (enum aat_why). What an entry writes otherwise stands under "Writes"; all
-     else stays as it was on every answer. Nothing is kept between calls.
+   - Every refusal leaves everything that was lent as it was, and so does AAT_NOTHING, but for the reason that goes with it
+     (enum aat_why). What an entry writes otherwise stands under "Writes"; all else stays as it was on every answer. Nothing is
+     kept between calls.
    - table, table_len, start: the bytes of a font table, or of a whole font, and the byte of it where the entry's own table,
      subtable (its head included), state table or list of glyphs begins. Longer than AAT_LONGEST_TABLE is AAT_TABLE. Where a
      whole kern or kerx table is asked for, start 0 is no table, which has no subtables; elsewhere it is a start as any other.
    - glyph 0xFFFF is a deleted glyph. Flags told as uint32_t are set where they are not 0.
-   - Where several of AAT_TABLE to AAT_HEAD, AAT_OVERLAP and AAT_SPACE apply, the answer is the one with the smallest number.
+   - The refusals are tested in this order, and where several apply, the answer is the first: AAT_TABLE, AAT_RECORD_VERSION,
+     AAT_RECORD, AAT_LINE, AAT_PLACE, AAT_STATE, AAT_HEAD, AAT_OVERLAP, AAT_SPACE.
 
    The most work of a call, for a watchdog. A turn is one entry of a state table that is looked at.
-   - A lookup, class or pair looks at 16 records at most, a pair of kerx at 32; aat_survey at 65,535; aat_mend at
-     as many, with two passes over 65,536 glyphs and 128 KiB of its stack for them. aat_language_index compares name with a tag for each 4 bytes of the table at most. LINE is tested by a look at each tag and home.
+   - A lookup, class or pair looks at 16 records at most, a pair of kerx at 32; aat_survey at 65,535; aat_mend at as many, with
+     two passes over 65,536 glyphs and 128 KiB of its stack for them. aat_language_index compares name with a tag for each 4
+     bytes of the table at most. LINE is tested by a look at each tag and home, and so are the bytes of a record; storing and
+     reading a line looks at each place and home once more.
    - A step takes 1 turn, of contextual subtables and ligatures 18 at most.
    - A pass takes 18 turns for each place, and 18 more: 73,746 at most, in AAT_LARGEST_ROOM places. Insertion passes count
      the places of the room, whatever used is. Non-contextual and pair passes look up each place once.
@@ -44,7 +47,7 @@ typedef __SIZE_TYPE__ size_t;
 #endif
 
 /* Rises with every entry or value that is added; what is there stays. */
-#define AAT_VERSION 6
+#define AAT_VERSION 7
 
 #ifdef __cplusplus
 extern "C" {
@@ -54,13 +57,16 @@ enum aat_answer {
     AAT_DONE = 0,    /* all was done, and the lent numbers hold the result */
     AAT_NOTHING = 1, /* nothing was found */
     AAT_TABLE = 2,   /* the table is longer than AAT_LONGEST_TABLE */
-    AAT_LINE = 3,    /* the lent lengths, tags or homes are not a line's, or its room is above AAT_LARGEST_ROOM */
+    AAT_LINE = 3,    /* the lent lengths, tags or homes are not a line's, its room is above AAT_LARGEST_ROOM, or what is lent for
+                        a stored line is too small */
     AAT_PLACE = 4,   /* a window's start is above its end or above used, or a step's index or a place is above used */
     AAT_STATE = 5,   /* the state lent to a step is none that its machine can have on this line */
     AAT_HEAD = 6,    /* the start is past the table, or no state table, or subtable of the kind, can be read there */
     AAT_FULL = 7,    /* the next insertion would make the line longer than its room; what was done before it stays */
     AAT_ENDED = 8,   /* the work broke off, for want of an entry, a list or a slot of the stack; what was done before stays */
     AAT_LIMIT = 9,   /* a run has counted 65,535 heads and there is another; what was done before stays */
+    AAT_RECORD = 11, /* the bytes are no record of a line */
+    AAT_RECORD_VERSION = 12, /* they begin as a record, of another version */
     AAT_OVERLAP = 17, /* two records that a mended table would keep share a glyph */
     AAT_SPACE = 18,  /* what is to be written does not fit where it is lent */
 };
@@ -181,7 +187,9 @@ uint32_t aat_language_index(const uint8_t *table, size_t table_len, size_t start
    tag of the glyph that it belongs to. The line itself is the first places, as many as used says. Their tags are the
    numbers below used, once each; every home is one of them, and there are no more homes than places. A line that is not so,
    slices of different room, or a room above AAT_LARGEST_ROOM is AAT_LINE. From a fresh line on, whatever the entries below
-   do to it, every character belongs to exactly one place, and used is the number of characters and of the glyphs put in. */
+   do to it, every character belongs to exactly one place, and used is the number of characters and of the glyphs put in.
+   From a line that was read on the same holds, where its length stands for the characters: each of them starts at the place
+   of its home. */
 
 /* Starts a line of homes_len characters, whose glyphs stand in the first places already.
    Answers: AAT_DONE, AAT_LINE (slices of different room, a room too large, or more characters than places).
@@ -203,6 +211,28 @@ uint32_t aat_verb(uint16_t *glyphs, size_t glyphs_len, uint16_t *tags, size_t ta
    Writes: glyphs and tags, which move together, inserted ones with the tags from used up; used. */
 uint32_t aat_insert(const uint8_t *table, size_t table_len, size_t start, uint16_t count, uint16_t *glyphs, size_t glyphs_len,
                     uint16_t *tags, size_t tags_len, const uint16_t *homes, size_t homes_len, size_t *used, size_t place);
+
+/* Stored lines
+
+   A record is the bytes of a line for another box: the mark SLN, then 16-bit big-endian numbers: version 1, the length, the
+   number of characters, glyph and tag of each place, the homes. So it has 9 + 4 * length + 2 * characters bytes. Each line has
+   one record, and what is accepted as a record is stored as the same bytes again. */
+
+/* Stores the line as a record at the buffer's start.
+   Answers: AAT_DONE, AAT_LINE (also where the buffer is too small).
+   Writes: buffer, as far as the record goes; size, how many bytes that is. */
+uint32_t aat_store_line(const uint16_t *glyphs, size_t glyphs_len, const uint16_t *tags, size_t tags_len, const uint16_t *homes,
+                        size_t homes_len, size_t used, uint8_t *buffer, size_t buffer_len, size_t *size);
+
+/* Reads the line of a record into the room that is lent; what that holds is not looked at. The record has to be one of a line
+   that aat_store_line takes, of no more than 4,096 places, with no byte over or missing.
+   Answers: AAT_DONE; AAT_TABLE (the record is longer than AAT_LONGEST_TABLE); AAT_RECORD_VERSION (the mark, and a version that is
+   not 1, whatever follows); AAT_RECORD (any other bytes); AAT_LINE (glyphs and tags of different room, above AAT_LARGEST_ROOM or
+   below the line's length, or fewer homes than characters).
+   Writes: glyphs and tags, no further than the line; homes, no further than its characters; used, its length; characters: how
+   many of the homes are the line's, which homes_len has to be in the calls that follow. */
+uint32_t aat_read_line(const uint8_t *record, size_t record_len, uint16_t *glyphs, size_t glyphs_len, uint16_t *tags,
+                       size_t tags_len, uint16_t *homes, size_t homes_len, size_t *used, size_t *characters);
 
 /* Passes: one morx subtable over the whole line
 

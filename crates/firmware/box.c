@@ -62,9 +62,14 @@
       43 kern_run_by           as 23, then choices 4             as 23
       44 kerx_run_by           as 24, then choices 4             as 23
       45 mend                  start 8, buffer, size 8, numbers  answer 4, size 8, buffer, numbers
+      46 store_line            glyphs, tags, homes, used 8,      answer 4, glyphs, tags, homes, size 8, buffer
+                               buffer, size 8
+      47 read_line             glyphs, tags, homes, used 8,      answer 4, glyphs, tags, homes, used 8, characters 8
+                               characters 8
 
    A name or a buffer is its length 4 and the bytes. Glyphs, tags, homes and new numbers of records are each a count 4 and so many
-   numbers 2, the adjustments along the line a count 4 and so many numbers 8; a reply has the bytes or numbers alone.
+   numbers 2, the adjustments along the line a count 4 and so many numbers 8; a reply has the bytes or numbers alone. The record
+   that is read is the table.
 
    Replies are sent when the input runs dry. Exit status 0 when it ends between calls, 1 for anything out of this form. */
 
@@ -513,6 +518,22 @@ static void mend(void) {
     for (size_t i = 0; i < numbers_len; i++) put(numbers[i], 2);
 }
 
+static void store_line(void) {
+    take_line();
+    take_buffer();
+    put_pass(aat_store_line(glyphs.numbers, glyphs.len, tags.numbers, tags.len, homes.numbers, homes.len, used, buffer, buffer_len,
+                            &size));
+    put_buffer();
+}
+
+static void read_line(void) {
+    take_line();
+    size_t characters = take(8);
+    put_growing_pass(aat_read_line(table, table_len, glyphs.numbers, glyphs.len, tags.numbers, tags.len, homes.numbers, homes.len,
+                                   &used, &characters));
+    put(characters, 8);
+}
+
 static void answer(uint8_t call) {
     if (8 <= call && call <= 13) take_pass();
     switch (call) {
@@ -562,6 +583,8 @@ static void answer(uint8_t call) {
     case 43: kern_run_by(); break;
     case 44: kerx_run_by(); break;
     case 45: mend(); break;
+    case 46: store_line(); break;
+    case 47: read_line(); break;
     default: exit(1);
     }
 }

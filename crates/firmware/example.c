@@ -1,5 +1,6 @@
 /* Shapes a line and kerns it: the glyphs 3, 5 and 6 by a morx table, then by a kern table, which sets a 9 closer to the 7 before it.
-   Then puts glyphs behind the 3 by an insertion subtable, once by single steps and once by the pass, which leave the same line.
+   Stores the shaped line as a record, and reads it back. Then puts glyphs behind the 3 by an insertion subtable, once by single
+   steps and once by the pass, which leave the same line.
 
    The tables lie in one block, as in a font file, and each entry is told where its table begins. */
 
@@ -9,7 +10,7 @@
 
 #include "aat.h"
 
-enum { ROOM = 16, CHARACTERS = 3, MORX = 4, KERN = 52, INSERTION = 76 };
+enum { ROOM = 16, CHARACTERS = 3, MORX = 4, KERN = 52, INSERTION = 76, LONGEST_RECORD = 9 + 4 * ROOM + 2 * CHARACTERS };
 
 static const uint8_t font[] = {
     0x00, 0x00, 0x00, 0x00,
@@ -78,6 +79,28 @@ static int is_same(const struct line *one, const struct line *other)
            memcmp(one->tags, other->tags, sizeof one->tags) == 0 && memcmp(one->homes, other->homes, sizeof one->homes) == 0;
 }
 
+/* The record of a line, and the line that it gives back. */
+static void store_and_read(const struct line *line)
+{
+    uint8_t record[LONGEST_RECORD];
+    struct line read = *line;
+    size_t size = 0, byte, characters = 0;
+
+    expect_done(aat_store_line(line->glyphs, ROOM, line->tags, ROOM, line->homes, CHARACTERS, line->used, record, sizeof record, &size),
+                "storing");
+    printf("stored in %u bytes: ", (unsigned)size);
+    for (byte = 0; byte < size; byte++)
+        printf("%02X", record[byte]);
+    printf("\n");
+    memset(read.glyphs, 0, line->used * sizeof *read.glyphs);
+    memset(read.tags, 0, line->used * sizeof *read.tags);
+    memset(read.homes, 0, sizeof read.homes);
+    read.used = 0;
+    expect_done(aat_read_line(record, size, read.glyphs, ROOM, read.tags, ROOM, read.homes, CHARACTERS, &read.used, &characters),
+                "reading");
+    printf("read back %s, with %u characters\n", is_same(line, &read) ? "alike" : "DIFFERENT", (unsigned)characters);
+}
+
 /* The same line by steps and by the pass. */
 static void insert_both_ways(void)
 {
@@ -114,26 +137,29 @@ static void mend_lookup(void)
 
 int main(void)
 {
-    uint16_t glyphs[ROOM] = {3, 5, 6}, tags[ROOM], homes[CHARACTERS];
+    struct line line = {{3, 5, 6}, {0}, {0}, 0};
     int64_t along[ROOM];
-    size_t used = 0, place, character;
+    size_t place, character;
     uint32_t chains_and_subtables = 0, subtables = 0;
 
     for (place = 0; place < ROOM; place++)
         along[place] = 0;
-    expect_done(aat_fresh(glyphs, ROOM, tags, ROOM, homes, CHARACTERS, &used), "fresh line");
-    expect_done(aat_morx_run(font, sizeof font, MORX, 0, glyphs, ROOM, tags, ROOM, homes, CHARACTERS, &used, &chains_and_subtables),
+    expect_done(aat_fresh(line.glyphs, ROOM, line.tags, ROOM, line.homes, CHARACTERS, &line.used), "fresh line");
+    expect_done(aat_morx_run(font, sizeof font, MORX, 0, line.glyphs, ROOM, line.tags, ROOM, line.homes, CHARACTERS, &line.used,
+                             &chains_and_subtables),
                 "morx");
-    expect_done(aat_kern_run(font, sizeof font, KERN, glyphs, ROOM, tags, ROOM, homes, CHARACTERS, used, along, ROOM, &subtables),
+    expect_done(aat_kern_run(font, sizeof font, KERN, line.glyphs, ROOM, line.tags, ROOM, line.homes, CHARACTERS, line.used, along, ROOM,
+                             &subtables),
                 "kern");
 
     printf("heads read: %u in morx, %u in kern\n", (unsigned)chains_and_subtables, (unsigned)subtables);
-    for (place = 0; place < used; place++)
-        printf("place %u: glyph %u, moved by %ld\n", (unsigned)place, glyphs[place], (long)along[place]);
+    for (place = 0; place < line.used; place++)
+        printf("place %u: glyph %u, moved by %ld\n", (unsigned)place, line.glyphs[place], (long)along[place]);
     for (character = 0; character < CHARACTERS; character++)
-        for (place = 0; place < used; place++)
-            if (tags[place] == homes[character])
+        for (place = 0; place < line.used; place++)
+            if (line.tags[place] == line.homes[character])
                 printf("character %u is at place %u\n", (unsigned)character, (unsigned)place);
+    store_and_read(&line);
     insert_both_ways();
     mend_lookup();
     return EXIT_SUCCESS;

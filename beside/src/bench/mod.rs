@@ -7,6 +7,7 @@ mod timed_kerning;
 mod timed_mending;
 mod timed_passes;
 mod timed_shaping;
+mod timed_storing;
 mod timed_text;
 mod timing;
 
@@ -113,6 +114,7 @@ fn groups(random: &mut Random) -> Vec<Group> {
         Group::new("Machines of several states", states),
         timed_shaping::group(random),
         Group::new("Mended lookup tables", timed_mending::subjects(random)),
+        Group::new("Stored lines", timed_storing::subjects(random)),
     ]
 }
 

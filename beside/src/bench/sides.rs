@@ -101,6 +101,30 @@ pub mod ours {
             numbers_len: usize,
             size: *mut usize,
         ) -> u32;
+        fn aat_store_line(
+            glyphs: *const u16,
+            glyphs_len: usize,
+            tags: *const u16,
+            tags_len: usize,
+            homes: *const u16,
+            homes_len: usize,
+            used: usize,
+            buffer: *mut u8,
+            buffer_len: usize,
+            size: *mut usize,
+        ) -> u32;
+        fn aat_read_line(
+            record: *const u8,
+            record_len: usize,
+            glyphs: *mut u16,
+            glyphs_len: usize,
+            tags: *mut u16,
+            tags_len: usize,
+            homes: *mut u16,
+            homes_len: usize,
+            used: *mut u64,
+            characters: *mut usize,
+        ) -> u32;
     }
 
     /// Declares entries that are lent a table, its start and a line, with what they are told before the line and behind it.
@@ -230,6 +254,29 @@ pub mod ours {
         let mut size = 0;
         let answer = unsafe { aat_mend(table.as_ptr(), table.len(), 0, written, length, list, count, &mut size) };
         assert_eq!(answer, 0, "a table that is mended");
+    }
+
+    /// The record of a line.
+    #[inline(always)]
+    pub fn store_line(line: &Line, record: &mut [u8]) {
+        let (glyphs, tags, homes) = (line.glyphs.as_ptr(), line.tags.as_ptr(), line.homes.as_ptr());
+        let (room, characters, used) = (line.glyphs.len(), line.homes.len(), line.length());
+        let (written, length, mut size) = (record.as_mut_ptr(), record.len(), 0);
+        let answer =
+            unsafe { aat_store_line(glyphs, room, tags, room, homes, characters, used, written, length, &mut size) };
+        assert_eq!(answer, 0, "a line that is stored");
+    }
+
+    /// The line of a record.
+    #[inline(always)]
+    pub fn read_line(record: &[u8], line: &mut Line) {
+        let (glyphs, tags, homes) = (line.glyphs.as_mut_ptr(), line.tags.as_mut_ptr(), line.homes.as_mut_ptr());
+        let (room, characters) = (line.glyphs.len(), line.homes.len());
+        let (read, length, mut count) = (record.as_ptr(), record.len(), 0);
+        let used = &mut line.used;
+        let answer =
+            unsafe { aat_read_line(read, length, glyphs, room, tags, room, homes, characters, used, &mut count) };
+        assert_eq!(answer, 0, "a record that is read");
     }
 
     /// A kerning pass by the subtable that the table begins with.

@@ -16,6 +16,7 @@ pub mod passes;
 pub mod reasons;
 pub mod runs;
 pub mod steps;
+pub mod stored;
 pub mod value;
 pub mod verbs;
 
@@ -128,6 +129,7 @@ pub static PARTS: &[&dyn Part] = &[
     &kerning_choices::ByChoices(Kern),
     &kerning_choices::ByChoices(Kerx),
     &mended::MendedTables,
+    &stored::StoredLines,
 ];
 
 /// The part that an entry belongs to.

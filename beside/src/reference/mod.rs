@@ -20,5 +20,6 @@ pub mod run;
 pub mod shaper;
 pub mod step;
 pub mod steps_by_copy;
+pub mod stored;
 pub mod survey;
 pub mod trace;

@@ -38,6 +38,8 @@ pub enum Answer<T> {
     Full,
     Ended,
     Limit,
+    Record,
+    Version,
     Overlap,
     Space,
 }
@@ -61,6 +63,8 @@ impl<T: Copy> Answer<T> {
             Answer::Full => 7,
             Answer::Ended => 8,
             Answer::Limit => 9,
+            Answer::Record => 11,
+            Answer::Version => 12,
             Answer::Overlap => 17,
             Answer::Space => 18,
         }
@@ -79,6 +83,8 @@ impl<T: Copy> Answer<T> {
             Answer::Full => Answer::Full,
             Answer::Ended => Answer::Ended,
             Answer::Limit => Answer::Limit,
+            Answer::Record => Answer::Record,
+            Answer::Version => Answer::Version,
             Answer::Overlap => Answer::Overlap,
             Answer::Space => Answer::Space,
         }

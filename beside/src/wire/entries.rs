@@ -61,4 +61,6 @@ entries! {
     KernRunBy "aat_kern_run_by",
     KerxRunBy "aat_kerx_run_by",
     Mend "aat_mend",
+    StoreLine "aat_store_line",
+    ReadLine "aat_read_line",
 }

@@ -28,6 +28,7 @@ mod kern_steps;
 mod kerns;
 mod mends;
 mod reasons;
+mod records;
 mod runs;
 mod steps;
 

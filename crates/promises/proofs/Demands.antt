@@ -14,6 +14,12 @@ use Rattle.ligature.proofs.EntryTurns.{entry-turns}
 use Rattle.insertion.proofs.Turns.{insertion-turns}
 use Rattle.kerning_machine.proofs.Turns.{kerning-turns}
 use Rattle.morx.proofs.Heads.{heads-counted}
+use Rattle.stored.specs.Entries.{newestVersion}
+use Rattle.stored.specs.Reading.{readLine}
+use Rattle.stored.proofs.Written.{record-size}
+use Rattle.stored.proofs.Exact.{accepted-exact, read-valid}
+use Rattle.stored.proofs.Records.{read-record, record-read}
+use Rattle.stored.proofs.Known.{known-records}
 use Rattle.morx.proofs.Demand3.{fresh-demand3, calls-honest}
 use Rattle.morx.proofs.Demand3 as Calls
 use Rattle.morx.proofs.Memory.{in-memory}
@@ -46,7 +52,7 @@ use Rattle.kerx.proofs.Cursors as KerxCursor
 use Rattle.kerx.proofs.Manual.{kerx-as-manual, kerx-without-list, kerx-pair-as-manual, kerx-class-as-manual}
 use Rattle.promises.specs.Demand1.{Demand1}
 use Rattle.promises.specs.Demand2.{Lookups, Reasons, Mends, StateTables, Verbs, SubtableLists, Chains, Kerning, Choosing, Demand2}
-use Rattle.promises.specs.Demand3.{Demand3}
+use Rattle.promises.specs.Demand3.{Stored, Demand3}
 use Rattle.promises.proofs.Known.{known-answers, known-reasons, known-pairs}
 
 pub demand1 : Demand1
@@ -205,15 +211,29 @@ demand2 =
       known-answers = known-answers;
     }
 
+stored : Stored
+stored =
+    record {
+      read-record = read-record;
+      record-read = λ bytes small ok glyphs tags. record-read bytes small ok glyphs tags;
+      accepted-exact = accepted-exact;
+      record-size = record-size;
+      read-valid = read-valid;
+      known-records = known-records;
+    }
+
 pub demand3 : Demand3
 demand3 =
     record {
       fresh-demand3 = fresh-demand3;
       demand3 = Calls.demand3;
+      read-demand3 = λ bytes glyphs tags homes p calls.
+          Calls.demand3 calls (readLine bytes glyphs tags) (read-valid newestVersion bytes glyphs tags homes p);
       fresh-valid = fresh-valid;
       fresh-starts = fresh-starts;
       calls-honest = calls-honest;
       in-memory = in-memory;
       over-changes = over-changes;
       known-edits = Edits.known;
+      stored = stored;
     }

@@ -1,18 +1,43 @@
--- Demand 3: from a fresh line, through any sequence of substitution passes, every typed character belongs to exactly one place, the one that the
+-- Demand 3: from a fresh line, or one that was read, through any sequence of substitution passes, every typed character belongs to exactly one place, the one that the
 -- history of edits gives; the length is the characters typed plus the glyphs inserted, and never exceeds the room.
 use Prim.Native.Nat.{ℕ, _<_}
 use mathlib.Core.Path.{_≡_}
-use mathlib.Core.List.{List, map}
-use lib.ListN.{length}
+use mathlib.Core.List.{List, [], map, _++_}
+use lib.ListN.{length, take, drop}
 use Rattle.answers.specs.Refuse.{refuse}
 use Rattle.answers.specs.declared.Check.the-variants.{Passed}
-use Rattle.line.specs.Line.{Line, Valid, Belongs}
+use Rattle.line.specs.Line.{Line, Valid, Belongs, lineOf}
 use Rattle.line.specs.Changes.{Change, applyAll, historyOf}
 use Rattle.line.specs.Entries.{freshOf, freshTests}
 use Rattle.line.specs.History.{FromLine, FromFresh, Fits, Honest, leftBy, historyBy}
 use Rattle.line.specs.Known as Known
+use Rattle.stored.specs.Record.{recordOf, sizeOf}
+use Rattle.stored.specs.Reading.{AreBytes, readLine, Accepted}
+use Rattle.stored.specs.Entries.{newestVersion, recordTests, readTests}
+use Rattle.stored.specs.Known as Records
 use Rattle.morx.specs.Sequence.{Call, leaves, makes}
 use Rattle.morx.specs.Memory.{inMemory}
+
+-- Stored lines: each legal line has one record, and what is accepted as a record writes back to the same bytes
+pub record Stored : Type 0 where
+  -- the record of a legal line is accepted, and gives that line back in any room
+  pub read-record : (l : Line) → Valid l → (glyphs tags : List ℕ)
+      → Accepted newestVersion (recordOf l)
+      × (readLine (recordOf l) glyphs tags
+      ≡ lineOf (take (l .used) (l .glyphs) ++ drop (l .used) glyphs) (take (l .used) (l .tags) ++ drop (l .used) tags) (l .homes) (l .used))
+  -- bytes that a box accepts, whatever its newest version, are the record of the line that they give, in any room
+  pub record-read : (bytes : List ℕ) → AreBytes bytes → {newest : ℕ} → Accepted newest bytes → (glyphs tags : List ℕ)
+      → recordOf (readLine bytes glyphs tags) ≡ bytes
+  -- none of TABLE, VERSION and RECORD is given exactly when the bytes are those that are to be accepted
+  pub accepted-exact : (newest : ℕ) (bytes : List ℕ)
+      → (refuse (recordTests newest bytes []) ≡ Passed → Accepted newest bytes) × (Accepted newest bytes → refuse (recordTests newest bytes []) ≡ Passed)
+  -- how many bytes a record has
+  pub record-size : (glyphs tags homes : List ℕ) (used : ℕ) → length (recordOf (lineOf glyphs tags homes used)) ≡ sizeOf used (length homes)
+  -- a line that was read is valid
+  pub read-valid : (newest : ℕ) (bytes glyphs tags homes : List ℕ) → refuse (readTests newest bytes glyphs tags homes) ≡ Passed
+      → Valid (readLine bytes glyphs tags)
+  -- known records by computation: of document 01's shaped example, and of an empty line
+  pub known-records : (recordOf Records.shaped ≡ Records.shapedRecord) × (recordOf Records.empty ≡ Records.emptyRecord)
 
 pub record Demand3 : Type 0 where
   -- Demand 3 itself: from a fresh line, over any sequence of lone verbs, passes of every kind, steps that write the line and whole runs, refused
@@ -22,6 +47,10 @@ pub record Demand3 : Type 0 where
       (historyBy leaves makes calls (freshOf glyphs tags homes)) (leftBy leaves makes calls (freshOf glyphs tags homes))
   -- the same from any valid line, each character starting where it is found
   pub demand3 : (calls : List Call) (l : Line) → Valid l → FromLine l (historyBy leaves makes calls l) (leftBy leaves makes calls l)
+  -- from a line just read, in any room: its homes are the start of the history, and its length stands for the characters typed
+  pub read-demand3 : (bytes glyphs tags homes : List ℕ) → refuse (readTests newestVersion bytes glyphs tags homes) ≡ Passed → (calls : List Call)
+      → FromLine (readLine bytes glyphs tags)
+      (historyBy leaves makes calls (readLine bytes glyphs tags)) (leftBy leaves makes calls (readLine bytes glyphs tags))
   -- a line that is taken as fresh is valid
   pub fresh-valid : (glyphs tags homes : List ℕ) → refuse (freshTests glyphs tags homes) ≡ Passed → Valid (freshOf glyphs tags homes)
   -- and each of its characters starts at its own place
@@ -35,3 +64,5 @@ pub record Demand3 : Type 0 where
   pub over-changes : (changes : List Change) (l : Line) → Valid l → Fits changes l → FromLine l (historyOf changes) (applyAll changes l)
   -- known cases by computation: a place pushed twice, a component twice, the ligature's own place among its components, and places off the line
   pub known-edits : map Known.computed Known.cases ≡ map Known.said Known.cases
+  -- stored lines
+  pub stored : Stored

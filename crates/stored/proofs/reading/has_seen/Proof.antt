@@ -1,0 +1,29 @@
+use Rattle.line.proofs.Room.{word-inside}
+use Rattle.line.specs.Seen.{hasSeen}
+use borrow.Author.Needs.{needs}
+use Rattle.stored.proofs.reading.has_seen.Statement.{statement}
+use Rattle.stored.proofs.reading.has_seen.Tie as tie
+
+cast-result : tie.Need-cast-result
+cast-result c = search needs
+
+mul-result : tie.Need-mul-result
+mul-result c = search needs
+
+element-copy-out-result : tie.Need-element-copy-out-result
+element-copy-out-result c = word-inside _ (c .pre)
+
+cast-result-2 : tie.Need-cast-result-2
+cast-result-2 c = search needs
+
+shr-result : tie.Need-shr-result
+shr-result c = search needs
+
+returns : tie.Need-returns
+unfolding hasSeen
+returns c = search needs
+
+pub has-seen-spec : {M : Type 1} → statement M
+has-seen-spec =
+    tie.close
+    (tie.spec cast-result mul-result element-copy-out-result cast-result-2 shr-result returns)

@@ -1,0 +1,20 @@
+-- Known records: of the line that document 01's shaped example leaves, and of an empty line.
+use Prim.Native.Nat.{ℕ}
+use mathlib.Core.List.{List, [], _∷_}
+use Rattle.line.specs.Line.{Line, lineOf}
+
+abbrev pub shaped : Line
+shaped = lineOf (7 ∷ 9 ∷ 20 ∷ []) (0 ∷ 1 ∷ 2 ∷ []) (0 ∷ 1 ∷ 2 ∷ []) 3
+
+abbrev pub shapedRecord : List ℕ
+shapedRecord =
+    0x53 ∷ 0x4C ∷ 0x4E ∷ 0x00 ∷ 0x01 ∷ 0x00 ∷ 0x03 ∷ 0x00 ∷ 0x03
+    ∷ 0x00 ∷ 0x07 ∷ 0x00 ∷ 0x00 ∷ 0x00 ∷ 0x09 ∷ 0x00 ∷ 0x01 ∷ 0x00 ∷ 0x14 ∷ 0x00 ∷ 0x02
+    ∷ 0x00 ∷ 0x00 ∷ 0x00 ∷ 0x01 ∷ 0x00 ∷ 0x02
+    ∷ []
+
+abbrev pub empty : Line
+empty = lineOf [] [] [] 0
+
+abbrev pub emptyRecord : List ℕ
+emptyRecord = 0x53 ∷ 0x4C ∷ 0x4E ∷ 0x00 ∷ 0x01 ∷ 0x00 ∷ 0x00 ∷ 0x00 ∷ 0x00 ∷ []
