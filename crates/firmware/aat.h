@@ -20,7 +20,7 @@
      bytes of the table at most. LINE is tested by a look at each tag and home, and so are the bytes of a record; storing and
      reading a line looks at each place and home once more.
    - A step takes 1 turn, of contextual subtables and ligatures 18 at most.
-   - A pass takes 18 turns for each place, and 18 more: 73,746 at most, in AAT_LARGEST_ROOM places. Insertion passes count
+   - A pass takes 18 turns for each place, and 18 more: 589,842 at most, in AAT_LARGEST_ROOM places. Insertion passes count
      the places of the room, whatever used is. Non-contextual and pair passes look up each place once.
    - A run makes AAT_MOST_HEADS passes at most, by a table of any length: a subtable of size 0 is visited again and again, so
      that 400 bytes can ask for 65,534 passes, and for hours.
@@ -47,7 +47,7 @@ typedef __SIZE_TYPE__ size_t;
 #endif
 
 /* Rises with every entry or value that is added; what is there stays. */
-#define AAT_VERSION 7
+#define AAT_VERSION 8
 
 #ifdef __cplusplus
 extern "C" {
@@ -86,7 +86,7 @@ enum aat_why {
     AAT_UNKNOWN_FORMAT = 3, /* the lookup table's format is none of the six: 0, 2, 4, 6, 8, 10 */
 };
 
-enum { AAT_LONGEST_TABLE = 16777216, AAT_LARGEST_ROOM = 4096, AAT_MOST_HEADS = 65535, AAT_DELETED = 0xFFFF };
+enum { AAT_LONGEST_TABLE = 16777216, AAT_LARGEST_ROOM = 32768, AAT_MOST_HEADS = 65535, AAT_DELETED = 0xFFFF };
 
 /* How many numbers each state, cursor and row of fields has, and which number is which. */
 enum aat_sizes {
@@ -214,9 +214,10 @@ uint32_t aat_insert(const uint8_t *table, size_t table_len, size_t start, uint16
 
 /* Stored lines
 
-   A record is the bytes of a line for another box: the mark SLN, then 16-bit big-endian numbers: version 1, the length, the
-   number of characters, glyph and tag of each place, the homes. So it has 9 + 4 * length + 2 * characters bytes. Each line has
-   one record, and what is accepted as a record is stored as the same bytes again. */
+   A record is the bytes of a line for another box: the mark SLN, then 16-bit big-endian numbers: the version, the length,
+   the number of characters, glyph and tag of each place, the homes. So it has 9 + 4 * length + 2 * characters bytes. A line of
+   up to 4,096 places has version 1, a longer one version 2, which boxes with an AAT_VERSION below 6 don't know. Each line has one
+   record, and what is accepted as a record is stored as the same bytes again. */
 
 /* Stores the line as a record at the buffer's start.
    Answers: AAT_DONE, AAT_LINE (also where the buffer is too small).
@@ -225,9 +226,9 @@ uint32_t aat_store_line(const uint16_t *glyphs, size_t glyphs_len, const uint16_
                         size_t homes_len, size_t used, uint8_t *buffer, size_t buffer_len, size_t *size);
 
 /* Reads the line of a record into the room that is lent; what that holds is not looked at. The record has to be one of a line
-   that aat_store_line takes, of no more than 4,096 places, with no byte over or missing.
+   that aat_store_line takes, in the version of its length, with no byte over or missing.
    Answers: AAT_DONE; AAT_TABLE (the record is longer than AAT_LONGEST_TABLE); AAT_RECORD_VERSION (the mark, and a version that is
-   not 1, whatever follows); AAT_RECORD (any other bytes); AAT_LINE (glyphs and tags of different room, above AAT_LARGEST_ROOM or
+   neither 1 nor 2, whatever follows); AAT_RECORD (any other bytes); AAT_LINE (glyphs and tags of different room, above AAT_LARGEST_ROOM or
    below the line's length, or fewer homes than characters).
    Writes: glyphs and tags, no further than the line; homes, no further than its characters; used, its length; characters: how
    many of the homes are the line's, which homes_len has to be in the calls that follow. */

@@ -15,6 +15,7 @@ use crate::bench::sides::{ours, theirs};
 use crate::bench::timing::{Group, Subject, TABLE_HEAD, TURNS};
 use crate::reference::line::{Line, LARGEST_ROOM};
 use crate::reference::rearrange::rearrange;
+use crate::reference::shaper::SHAPER_ROOM;
 use crate::tables::language::with_tags;
 use crate::tables::lookup::{record_size, with_records, words, Record};
 use crate::tables::random::Random;
@@ -96,11 +97,14 @@ fn groups(random: &mut Random) -> Vec<Group> {
     looked_up.extend(searches(random));
     looked_up.extend(classes(random));
     looked_up.push(languages(random));
-    let mut verbs: Vec<Subject> = [1, 3, 5, 6, 13].into_iter().map(|verb| one_verb(random, verb)).collect();
+    let mut verbs: Vec<Subject> = Vec::new();
+    for length in LONG_LENGTHS {
+        verbs.extend([1, 3, 5, 6, 13].map(|verb| one_verb(random, verb, length)));
+    }
     let passes = timed_passes::passes(random);
     let runs = timed_passes::runs(random);
     let kerning = timed_kerning::subjects(random);
-    verbs.push(line_test(random));
+    verbs.extend(LONG_LENGTHS.map(|length| line_test(random, length)));
     let [searches, lines, states] =
         [timed_text::searches, timed_text::lines, timed_text::states].map(|made| made(random));
     vec![
@@ -108,6 +112,7 @@ fn groups(random: &mut Random) -> Vec<Group> {
         Group::new("Verbs", verbs),
         Group::new("Passes of morx", passes),
         Group::new("Runs of morx", runs),
+        Group::new("Ligatures in long lines", timed_passes::long_ligatures()),
         Group::new("Passes and runs of kern and kerx", kerning),
         Group::new("Passes by class tables that are searched, over one line", searches),
         Group::new("Passes over lines that differ", lines),
@@ -183,23 +188,29 @@ fn languages(random: &mut Random) -> Subject {
 }
 
 /// A verb on the whole line.
-fn one_verb(random: &mut Random, verb: u16) -> Subject {
-    let rearrange = rearrange(verb, 0, LARGEST_ROOM - 1).expect("a verb that moves something");
+fn one_verb(random: &mut Random, verb: u16, length: usize) -> Subject {
+    let rearrange = rearrange(verb, 0, length - 1).expect("a verb that moves something");
     let ours = move |line: &mut Line| ours::verb(line, verb);
     let theirs = move |line: &mut Line| theirs::verb(line, &rearrange);
-    let line = Line::any(random, LARGEST_ROOM, LARGEST_ROOM, 65_536);
-    Subject::of_work(format!("verb {}, 4,096 places", verb), VERBS, line, false, ours, theirs)
+    let line = Line::any(random, length, length, 65_536);
+    Subject::of_work(format!("verb {}, {} places", verb, grouped(length)), VERBS, line, false, ours, theirs)
 }
 
 /// Verb 0, which tests the line and moves nothing; the crate has nothing like it.
-fn line_test(random: &mut Random) -> Subject {
-    let line = Line::any(random, LARGEST_ROOM, LARGEST_ROOM, 65_536);
-    let name = "the test of a line (verb 0), 4,096 places".into();
+fn line_test(random: &mut Random, length: usize) -> Subject {
+    let line = Line::any(random, length, length, 65_536);
+    let name = format!("the test of a line (verb 0), {} places", grouped(length));
     Subject::of_ours(name, VERBS, line, |line| ours::verb(line, 0))
 }
 
 /// The lengths of lines that passes and runs go over.
-pub const LENGTHS: [usize; 5] = [16, 64, 256, 1_024, LARGEST_ROOM];
+pub const LENGTHS: [usize; 7] = [16, 64, 256, 1_024, SHAPER_ROOM, CRAWL, LARGEST_ROOM];
+
+/// The longest of them.
+pub const LONG_LENGTHS: [usize; 3] = [SHAPER_ROOM, CRAWL, LARGEST_ROOM];
+
+/// As long as a news crawl gets.
+const CRAWL: usize = 20_000;
 
 /// How many calls on lines of this length make a turn.
 pub fn calls_on(length: usize) -> usize {

@@ -2,9 +2,10 @@
 
 use crate::bench::sides::{ours, theirs};
 use crate::bench::timing::Subject;
-use crate::bench::{calls_on, grouped, LENGTHS};
+use crate::bench::{calls_on, grouped, LENGTHS, LONG_LENGTHS};
 use crate::reference::line::Line;
 use crate::reference::pass::line_of;
+use crate::tables::ligature::{most_scans, pairs};
 use crate::tables::lookup::{with_values, words};
 use crate::tables::morx::{chain, in_chain, machine, morx, subtable};
 use crate::tables::random::Random;
@@ -34,6 +35,30 @@ pub fn runs(random: &mut Random) -> Vec<Subject> {
         subjects.push(run(random, name, &table, 256));
     }
     subjects
+}
+
+/// Lines in which every second glyph is the component of a ligature, and lines by the subtable that asks for most.
+pub fn long_ligatures() -> Vec<Subject> {
+    let mut subjects = Vec::new();
+    for length in LONG_LENGTHS {
+        let name = format!("ligature, every second glyph a component, {} places", grouped(length));
+        let glyphs: Vec<u16> = [10, 11].into_iter().cycle().take(length).collect();
+        subjects.push(ligatures(name, &pairs(), &glyphs));
+    }
+    for length in [256, 1_024].into_iter().chain(LONG_LENGTHS) {
+        let name = format!("ligatures, 18 with 8 components each at each place, {} places", grouped(length));
+        let subject = ligatures(name, &most_scans(), &vec![10; length]);
+        subjects.push(if length < 1_000 { subject } else { subject.once() });
+    }
+    subjects
+}
+
+fn ligatures(name: String, body: &[u8], glyphs: &[u16]) -> Subject {
+    let our_table = subtable(2, body);
+    let their_table = in_chain(&our_table);
+    let ours = move |line: &mut Line| ours::pass(Entry::LigaturePass, line, &our_table);
+    let theirs = move |line: &mut Line| theirs::pass(line, &their_table);
+    Subject::of_work(name, 1, line_of(glyphs, glyphs.len()), true, ours, theirs)
 }
 
 /// A pass whose times are asked for.

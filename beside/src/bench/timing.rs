@@ -10,6 +10,7 @@ pub struct Subject {
     calls: usize,
     ours: Turn,
     theirs: Option<Turn>,
+    turns: usize,
 }
 
 /// Subjects under a heading, and what is to be said of them.
@@ -52,7 +53,7 @@ impl Subject {
         let calls = items.len();
         let asked = Rc::new((table, items));
         let [ours, theirs] = [turn(asked.clone(), ours), turn(asked, theirs)];
-        Subject { name, places: 1, calls, ours, theirs: Some(theirs) }
+        Subject { name, places: 1, calls, ours, theirs: Some(theirs), turns: TURNS }
     }
 
     /// So many calls on one line, again and again, or each on a fresh copy of it; both sides begin with the same line.
@@ -69,7 +70,7 @@ impl Subject {
         }
         let places = first.places();
         let [ours, theirs] = [turn_on(calls, first.clone(), ours), turn_on(calls, first, theirs)];
-        Subject { name, places, calls, ours, theirs: Some(theirs) }
+        Subject { name, places, calls, ours, theirs: Some(theirs), turns: TURNS }
     }
 
     /// So many calls, each on a fresh copy of the next of these lines, which both sides have to copy.
@@ -83,7 +84,7 @@ impl Subject {
         let places = lines[0].places();
         let lines = Rc::new(lines);
         let [ours, theirs] = [turn_over(calls, lines.clone(), ours), turn_over(calls, lines, theirs)];
-        Subject { name, places, calls, ours, theirs: Some(theirs) }
+        Subject { name, places, calls, ours, theirs: Some(theirs), turns: TURNS }
     }
 
     /// So many calls in each turn of either side, each over so many places.
@@ -94,12 +95,18 @@ impl Subject {
         ours: impl FnMut() + 'static,
         theirs: impl FnMut() + 'static,
     ) -> Self {
-        Subject { name, places, calls, ours: summed(ours), theirs: Some(summed(theirs)) }
+        Subject { name, places, calls, ours: summed(ours), theirs: Some(summed(theirs)), turns: TURNS }
     }
 
     /// So many calls that the crate has no counterpart of, on one line, again and again.
     pub fn of_ours<T: Worked>(name: String, calls: usize, line: T, ours: impl Fn(&mut T) + 'static) -> Self {
-        Subject { name, places: line.places(), calls, ours: turn_on(calls, line, ours), theirs: None }
+        Subject { name, places: line.places(), calls, ours: turn_on(calls, line, ours), theirs: None, turns: TURNS }
+    }
+
+    /// The same in one turn, as it takes long.
+    pub fn once(mut self) -> Self {
+        self.turns = 1;
+        self
     }
 
     /// Takes few turns and more of them, ours and then theirs, for a tool that counts instructions; and gives the places that
@@ -114,7 +121,7 @@ impl Subject {
     /// How long the sides take.
     pub fn measured(mut self) -> Figure {
         let mut turns = Vec::new();
-        for _ in 0..TURNS {
+        for _ in 0..self.turns {
             let ours = time(&mut self.ours, self.calls);
             turns.push((ours, self.theirs.as_mut().map(|theirs| time(theirs, self.calls))));
         }

@@ -5,11 +5,10 @@
 //! used tags and the homes. A refusal has 0 for all but the answer.
 
 use crate::compare::sample::Sample;
-use crate::reference::line::LARGEST_ROOM;
 use crate::reference::oracle::Answer;
 use crate::reference::pass::line_of;
 use crate::reference::run::MOST_HEADS;
-use crate::reference::shaper::{input_of, shaped, Shaped, SHAPER_TABLE};
+use crate::reference::shaper::{input_of, shaped, Shaped, SHAPER_ROOM, SHAPER_TABLE};
 use crate::tables::kinds::KINDS;
 use crate::tables::lines::any_glyphs;
 use crate::tables::lookup::words;
@@ -28,7 +27,7 @@ const RANDOM_TABLES: usize = 60;
 
 /// Adds every input to the sample.
 pub fn add_all(sample: &mut Sample, random: &mut Random) {
-    let example = Shaped { answer: Answer::Done(()), heads: 2, line: line_of(&[7, 9, 20], LARGEST_ROOM) };
+    let example = Shaped { answer: Answer::Done(()), heads: 2, line: line_of(&[7, 9, 20], SHAPER_ROOM) };
     add_written(sample, EXAMPLE, &example);
     tables_refused(sample);
     lines_refused(sample);
@@ -58,12 +57,12 @@ fn lines_refused(sample: &mut Sample) {
     add_refused(sample, &[EXAMPLE, &[0]].concat(), Answer::Line);
     add_refused(sample, &[EXAMPLE, &[0, 5]].concat(), Answer::Line);
     add_refused(sample, &[&(SHAPER_TABLE as u32).to_be_bytes(), &EXAMPLE[4..]].concat(), Answer::Line);
-    add_refused(sample, &input_of(&[], &[5; LARGEST_ROOM + 1]), Answer::Line);
+    add_refused(sample, &input_of(&[], &[5; SHAPER_ROOM + 1]), Answer::Line);
 }
 
 /// Insertions into a room that has no place left, and by a subtable that comes again and again, with the line turned round.
 fn full_rooms(sample: &mut Sample) {
-    add_ending(sample, &input_with(&[puts_in(0)], &[10; LARGEST_ROOM]), Answer::Full);
+    add_ending(sample, &input_with(&[puts_in(0)], &[10; SHAPER_ROOM]), Answer::Full);
     add_ending(sample, &input_again(&puts_in(TURNED), u32::MAX, &[10, 5, 6]), Answer::Full);
 }
 

@@ -10,6 +10,7 @@ use crate::reference::kerning_choices::Choices;
 use crate::reference::line::{Line, LARGEST_ROOM};
 use crate::reference::oracle::{self, Fault, LONGEST_TABLE};
 use crate::reference::pass::line_of;
+use crate::reference::shaper::SHAPER_ROOM;
 use crate::reference::{kerning_run, run};
 use crate::wire::along::along_of;
 use crate::wire::entries::Entry;
@@ -231,10 +232,11 @@ impl Tables {
     }
 }
 
-/// A line in the largest room; in one that is refused where it is longer, with as many of its glyphs as that takes.
+/// A line in the shaper's room, or in no more than it needs where it is longer; in one that is refused where it is too long, with as
+/// many of its glyphs as that takes.
 fn lent_line(glyphs: &[u16]) -> Line {
     let glyphs = &glyphs[..glyphs.len().min(LARGEST_ROOM + 1)];
-    line_of(glyphs, glyphs.len().max(LARGEST_ROOM))
+    line_of(glyphs, glyphs.len().max(SHAPER_ROOM))
 }
 
 fn unkerned(line: &Line) -> Kerned {

@@ -97,7 +97,7 @@ impl Wish {
 }
 
 /// The longest line that is taken, which is longer than the largest room.
-const LONGEST: usize = 10_000;
+const LONGEST: usize = 40_000;
 
 /// A line of glyphs by their numbers; one that comes more than once in a row can be written with its count, as 5*7.
 pub fn glyphs_of(words: &[&str]) -> Result<Vec<u16>, String> {

@@ -15,7 +15,7 @@ use crate::reference::pass::line_of;
 use crate::tables::kerning::editions;
 use crate::tables::kerning::{any_body, any_subtable, formats, Edition};
 use crate::tables::kerning_examples::{documented, pushes, runs_on_past_its_end, small_bodies, Documented};
-use crate::tables::lines::any_glyphs;
+use crate::tables::lines::{any_glyphs, for_each_length};
 use crate::tables::random::Random;
 use crate::wire::entries::Entry;
 use std::rc::Rc;
@@ -289,24 +289,16 @@ fn refused_lines(asked: &mut dyn Ask, kerning: Kerning) {
     let Documented { edition, table, start, .. } = any_example(kerning);
     let none: Rc<[u8]> = Rc::from(&table[..start + 2]);
     let table = Rc::from(table);
-    let numbers = |count: usize| (0..count as u16).collect::<Vec<u16>>();
-    let lengths = [0, 1, 3, LARGEST_ROOM, LARGEST_ROOM + 1];
-    for glyphs in lengths {
-        for tags in lengths {
-            for along in lengths {
-                for homes in [0, 1, 4] {
-                    for used in [0, 1, 3, glyphs as u64 + 1, u64::MAX] {
-                        let line = Line { glyphs: vec![5; glyphs], tags: numbers(tags), homes: numbers(homes), used };
-                        let lent = Kerned { line, along: vec![0; along] };
-                        ask_pass(asked, edition, &table, start, &lent);
-                        if glyphs < 4 {
-                            ask_pass(asked, edition, &none, start, &lent);
-                        }
-                    }
-                }
+    for_each_length(5, &mut |line| {
+        let room = line.glyphs.len();
+        for along in [room, room + 1, room.saturating_sub(1)] {
+            let lent = Kerned { line: line.clone(), along: vec![0; along] };
+            ask_pass(asked, edition, &table, start, &lent);
+            if room < 4 {
+                ask_pass(asked, edition, &none, start, &lent);
             }
         }
-    }
+    });
 }
 
 fn long_tables(asked: &mut dyn Ask, kerning: Kerning) {
@@ -321,8 +313,16 @@ fn long_tables(asked: &mut dyn Ask, kerning: Kerning) {
     }
 }
 
-/// Lines that fill the largest room, and almost.
+/// Lines that fill the largest room, and almost: any, and those of the documents' tables at the end of others.
 fn long_lines(asked: &mut dyn Ask, kerning: Kerning, random: &mut Random) {
+    for example in documented().into_iter().filter(|example| example.edition.kerning == kerning) {
+        let Documented { edition, table, start, line, .. } = example;
+        let table = Rc::from(table);
+        for used in [LARGEST_ROOM - 1, LARGEST_ROOM] {
+            let glyphs = [vec![99; used - line.len()], line.clone()].concat();
+            ask_pass(asked, edition, &table, start, &Kerned::of(line_of(&glyphs, LARGEST_ROOM)));
+        }
+    }
     for edition in editions(kerning) {
         for format in formats(kerning) {
             let glyphs = any_glyphs(random);

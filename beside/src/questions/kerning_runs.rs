@@ -10,13 +10,14 @@ use crate::reference::kerning::{Kerned, Kerning, ALONE_AT};
 use crate::reference::kerning_choices::Choices;
 use crate::reference::kerning_run::Run;
 use crate::reference::kerning_trace::describe_run;
-use crate::reference::line::{Line, LARGEST_ROOM};
+use crate::reference::line::Line;
 use crate::reference::oracle::{Answer, Fault, LONGEST_TABLE};
 use crate::reference::pass::line_of;
 use crate::reference::run::MOST_HEADS;
 use crate::tables::kerning::editions;
 use crate::tables::kerning::{any_body, formats, Edition};
 use crate::tables::kerning_examples::{documented, Documented};
+use crate::tables::lines::for_each_length;
 use crate::tables::lookup::damage;
 use crate::tables::random::Random;
 use crate::tables::strings::for_each_string;
@@ -227,28 +228,17 @@ fn far_starts(asked: &mut dyn Ask, kerning: Kerning) {
 fn refused_lines(asked: &mut dyn Ask, kerning: Kerning) {
     let random = &mut Random::new(8);
     let table = behind_others(some_table(random, editions(kerning)[0]));
-    let numbers = |count: usize| (0..count as u16).collect::<Vec<u16>>();
-    let lengths = [0, 3, LARGEST_ROOM, LARGEST_ROOM + 1];
-    for glyphs in lengths {
-        for tags in lengths {
-            for along in lengths {
-                for homes in [0, 1, 4] {
-                    for used in [0, 1, 3, glyphs as u64 + 1, u64::MAX] {
-                        let line = Line { glyphs: vec![10; glyphs], tags: numbers(tags), homes: numbers(homes), used };
-                        let along = (0..along).map(|_| random.number() as i64).collect();
-                        let lent = Kerned { line, along };
-                        let start = random.among(&[0, BEFORE, BEFORE, usize::MAX]);
-                        let right_to_left = random.below(2) as u32;
-                        let start = start as u64;
-                        asked.ask(
-                            &table,
-                            Box::new(KerningRun { kerning, choices: None, lent, start, right_to_left, written: None }),
-                        );
-                    }
-                }
-            }
+    for_each_length(10, &mut |line| {
+        let room = line.glyphs.len();
+        for along in [room, room + 1, room.saturating_sub(1)] {
+            let along = (0..along).map(|_| random.number() as i64).collect();
+            let lent = Kerned { line: line.clone(), along };
+            let start = random.among(&[0, BEFORE, BEFORE, usize::MAX]);
+            let right_to_left = random.below(2) as u32;
+            let start = start as u64;
+            asked.ask(&table, Box::new(KerningRun { kerning, choices: None, lent, start, right_to_left, written: None }));
         }
-    }
+    });
 }
 
 /// Tables at the limit of length and above it.

@@ -3,6 +3,7 @@
 use crate::fuzz::case::Chosen;
 use crate::fuzz::seeds::{self, Seed};
 use crate::fuzz::source::Source;
+use crate::questions::steps::for_each_told_length;
 use crate::questions::{Ask, Part, Question};
 use crate::reference::kerning::{are_roomy, Kerning};
 use crate::reference::kerning_by_copy::{open, DEEPEST, STATE};
@@ -229,12 +230,16 @@ fn refusals(asked: &mut dyn Ask, kerning: Kerning) {
 fn lengths(asked: &mut dyn Ask, kerning: Kerning) {
     let (table, step) = right_step(editions(kerning)[0]);
     let table = Rc::from(table);
-    let near = [0, 1, 2, LARGEST_ROOM - 1, LARGEST_ROOM, LARGEST_ROOM + 1, LARGEST_ROOM + 64];
-    for room in near {
-        for length in near.map(|length| length as u64).into_iter().chain([1 << 16, 1 << 32, 1 << 63, u64::MAX]) {
-            for index in [0, 1, length, length.saturating_add(1)] {
-                ask_step(asked, &table, &Step { length, index, along: vec![7; room], ..step.clone() });
-            }
+    for_each_told_length(&mut |room, length, index| {
+        ask_step(asked, &table, &Step { length, index, along: vec![7; room], ..step.clone() });
+    });
+    // A stack of the last places, to which numbers are added.
+    for length in [LARGEST_ROOM - 1, LARGEST_ROOM] {
+        let mut step = Step { length: length as u64, along: vec![7; LARGEST_ROOM], ..step.clone() };
+        step.state[1] = 3;
+        step.state[3..6].copy_from_slice(&[length as u64 - 2, length as u64 - 1, length as u64]);
+        for back in 0..4 {
+            ask_step(asked, &table, &Step { index: step.length - back, ..step.clone() });
         }
     }
 }

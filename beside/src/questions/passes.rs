@@ -12,7 +12,7 @@ use crate::reference::steps_by_copy::open;
 use crate::reference::trace::describe_pass;
 use crate::tables::insertion;
 use crate::tables::kinds::{any_subtable, far_numbers, Example, Kind, Written, KINDS};
-use crate::tables::lines::{any_glyphs, any_line_of, spoil};
+use crate::tables::lines::{any_glyphs, any_line_of, for_each_length, spoil};
 use crate::tables::lookup::{damage, Made};
 use crate::tables::morx::{in_chain, subtable, the_subtable, SUBTABLE_HEAD};
 use crate::tables::random::Random;
@@ -312,19 +312,10 @@ fn refused_lines(asked: &mut dyn Ask, by: By) {
     let example = &(by.kind.examples)()[0];
     let right: Rc<[u8]> = Rc::from(whole(by, example));
     let none = Rc::from(&right[..SUBTABLE_HEAD - 1]);
-    let numbers = |count: usize| (0..count as u16).collect::<Vec<u16>>();
-    let lengths = [0, 1, 3, 5, LARGEST_ROOM, LARGEST_ROOM + 1];
-    for glyphs in lengths {
-        for tags in lengths {
-            for homes in [0, 1, 4] {
-                for used in [0, 1, 3, tags as u64, glyphs as u64 + 1, 1 << 32, u64::MAX] {
-                    let line = Line { glyphs: vec![10; glyphs], tags: numbers(tags), homes: numbers(homes), used };
-                    ask_pass(asked, by, &right, 0, &line);
-                    ask_pass(asked, by, &none, 0, &line);
-                }
-            }
-        }
-    }
+    for_each_length(10, &mut |line| {
+        ask_pass(asked, by, &right, 0, &line);
+        ask_pass(asked, by, &none, 0, &line);
+    });
 }
 
 /// Tables at the limit of length and above it, with a subtable at either end, on a line and on none.
@@ -345,7 +336,7 @@ fn long_tables(asked: &mut dyn Ask, by: By) {
     }
 }
 
-const LONG_LINES: usize = 12;
+const LONG_LINES: usize = 2;
 
 /// Lines that fill the largest room, and almost.
 fn long_lines(asked: &mut dyn Ask, by: By, random: &mut Random) {

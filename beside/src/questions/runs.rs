@@ -5,13 +5,13 @@ use crate::fuzz::seeds::{self, Seed};
 use crate::fuzz::source::Source;
 use crate::questions::passes::for_each_table;
 use crate::questions::{Ask, Part, Question};
-use crate::reference::line::{Line, LARGEST_ROOM};
+use crate::reference::line::Line;
 use crate::reference::oracle::{Answer, Fault, LONGEST_TABLE};
 use crate::reference::pass::line_of;
 use crate::reference::run::{Run, MOST_HEADS};
 use crate::reference::trace::describe_run;
 use crate::tables::kinds::{Written, KINDS};
-use crate::tables::lines::{any_line_of, spoil};
+use crate::tables::lines::{any_line_of, for_each_length, spoil};
 use crate::tables::lookup::Made;
 use crate::tables::morx::{any_morx, chain, chosen_subtable, morx, puts_in, subtable, trimmed};
 use crate::tables::random::Random;
@@ -207,18 +207,10 @@ fn far_starts(asked: &mut dyn Ask) {
 /// Lengths of all parts, most of them no line's, at a start in the table and past it.
 fn refused_lines(asked: &mut dyn Ask) {
     let table = Rc::from(two_chains());
-    let numbers = |count: usize| (0..count as u16).collect::<Vec<u16>>();
-    for glyphs in [0, 1, 5, LARGEST_ROOM, LARGEST_ROOM + 1] {
-        for tags in [0, 1, 5, LARGEST_ROOM, LARGEST_ROOM + 1] {
-            for homes in [0, 1, 4] {
-                for used in [0, 1, 3, tags as u64, glyphs as u64 + 1, 1 << 32, u64::MAX] {
-                    let line = Line { glyphs: vec![10; glyphs], tags: numbers(tags), homes: numbers(homes), used };
-                    ask_run(asked, &table, 0, &line);
-                    ask_run(asked, &table, usize::MAX, &line);
-                }
-            }
-        }
-    }
+    for_each_length(10, &mut |line| {
+        ask_one_way(asked, &table, 0, &line, line.used as u32 & 1);
+        ask_one_way(asked, &table, usize::MAX, &line, 0);
+    });
 }
 
 /// Tables at the limit of length and above it.

@@ -4,14 +4,14 @@ use crate::fuzz::case::Chosen;
 use crate::fuzz::seeds::{self, Seed};
 use crate::fuzz::source::Source;
 use crate::questions::{Ask, Part, Question};
-use crate::reference::line::{Line, LARGEST_ROOM};
+use crate::reference::line::Line;
 use crate::reference::oracle::{caught, Answer, Fault, LONGEST_TABLE};
 use crate::reference::pass::line_of;
 use crate::reference::step::{Lent, Machine, Sees, Slot, Told, DEEPEST};
 use crate::reference::steps_by_copy::open;
 use crate::reference::trace::describe_state;
 use crate::tables::kinds::any_subtable;
-use crate::tables::lines::{any_glyphs, any_line_of, spoil};
+use crate::tables::lines::{any_glyphs, any_line_of, spoil, LARGE_ROOMS};
 use crate::tables::lookup::Made;
 use crate::tables::morx::{in_chain, subtable, CHAIN_HEADS, SUBTABLE_HEAD};
 use crate::tables::random::Random;
@@ -258,12 +258,20 @@ fn lengths(asked: &mut dyn Ask, machine: &'static Machine) {
     let example = &(machine.kind.examples)()[0];
     let table = Rc::from(subtable(machine.kind.number, &example.body));
     let state = vec![0; machine.state.len()];
-    let near = [0, 1, 2, LARGEST_ROOM - 1, LARGEST_ROOM, LARGEST_ROOM + 1, LARGEST_ROOM + 64];
-    for room in near {
-        for length in near.map(|length| length as u64).into_iter().chain([1 << 16, 1 << 32, 1 << 63, u64::MAX]) {
-            let line = Line { used: length, ..line_of(&vec![10; room], room) };
-            for index in [0, 1, length, length.saturating_add(1)] {
-                ask_step(asked, machine, &table, &state, &line, Told { index, glyph: 10, ends: 0 });
+    for_each_told_length(&mut |room, length, index| {
+        let line = Line { used: length, ..line_of(&vec![10; room], room) };
+        ask_step(asked, machine, &table, &state, &line, Told { index, glyph: 10, ends: 0 });
+    });
+}
+
+/// Rooms, used lengths and indices about none and about the largest.
+pub fn for_each_told_length(show: &mut dyn FnMut(usize, u64, u64)) {
+    for room in [0, 1, 2].into_iter().chain(LARGE_ROOMS) {
+        let few = [0, 1, 2, 3, 1 << 16, 1 << 32, 1 << 63, u64::MAX];
+        let near = [0, room as u64 - u64::from(room > 0), room as u64, room as u64 + 1];
+        for length in if room < 3 { &few[..] } else { &near } {
+            for index in [0, *length, length.saturating_add(1)] {
+                show(room, *length, index);
             }
         }
     }

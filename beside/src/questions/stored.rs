@@ -1,4 +1,4 @@
-//! Stored lines beside W-203's own codec: written, read, and run on after both.
+//! Stored lines beside a codec of W-203 and W-209: written, read, and run on after both.
 
 use crate::fuzz::case::Chosen;
 use crate::fuzz::seeds::Seed;
@@ -10,7 +10,7 @@ use crate::reference::line::{Line, LARGEST_ROOM};
 use crate::reference::oracle::{Answer, Fault, LONGEST_TABLE};
 use crate::reference::pass::line_of;
 use crate::reference::run::Run;
-use crate::reference::stored::{line_in, read, record_of, store, MARK, VERSION};
+use crate::reference::stored::{line_in, read, record_of, store, LONGEST_OF_FIRST, MARK};
 use crate::tables::lines::{any_line, any_line_of, any_numbers, spoil};
 use crate::tables::lookup::{damage, words, Made};
 use crate::tables::morx::any_morx;
@@ -224,7 +224,10 @@ fn examples(asked: &mut dyn Ask) {
         ("534C4F 0002 0000 0000", Answer::Record),
         ("4E4C53 0001 0000 0000", Answer::Record),
         ("534C4E 0000", Answer::Version),
-        ("534C4E 0002", Answer::Version),
+        ("534C4E 0002", Answer::Record),
+        ("534C4E 0002 0000 0000", Answer::Record),
+        ("534C4E 0003", Answer::Version),
+        ("534C4E 0003 0000 0000", Answer::Version),
         ("534C4E 0100 0000 0000", Answer::Version),
         ("534C4E FFFF 0000 0000 00", Answer::Version),
         ("534C4E 0001 0001 0000 0005 0001", Answer::Record),
@@ -270,7 +273,7 @@ fn short_records(asked: &mut dyn Ask) {
     for_each_string(&letters, 3, &mut |tags| {
         let places: Vec<u16> = (0x0506..).zip(tags).flat_map(|(glyph, tag)| [glyph, *tag]).collect();
         for_each_string(&letters[..4], 4, &mut |homes| {
-            let head = [VERSION, tags.len() as u16, homes.len() as u16];
+            let head = [1, tags.len() as u16, homes.len() as u16];
             let record = record(&[&head, &places[..], homes].concat());
             ask_read(asked, &record, 4, 4);
             if line_in(&record).is_ok() {
@@ -285,7 +288,7 @@ fn short_records(asked: &mut dyn Ask) {
 fn short_heads(asked: &mut dyn Ask, random: &mut Random) {
     let body = words(&[[20, 0], [21, 1], [0, 1], [0, 1]].concat());
     for version in [0, 1, 2, 3, 0x0100, 0x0101, 0x8001, 0xFFFF] {
-        for length in [0, 1, 2, 3, 0x0100, 0x0FFF, 0x1000, 0x1001, 0x8000, 0xFFFF] {
+        for length in [0, 1, 2, 3, 0x0100, 0x1000, 0x1001, 0x8000, 0x8001, 0xFFFF] {
             for characters in [0, 1, 2, 3, 4, 0x0100, 0x1000, 0x8002, 0xFFFC, 0xFFFF] {
                 let head = record(&[version, length, characters]);
                 for behind in 0..=body.len() {
@@ -356,23 +359,31 @@ fn for_each_room(places: &[usize], characters: &[usize], show: &mut dyn FnMut(Re
     }
 }
 
-/// Lines that fill the largest room, about as many places, and the same with one thing wrong.
+/// Lines about as long as those of either version can be, in records of every version, and with one thing wrong.
 fn longest_lines(asked: &mut dyn Ask, random: &mut Random) {
-    for used in [LARGEST_ROOM - 1, LARGEST_ROOM, LARGEST_ROOM + 1] {
-        for characters in [0, used / 2, used] {
+    for longest in [LONGEST_OF_FIRST, LARGEST_ROOM] {
+        for used in [longest - 1, longest, longest + 1] {
             let mut line = any_line(random, used, used);
-            line.homes = (0..characters).map(|_| random.below(used) as u16).collect();
-            ask_store_about(asked, &line);
+            for characters in [0, used] {
+                line.homes = (0..characters).map(|_| random.below(used) as u16).collect();
+                ask_store_about(asked, &line);
+            }
             let record = record_of(&line);
-            ask_read(asked, &Rc::from(&record[..]), LARGEST_ROOM, LARGEST_ROOM);
-            ask_read(asked, &Rc::from(&record[..]), used, characters);
-            ask_read(asked, &Rc::from(&record[..record.len() - 1]), used, characters);
-            ask_read(asked, &Rc::from([&record[..], &[0]].concat()), used, characters);
-            for place in [0, 1, 63, 64, used / 2, used - 1] {
-                for tag in [0, 63, 64, used as u16 - 1, used as u16, 0x7FFF, 0x8000, 0xFFFF] {
+            ask_read(asked, &Rc::from(&record[..]), used, used);
+            ask_read(asked, &Rc::from(&record[..]), used - 1, used);
+            ask_read(asked, &Rc::from(&record[..]), used, used - 1);
+            ask_read(asked, &Rc::from(&record[..record.len() - 1]), used, used);
+            ask_read(asked, &Rc::from([&record[..], &[0]].concat()), used, used);
+            for version in 0..4 {
+                ask_read(asked, &Rc::from([&record[..4], &[version], &record[5..]].concat()), used, used);
+            }
+            let last = used - 1;
+            for (place, tag) in [(0, used), (63, 64), (64, 63), (last, used), (last, 0), (last, 0xFFFF), (used / 2, 0)]
+            {
+                for at in [11 + 4 * place, 9 + 4 * used + 2 * place] {
                     let mut other = record.clone();
-                    other[11 + 4 * place..][..2].copy_from_slice(&tag.to_be_bytes());
-                    ask_read(asked, &Rc::from(other), LARGEST_ROOM, LARGEST_ROOM);
+                    other[at..at + 2].copy_from_slice(&(tag as u16).to_be_bytes());
+                    ask_read(asked, &Rc::from(other), used, used);
                 }
             }
         }
@@ -386,10 +397,16 @@ fn longest_buffers(asked: &mut dyn Ask, random: &mut Random) {
     ask_store(asked, &Line { used: 6, ..line }, LONGEST_TABLE + 1);
 }
 
-/// Mostly few, rarely as many as there can be.
+/// Mostly few, rarely as many as there can be, or about as many as a record of version 1 has.
 fn any_used(random: &mut Random) -> usize {
-    let longest = if random.once_in(100) { LARGEST_ROOM } else { random.among(&[2, 5, 12, 40, 300]) };
-    random.below(longest + 1)
+    match random.below(1_000) {
+        0 => random.below(LARGEST_ROOM + 1),
+        1 => LONGEST_OF_FIRST - 2 + random.below(5),
+        _ => {
+            let longest = random.among(&[2, 5, 12, 40, 300]);
+            random.below(longest + 1)
+        }
+    }
 }
 
 /// Any lines, sometimes ones that are refused, with buffers of any length.
@@ -420,7 +437,7 @@ fn random_records(asked: &mut dyn Ask, random: &mut Random, cases: u64) {
         let mut about = |right: usize| match random.below(12) {
             0 => right.saturating_sub(1),
             1 => random.below(right + 9),
-            2 => LARGEST_ROOM + random.below(3),
+            2 if random.once_in(40) => LARGEST_ROOM + random.below(3),
             3 => right + 1,
             _ => right,
         };

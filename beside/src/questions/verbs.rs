@@ -165,7 +165,7 @@ fn ask_verb(asked: &mut dyn Ask, line: &Line, verb: u16, start: u64, end: u64) {
 /// Slices of all small lengths, and of those about the largest room.
 fn fresh_lines(asked: &mut dyn Ask) {
     let small: Vec<usize> = (0..=9).collect();
-    let large = [0, 1, 4_095, 4_096, 4_097, 4_160];
+    let large = [1, LARGEST_ROOM - 1, LARGEST_ROOM, LARGEST_ROOM + 1];
     for lengths in [&small[..], &large] {
         for glyphs in lengths {
             for tags in lengths {
@@ -246,12 +246,15 @@ fn short_homes(asked: &mut dyn Ask) {
 
 /// Glyphs and tags whose lengths differ, rooms about the largest, and used lengths up to the farthest.
 fn refused_lengths(asked: &mut dyn Ask) {
-    let lengths = [0, 1, 2, 5, 4_095, 4_096, 4_097, 4_160];
+    let lengths = [0, 1, 2, 5, LARGEST_ROOM - 1, LARGEST_ROOM, LARGEST_ROOM + 1];
     let counting = |length: usize| (0..length as u16).collect::<Vec<u16>>();
     for glyphs in lengths {
         for tags in lengths {
-            let near = [0, 1, tags as u64, glyphs as u64, tags as u64 + 1];
-            for used in near.into_iter().chain([(1 << 16) + 1, (1 << 32) + 1, 1 << 63, u64::MAX]) {
+            let near = [1, tags as u64, glyphs as u64, tags as u64 + 1];
+            let far = [0, (1 << 16) + 1, (1 << 32) + 1, 1 << 63, u64::MAX];
+            // Of the largest ones the near lengths alone.
+            let far = if glyphs.max(tags) < 10 { &far[..] } else { &[] };
+            for used in near.into_iter().chain(far.iter().copied()) {
                 let line = Line { glyphs: counting(glyphs), tags: counting(tags), homes: Vec::new(), used };
                 ask_verb(asked, &line, 1, 0, 1);
             }
@@ -264,13 +267,16 @@ fn longest_lines(asked: &mut dyn Ask, random: &mut Random) {
     for used in [LARGEST_ROOM - 1, LARGEST_ROOM] {
         let line = any_line(random, used, LARGEST_ROOM);
         let last = used as u64 - 1;
-        for verb in verbs() {
-            for (start, end) in [(0, last), (0, u64::MAX), (1, last - 1), (last - 3, last), (last + 1, last + 1)] {
+        for verb in 0..16 {
+            for (start, end) in [(0, last), (last - 3, u64::MAX)] {
                 ask_verb(asked, &line, verb, start, end);
             }
         }
-        for place in [0, 1, 63, 64, 2_048, used - 1] {
-            for tag in [0, 63, 64, used as u16 - 1, used as u16, 4_096, 4_097, 0x7FFF, 0x8000, 0xFFFF] {
+        for (start, end) in [(1, last - 1), (last + 1, last + 1), (last + 2, last + 2)] {
+            ask_verb(asked, &line, 13, start, end);
+        }
+        for place in [0, 63, 64, used - 1] {
+            for tag in [0, 63, 64, used as u16 - 1, used as u16, 0xFFFF] {
                 ask_verb(asked, &with_tag(&line, place, tag), 3, 0, last);
                 ask_verb(asked, &with_home(&line, place, tag), 3, 0, last);
             }
@@ -294,7 +300,8 @@ fn with_home(line: &Line, character: usize, home: u16) -> Line {
 
 fn random_lines(asked: &mut dyn Ask, random: &mut Random, cases: u64) {
     for _ in 0..cases {
-        let longest = random.among(&[5, 5, 12, 12, 12, 70, 70, 70, 300, LARGEST_ROOM]);
+        let few = random.among(&[5, 5, 12, 12, 12, 70, 70, 70, 300]);
+        let longest = if random.once_in(500) { LARGEST_ROOM } else { few };
         let room = random.below(longest + 1);
         let used = if random.once_in(2) { room } else { random.below(room + 1) };
         let mut line = any_line(random, used, room);

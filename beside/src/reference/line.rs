@@ -1,10 +1,10 @@
-//! Document 01's line: when it is refused, a fresh one, its edits, and its verbs as they are drawn; written from the
-//! document alone.
+//! Document 01's line, in W-209's room: when it is refused, a fresh one, its edits, and its verbs as they are drawn; written from
+//! the documents alone.
 
 use crate::reference::oracle::Answer;
 
 /// The largest room that is not refused.
-pub const LARGEST_ROOM: usize = 4_096;
+pub const LARGEST_ROOM: usize = 32_768;
 
 /// A glyph that is deleted, and the one that the last step of a pass is told.
 pub const DELETED: u16 = 0xFFFF;

@@ -1,6 +1,6 @@
 //! What the shaper answers, by document 01 and over the crate, and what its program prints of that.
 
-use crate::reference::line::{Line, LARGEST_ROOM};
+use crate::reference::line::Line;
 use crate::reference::oracle::{Answer, Fault};
 use crate::reference::pass::line_of;
 use crate::reference::run::Run;
@@ -8,6 +8,9 @@ use crate::tables::lookup::{numbers, words};
 
 /// The longest table that the shaper takes.
 pub const SHAPER_TABLE: usize = 32_768;
+
+/// The room that the shaper has for a line, and so the longest line that it takes.
+pub const SHAPER_ROOM: usize = 4_096;
 
 /// An input: the table's length, the table, the number of glyphs, the glyphs.
 pub fn input_of(table: &[u8], glyphs: &[u16]) -> Vec<u8> {
@@ -25,7 +28,7 @@ fn parts_of(input: &[u8]) -> Result<(&[u8], Vec<u16>), Answer<()>> {
     let (table, rest) = split(rest, length)?;
     let (count, glyphs) = split(rest, 2)?;
     let count = numbers(count).map(usize::from).sum::<usize>();
-    if count > LARGEST_ROOM || glyphs.len() != 2 * count {
+    if count > SHAPER_ROOM || glyphs.len() != 2 * count {
         return Err(Answer::Line);
     }
     Ok((table, numbers(glyphs).collect()))
@@ -54,7 +57,7 @@ pub fn shaped(input: &[u8]) -> Result<Shaped, Fault> {
         Ok(parts) => parts,
         Err(answer) => return Ok(Shaped::refused(answer)),
     };
-    let mut line = line_of(&glyphs, LARGEST_ROOM);
+    let mut line = line_of(&glyphs, SHAPER_ROOM);
     let (answer, heads) = Run { table, start: 0, right_to_left: false }.make(&mut line, &mut |_, _| {})?;
     Ok(Shaped { answer, heads, line })
 }

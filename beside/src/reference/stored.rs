@@ -1,4 +1,5 @@
-//! W-203's record of a line: how it is written, and what its reader accepts; written from document 02 alone.
+//! W-203's record of a line, with W-209's second version: how it is written, and what its reader accepts; written from document 02
+//! alone.
 
 use crate::reference::line::{Line, LARGEST_ROOM};
 use crate::reference::oracle::{Answer, LONGEST_TABLE};
@@ -7,12 +8,21 @@ use crate::tables::lookup::{numbers, words};
 /// What a record begins with.
 pub const MARK: &[u8] = b"SLN";
 
-/// The number behind the mark.
-pub const VERSION: u16 = 1;
+/// The longest line whose record is of version 1.
+pub const LONGEST_OF_FIRST: usize = 4_096;
+
+/// The number behind the mark, for a line of so many places.
+pub fn version_of(places: usize) -> u16 {
+    if places <= LONGEST_OF_FIRST {
+        1
+    } else {
+        2
+    }
+}
 
 /// The record of a line.
 pub fn record_of(line: &Line) -> Vec<u8> {
-    let head = [VERSION, line.used as u16, line.homes.len() as u16];
+    let head = [version_of(line.length()), line.used as u16, line.homes.len() as u16];
     let places = line.glyphs.iter().zip(&line.tags).take(line.length()).flat_map(|(glyph, tag)| [*glyph, *tag]);
     let numbers: Vec<u16> = head.into_iter().chain(places).chain(line.homes.iter().copied()).collect();
     [MARK, &words(&numbers)].concat()
@@ -25,12 +35,12 @@ pub fn line_in(record: &[u8]) -> Result<Line, Answer<[u64; 2]>> {
     }
     let behind_mark = record.strip_prefix(MARK).ok_or(Answer::Record)?;
     let given: Vec<u16> = numbers(behind_mark).collect();
-    let (length, characters, rest) = match given[..] {
-        [version, ..] if version != VERSION => return Err(Answer::Version),
-        [_, length, characters, ref rest @ ..] => (usize::from(length), usize::from(characters), rest),
+    let (version, length, characters, rest) = match given[..] {
+        [version, ..] if version != 1 && version != 2 => return Err(Answer::Version),
+        [version, length, characters, ref rest @ ..] => (version, usize::from(length), usize::from(characters), rest),
         _ => return Err(Answer::Record),
     };
-    if behind_mark.len() % 2 != 0 || rest.len() != 2 * length + characters {
+    if version != version_of(length) || behind_mark.len() % 2 != 0 || rest.len() != 2 * length + characters {
         return Err(Answer::Record);
     }
     let (places, homes) = rest.split_at(2 * length);

@@ -156,27 +156,30 @@ fn any_index(random: &mut Random, puts: usize, size: usize, count: u16) -> u16 {
     }
 }
 
-/// Rooms that the glyphs of a step fill, and some smaller and larger by one; small ones and the largest.
+/// Rooms that the glyphs of a step fill, and some smaller and larger by one; and the largest, for a few of them.
 fn limits(hand_over: &mut dyn FnMut(Vec<u8>, Line)) {
-    let list: Vec<u16> = (20..60).collect();
     for (current, marked) in [(0, 0), (1, 0), (0, 1), (1, 1), (2, 5), (31, 0), (0, 31), (31, 31)] {
         for flags in [0, BEFORE, BEFORE_MARK, SET_MARK, STAY, STAY | BEFORE | BEFORE_MARK] {
-            let entries: [Placed; 3] = [
-                (0, 4, &[0, SET_MARK, NONE, NONE]),
-                (0, 5, &[1, flags | counts(current, marked), 0, 3]),
-                (1, 0, &[1, counts(0, 1), NONE, 7]),
-            ];
-            let body = small_body(&entries, &list);
+            let body = limited_body(flags | counts(current, marked));
             for glyphs in [&[10, 11][..], &[11, 10], &[10, 12, 11, 10]] {
                 let full = glyphs.len() + usize::from(current + marked);
                 for room in [full.saturating_sub(1), full, full + 1, full + 2] {
                     hand_over(body.clone(), line_of(glyphs, room.max(glyphs.len())));
                 }
-                for left in [0, 1, 2, usize::from(marked), usize::from(current + marked)] {
-                    let long = [vec![12; LARGEST_ROOM - left - glyphs.len()], glyphs.to_vec()].concat();
-                    hand_over(body.clone(), line_of(&long, LARGEST_ROOM));
-                }
+            }
+        }
+        for flags in [0, STAY | BEFORE | BEFORE_MARK] {
+            for left in [0, 1, usize::from(marked), usize::from(current + marked)] {
+                let long = [vec![12; LARGEST_ROOM - left - 4], vec![10, 12, 11, 10]].concat();
+                hand_over(limited_body(flags | counts(current, marked)), line_of(&long, LARGEST_ROOM));
             }
         }
     }
+}
+
+/// A body that marks glyph 10 and does this at glyph 11, and once more at the end.
+fn limited_body(flags: u16) -> Vec<u8> {
+    let entries: [Placed; 3] =
+        [(0, 4, &[0, SET_MARK, NONE, NONE]), (0, 5, &[1, flags, 0, 3]), (1, 0, &[1, counts(0, 1), NONE, 7])];
+    small_body(&entries, &(20..60).collect::<Vec<u16>>())
 }

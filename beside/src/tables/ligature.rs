@@ -50,6 +50,22 @@ fn one_action(action: u32) -> Vec<u8> {
     small_machine(1, 1, &[0, 0], &[(0, 4, &[0, PUSH | ACT, 0])], &small_lists(&[action]))
 }
 
+/// A body that makes a ligature of each 10 and the 11 behind it, and takes it from the stack at the next 10.
+pub fn pairs() -> Vec<u8> {
+    let entries: [Placed; 3] = [(0, 4, &[1, ACT | STAY, 2]), (1, 4, &[0, PUSH, 0]), (0, 5, &[0, PUSH | ACT, 0])];
+    small_body(&entries, &[0, LAST, 0, 0])
+}
+
+/// A body that asks for the most at each 10: pushed once and then eight times at each place, it makes a ligature of the first place
+/// again and again, as often as actions are followed, with eight components each, for which all homes are looked at.
+pub fn most_scans() -> Vec<u8> {
+    let pushes: Vec<[u16; 3]> = (0..9).map(|state| [state + 1, PUSH | STAY, 0]).collect();
+    let mut entries: Vec<Placed> = (0..9).zip(&pushes).map(|(state, entry)| (state, 4, &entry[..])).collect();
+    entries.push((9, 4, &[1, ACT, 0]));
+    let actions = [[action(0, -10); 8].to_vec(), vec![action(STORE, -10); 26]].concat();
+    small_machine(1, 10, &[0, 0], &entries, &lists(&actions, &[0; 12], &[10; 40]))
+}
+
 /// The table of an entry that acts for each of two glyphs, 5 and 6, and stores twice.
 const STORES_TWICE: &str = "0002000000000001000000010000009400000000000000010000008400000002000000010000000600\
     00001c0000002600000032000000440000004c0000006e000800050002000400050000000000000000000100020000000000000000800000\

@@ -1,7 +1,7 @@
 //! Lines and adjustments from a seed, whole and spoiled.
 
 use crate::reference::kerning::{Kerned, LARGEST_ADJUSTMENT};
-use crate::reference::line::{Line, DELETED};
+use crate::reference::line::{Line, DELETED, LARGEST_ROOM};
 use crate::tables::random::Random;
 use std::ops::Range;
 
@@ -35,10 +35,35 @@ pub fn any_line(random: &mut Random, used: usize, room: usize) -> Line {
     Line { glyphs, tags, homes, used: used as u64 }
 }
 
+/// Rooms about the largest.
+pub const LARGE_ROOMS: [usize; 3] = [LARGEST_ROOM - 1, LARGEST_ROOM, LARGEST_ROOM + 1];
+
+/// What is lent for lines of this glyph with parts of every length up to 5, most of them no line's, and of some about the largest room.
+pub fn for_each_length(glyph: u16, show: &mut dyn FnMut(Line)) {
+    let numbers = |count: usize| (0..count as u16).collect::<Vec<u16>>();
+    let mut line = |glyphs, tags, homes, used| {
+        show(Line { glyphs: vec![glyph; glyphs], tags: numbers(tags), homes: numbers(homes), used });
+    };
+    let short = [0, 1, 3, 5];
+    for (glyphs, tags) in short.into_iter().flat_map(|glyphs| short.map(|tags| (glyphs, tags))) {
+        for homes in [0, 1, 4] {
+            for used in [0, 1, 3, tags as u64, glyphs as u64 + 1, 1 << 32, u64::MAX] {
+                line(glyphs, tags, homes, used);
+            }
+        }
+    }
+    let differing = [(LARGEST_ROOM, LARGEST_ROOM - 1), (LARGEST_ROOM - 1, LARGEST_ROOM), (3, LARGEST_ROOM)];
+    for (glyphs, tags) in LARGE_ROOMS.map(|room| (room, room)).into_iter().chain(differing) {
+        for (homes, used) in [(4, 3), (4, glyphs), (glyphs, glyphs), (0, glyphs + 1)] {
+            line(glyphs, tags, homes, used as u64);
+        }
+    }
+}
+
 /// Sometimes makes a line one that is refused.
 pub fn spoil(random: &mut Random, line: &mut Line) {
     let used = line.used as usize;
-    let too_large = random.among(&[line.used as u16, line.used as u16 + 1, 4_096, 0xFFFF]);
+    let too_large = random.among(&[line.used as u16, line.used as u16 + 1, LARGEST_ROOM as u16, 0xFFFF]);
     match random.below(40) {
         0 if used > 0 => line.tags[random.below(used)] = too_large,
         1 if used > 0 => line.tags[random.below(used)] = random.below(used) as u16,

@@ -1,8 +1,7 @@
 //! Inputs of the shaper's program: document 01's, those at its limits, and from a seed.
 
-use crate::reference::line::LARGEST_ROOM;
 use crate::reference::run::MOST_HEADS;
-use crate::reference::shaper::{input_of, SHAPER_TABLE};
+use crate::reference::shaper::{input_of, SHAPER_ROOM, SHAPER_TABLE};
 use crate::tables::lines::{any_glyphs, any_line_of};
 use crate::tables::lookup::damage;
 use crate::tables::morx::{any_morx, puts_in, trimmed};
@@ -62,15 +61,15 @@ fn stated_counts(show: &mut dyn FnMut(Vec<u8>)) {
 
 /// The longest table and the longest line, each alone and both, almost and one more; and bytes behind the longest input.
 fn largest(show: &mut dyn FnMut(Vec<u8>)) {
-    let line: Vec<u16> = [5, 6, 20, 0xFFFF].into_iter().cycle().take(LARGEST_ROOM + 1).collect();
+    let line: Vec<u16> = [5, 6, 20, 0xFFFF].into_iter().cycle().take(SHAPER_ROOM + 1).collect();
     for length in [0, 46, SHAPER_TABLE - 1, SHAPER_TABLE, SHAPER_TABLE + 1] {
         let mut table = morx(&[chain(1, &[], &[subtable(4, &trimmed())])]);
         table.resize(length, 0);
-        for count in [0, 1, LARGEST_ROOM - 1, LARGEST_ROOM, LARGEST_ROOM + 1] {
+        for count in [0, 1, SHAPER_ROOM - 1, SHAPER_ROOM, SHAPER_ROOM + 1] {
             show(input_of(&table, &line[..count]));
         }
     }
-    let longest = input_of(&[0; SHAPER_TABLE], &line[..LARGEST_ROOM]);
+    let longest = input_of(&[0; SHAPER_TABLE], &line[..SHAPER_ROOM]);
     for more in [1, 2, 100_000] {
         show([&longest[..], &vec![0; more]].concat());
     }
@@ -79,7 +78,7 @@ fn largest(show: &mut dyn FnMut(Vec<u8>)) {
 /// Lines that insertions make as long as the room, and longer: FULL.
 fn full_rooms(show: &mut dyn FnMut(Vec<u8>)) {
     let table = morx(&[chain(1, &[], &[puts_in(0), subtable(4, &trimmed())]), chain(1, &[], &[puts_in(0x4000_0000)])]);
-    for count in [1, 400, 455, 456, 820, 1_365, 1_366, 4_095, LARGEST_ROOM] {
+    for count in [1, 400, 455, 456, 820, 1_365, 1_366, SHAPER_ROOM - 1, SHAPER_ROOM] {
         show(input_of(&table, &vec![10; count]));
     }
 }
@@ -105,7 +104,7 @@ pub fn any_input(random: &mut Random) -> Vec<u8> {
     if random.once_in(4) {
         damage(random, &mut table);
     }
-    let longest = random.among(&[2, 12, 12, 60, LARGEST_ROOM]);
+    let longest = random.among(&[2, 12, 12, 60, SHAPER_ROOM]);
     let used = random.below(longest + 1);
     let mut input = input_of(&table, &any_line_of(random, &glyphs, used, used).glyphs);
     if random.once_in(12) {

@@ -7,7 +7,7 @@ tableLimit = 16777216
 
 -- the most places of a line
 unfoldable pub roomLimit : ℕ
-roomLimit = 4096
+roomLimit = 32768
 
 -- the most heads of a run
 unfoldable pub headLimit : ℕ

@@ -11,7 +11,7 @@ ghost use Rattle.answers.specs.Refuse.{refuse, tableTest};
 pub const TABLE_LIMIT: usize = 16_777_216;
 
 // The most places that a line may have room for.
-pub const ROOM: usize = 4096;
+pub const ROOM: usize = 32_768;
 
 // The most heads that a run reads.
 pub const HEADS: u32 = 65_535;

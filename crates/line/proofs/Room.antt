@@ -7,6 +7,10 @@ pub room-small : roomLimit ≤ 65535
 unfolding roomLimit
 room-small = omega arith
 
-pub word-inside : (tag : ℕ) → tag < roomLimit → tag / 64 < 64
+-- how many words of 64 bits that takes
+abbrev pub words : ℕ
+words = 512
+
+pub word-inside : (tag : ℕ) → tag < roomLimit → tag / 64 < words
 unfolding roomLimit
 word-inside tag h = omega arith

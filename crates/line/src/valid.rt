@@ -10,10 +10,10 @@ ghost use Rattle.line.specs.Seen.{hasSeen, withTag, areInOrder};
 use answers::ROOM;
 
 // Words of 64 bits that have a bit for each tag.
-const WORDS: usize = ROOM / 64;
+pub const WORDS: usize = ROOM / 64;
 
 // Whether the tag was met.
-fn has_seen(seen: &[u64; WORDS], tag: u16) -> bool
+pub fn has_seen(seen: &[u64; WORDS], tag: u16) -> bool
     requires { ⌜ tag < roomLimit ⌝ }
     ensures { λ r. ⌜ r ≡ hasSeen (now (seen .entry)) tag ⌝ }
 {
@@ -21,7 +21,7 @@ fn has_seen(seen: &[u64; WORDS], tag: u16) -> bool
 }
 
 // The tag is met.
-fn mark(seen: &mut [u64; WORDS], tag: u16)
+pub fn mark(seen: &mut [u64; WORDS], tag: u16)
     requires { ⌜ tag < roomLimit ⌝ }
     ensures { λ _. ⌜ now (seen .exit) ≡ withTag (now (seen .entry)) tag ⌝ }
 {

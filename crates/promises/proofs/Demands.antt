@@ -19,6 +19,7 @@ use Rattle.stored.specs.Reading.{readLine}
 use Rattle.stored.proofs.Written.{record-size}
 use Rattle.stored.proofs.Exact.{accepted-exact, read-valid}
 use Rattle.stored.proofs.Records.{read-record, record-read}
+use Rattle.stored.proofs.Versions.{older-refuses, older-alike}
 use Rattle.stored.proofs.Known.{known-records}
 use Rattle.morx.proofs.Demand3.{fresh-demand3, calls-honest}
 use Rattle.morx.proofs.Demand3 as Calls
@@ -219,6 +220,8 @@ stored =
       accepted-exact = accepted-exact;
       record-size = record-size;
       read-valid = read-valid;
+      older-refuses = older-refuses;
+      older-alike = older-alike;
       known-records = known-records;
     }
 

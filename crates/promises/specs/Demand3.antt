@@ -6,14 +6,16 @@ use mathlib.Core.List.{List, [], map, _++_}
 use lib.ListN.{length, take, drop}
 use Rattle.answers.specs.Refuse.{refuse}
 use Rattle.answers.specs.declared.Check.the-variants.{Passed}
+use Rattle.answers.specs.declared.Refusal.the-variants as Refusal
 use Rattle.line.specs.Line.{Line, Valid, Belongs, lineOf}
 use Rattle.line.specs.Changes.{Change, applyAll, historyOf}
 use Rattle.line.specs.Entries.{freshOf, freshTests}
 use Rattle.line.specs.History.{FromLine, FromFresh, Fits, Honest, leftBy, historyBy}
 use Rattle.line.specs.Known as Known
 use Rattle.stored.specs.Record.{recordOf, sizeOf}
-use Rattle.stored.specs.Reading.{AreBytes, readLine, Accepted}
-use Rattle.stored.specs.Entries.{newestVersion, recordTests, readTests}
+use Rattle.stored.specs.Reading.{AreBytes, versionIn, readLine, Accepted}
+use Rattle.stored.specs.Entries.{newestVersion, recordTests, readTests, readCall}
+use Rattle.stored.specs.declared.ReadLine.the-variants as Read
 use Rattle.stored.specs.Known as Records
 use Rattle.morx.specs.Sequence.{Call, leaves, makes}
 use Rattle.morx.specs.Memory.{inMemory}
@@ -36,6 +38,12 @@ pub record Stored : Type 0 where
   -- a line that was read is valid
   pub read-valid : (newest : ℕ) (bytes glyphs tags homes : List ℕ) → refuse (readTests newest bytes glyphs tags homes) ≡ Passed
       → Valid (readLine bytes glyphs tags)
+  -- a box that knows version 1 alone answers VERSION to every record of version 2, and writes nothing
+  pub older-refuses : (bytes glyphs tags homes : List ℕ) → Accepted newestVersion bytes → versionIn bytes ≡ 2
+      → readCall 1 bytes glyphs tags homes ≡ record { reply = Read.Refused Refusal.Version; glyphs = glyphs; tags = tags; homes = homes }
+  -- bytes of version 1 it reads as the newest box does, whatever they are
+  pub older-alike : (bytes glyphs tags homes : List ℕ) → versionIn bytes ≡ 1
+      → readCall 1 bytes glyphs tags homes ≡ readCall newestVersion bytes glyphs tags homes
   -- known records by computation: of document 01's shaped example, and of an empty line
   pub known-records : (recordOf Records.shaped ≡ Records.shapedRecord) × (recordOf Records.empty ≡ Records.emptyRecord)
 

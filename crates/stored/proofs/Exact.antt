@@ -8,7 +8,7 @@ use lib.Dec.{eqb, leb}
 use lib.ListN.{length, getD, take, drop, length-append, length-drop}
 use borrow.Author.Tests.{le-ltb, le-leb, leb-true, eqb-true, eq-eqb, not-false}
 use Rattle.answers.proofs.Refusals.{refuse-later, refuse-none, passed-here, passed-later}
-use Rattle.answers.specs.Limits.{tableLimit}
+use Rattle.answers.specs.Limits.{tableLimit, roomLimit}
 use Rattle.answers.specs.Refuse.{refuse, tableTest}
 use Rattle.answers.specs.declared.Check.the-variants.{Passed}
 use Rattle.laws.specs.Lists.{both}
@@ -16,7 +16,7 @@ use Rattle.laws.proofs.Lists.{both-left, both-right, getD-first}
 use Rattle.line.specs.Line.{Valid, OnceEach}
 use Rattle.line.proofs.Exact.{legal-of, of-legal}
 use Rattle.line.proofs.Once.{shuffled-once}
-use Rattle.stored.specs.Record.{mark, versionOf, longest1, sizeOf}
+use Rattle.stored.specs.Record.{mark, versionOf, sizeOf}
 use Rattle.stored.specs.Reading.{versionIn, lengthIn, charactersIn, glyphsIn, tagsIn, homesIn, readLine, Known, Accepted, isMarked, isKnown, isOther, isOwn, isRecord}
 use Rattle.stored.specs.Entries.{recordTests, readTests}
 use Rattle.stored.proofs.Tests.{length-homesIn}
@@ -40,7 +40,7 @@ marked-of (a ∷ b ∷ c ∷ rest) e =
       eqb-true c 0x4E (both-right (eqb b 0x4C) _ f),
     )
 
-of-marked : (bytes : List ℕ) → take 3 bytes ≡ mark → isMarked bytes ≡ true
+pub of-marked : (bytes : List ℕ) → take 3 bytes ≡ mark → isMarked bytes ≡ true
 unfolding isMarked
 of-marked [] e = let z : _≡_ {A = ℕ} 0 3 = ap length e in absurd (omega arith)
 of-marked (a ∷ []) e = let z : _≡_ {A = ℕ} 1 3 = ap length e in absurd (omega arith)
@@ -75,7 +75,7 @@ module _ (newest : ℕ) (bytes : List ℕ) where
       let a = both-right (eqb (length bytes) (sizeOf (lengthIn bytes) (charactersIn bytes))) _ r in
       let m = both-left (isMarked bytes) _ a in
       let b = both-right (isMarked bytes) _ a in
-      let own = both-left (both (eqb (versionIn bytes) (versionOf (lengthIn bytes))) (leb (lengthIn bytes) longest1)) _ b in
+      let own = both-left (both (eqb (versionIn bytes) (versionOf (lengthIn bytes))) (leb (lengthIn bytes) roomLimit)) _ b in
       record {
         marked = marked-of bytes m;
         known = known-of newest (versionIn bytes) (is-known r m o);
@@ -84,7 +84,7 @@ module _ (newest : ℕ) (bytes : List ℕ) where
         whole = eqb-true _ _ (both-left (eqb (length bytes) (sizeOf (lengthIn bytes) (charactersIn bytes))) _ r);
         legal =
             legal-of (tagsIn bytes (lengthIn bytes)) (homesIn bytes (lengthIn bytes) (charactersIn bytes)) (lengthIn bytes)
-            (both-right (both (eqb (versionIn bytes) (versionOf (lengthIn bytes))) (leb (lengthIn bytes) longest1)) _ b);
+            (both-right (both (eqb (versionIn bytes) (versionOf (lengthIn bytes))) (leb (lengthIn bytes) roomLimit)) _ b);
       }
 
   module _ (a : Accepted newest bytes) where
@@ -106,7 +106,7 @@ module _ (newest : ℕ) (bytes : List ℕ) where
         rw (le-leb 5 (length bytes) (omega arith), of-marked bytes (a .marked), of-known newest (versionIn bytes) (a .known))
 
     pub accepted-short : length bytes ≤ tableLimit
-    unfolding longest1 tableLimit
+    unfolding roomLimit tableLimit
     accepted-short =
         let w = record-whole bytes accepted-record in
         let few = a .legal .enough in

@@ -5,4 +5,5 @@ pub mod Got
 pub mod Calls
 pub mod Exact
 pub mod Records
+pub mod Versions
 pub mod Known

@@ -8,9 +8,9 @@ use native.Mathlib.Numerals.{add-one}
 use native.Mathlib.Omega.{arith}
 use lib.ListN.{length, getD, take, drop, length-append}
 use lib.Seq.{take-all, take-add, drop-cons, drop-drop, getD-take, getD-append-add, length-take-le, ext-getD}
-use Rattle.answers.specs.Limits.{roomLimit}
 use Rattle.laws.proofs.Lists.{getD-first}
-use Rattle.laws.proofs.Numbers.{eq-or-ne}
+use Rattle.laws.proofs.Choices.{ifLt-yes, ifLt-no}
+use Rattle.laws.proofs.Numbers.{lt-or-ge, eq-or-ne}
 use Rattle.parse.specs.Reads.{u8At, u16At}
 use Rattle.line.specs.Line.{Line, Valid, lineOf}
 use Rattle.stored.specs.Record.{mark, versionOf, longest1, word, joined, placeBytes, homeBytes, recordOf, sizeOf}
@@ -143,13 +143,16 @@ module _ (glyphs tags homes : List ℕ) (used : ℕ) where
 
   known-back : Known newestVersion (versionOf used)
   unfolding versionOf newestVersion
-  known-back = record { first = omega arith; last = omega arith }
+  known-back =
+      ⊎-elim
+      (λ (h : longest1 < used). rw (ifLt-yes {A = ℕ} 2 1 h) (record { first = omega arith; last = omega arith }))
+      (λ (h : used ≤ longest1). rw (ifLt-no {A = ℕ} 2 1 h) (record { first = omega arith; last = omega arith }))
+      (lt-or-ge longest1 used)
 
   own-back : versionIn whole ≡ versionOf (lengthIn whole)
   own-back = rw length-back version-back
 
   accepted-back : Valid (lineOf glyphs tags homes used) → Accepted newestVersion whole
-  unfolding longest1 roomLimit
   accepted-back v =
       let legal = v .legal in
       record {

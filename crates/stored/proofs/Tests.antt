@@ -16,7 +16,7 @@ use Rattle.line.specs.Test.{isOnceEach, areHoused, isLegal}
 use Rattle.line.specs.Seen.{hasSeen, withTag}
 use Rattle.line.proofs.Seen.{Marking, marking-large, marking-again, marking-next}
 use Rattle.line.proofs.Tests.{legal-crowded, legal-homeless, legal-rest}
-use Rattle.stored.specs.Record.{versionOf, longest1, sizeOf}
+use Rattle.stored.specs.Record.{versionOf, sizeOf}
 use Rattle.stored.specs.Reading.{versionIn, lengthIn, charactersIn, tagsIn, homesIn, isMarked, isKnown, isOther, isOwn, isRecord}
 
 pub length-homesIn : (bytes : List ℕ) (used characters : ℕ) → length (homesIn bytes used characters) ≡ characters
@@ -97,7 +97,7 @@ module _ (newest : ℕ) (bytes : List ℕ) where
 
 -- a length that a version has is within any room
 pub own-fits : (version used : ℕ) {own : Bool} → own ≡ isOwn version used → not own ≡ false → used ≤ roomLimit
-unfolding isOwn longest1 roomLimit
+unfolding isOwn
 own-fits version used {own} e n = leb-true _ _ (both-right (eqb version (versionOf used)) _ (sym e ∙ not-false own n))
 
 -- a record, test by test

@@ -52,7 +52,7 @@ storeSize (Stored.Refused why) was = was
 
 -- the newest version that the entry knows
 unfoldable pub newestVersion : ℕ
-newestVersion = 1
+newestVersion = 2
 
 -- LINE, for the room that is lent: glyphs and tags of different length, above the largest room, below the line's length, or homes below its characters
 unfoldable pub roomTests : (bytes glyphs tags homes : List ℕ) → List Test

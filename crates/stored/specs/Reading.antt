@@ -6,10 +6,11 @@ use mathlib.Core.List.{List, _++_}
 use lib.Dec.{eqb, leb}
 use lib.ListN.{length, getD, take, drop}
 use Rattle.laws.specs.Lists.{tab, both}
+use Rattle.answers.specs.Limits.{roomLimit}
 use Rattle.parse.specs.Reads.{u8At, u16At}
 use Rattle.line.specs.Line.{Line, lineOf, Legal}
 use Rattle.line.specs.Test.{isLegal}
-use Rattle.stored.specs.Record.{mark, versionOf, longest1, sizeOf}
+use Rattle.stored.specs.Record.{mark, versionOf, sizeOf}
 
 -- the head's numbers, behind the mark
 abbrev pub versionIn : List ℕ → ℕ
@@ -50,13 +51,13 @@ pub record Known (newest version : ℕ) : Type 0 where
   pub first : 1 ≤ version
   pub last : version ≤ newest
 
--- the bytes that a box accepts: the mark, a version that it knows and that is the length's own, a length within the longest, no byte over or missing,
+-- the bytes that a box accepts: the mark, a version that it knows and that is the length's own, a length within any room, no byte over or missing,
 -- and tags and homes of a line: the tags once each, every home below the length, no more characters than places
 pub record Accepted (newest : ℕ) (bytes : List ℕ) : Type 0 where
   pub marked : take 3 bytes ≡ mark
   pub known : Known newest (versionIn bytes)
   pub own : versionIn bytes ≡ versionOf (lengthIn bytes)
-  pub within : lengthIn bytes ≤ longest1
+  pub within : lengthIn bytes ≤ roomLimit
   pub whole : length bytes ≡ sizeOf (lengthIn bytes) (charactersIn bytes)
   pub legal : Legal (tagsIn bytes (lengthIn bytes)) (homesIn bytes (lengthIn bytes) (charactersIn bytes)) (lengthIn bytes)
 
@@ -75,7 +76,7 @@ isOther newest bytes = both (leb 5 (length bytes)) (both (isMarked bytes) (not (
 
 -- a version's own lengths
 unfoldable pub isOwn : (version used : ℕ) → Bool
-isOwn version used = both (eqb version (versionOf used)) (leb used longest1)
+isOwn version used = both (eqb version (versionOf used)) (leb used roomLimit)
 
 -- bytes of a version that is known are a record
 unfoldable pub isRecord : List ℕ → Bool

@@ -2,19 +2,20 @@
 use Prim.Native.Nat.{ℕ, zero, suc, _+_, _*_, _/_, _%_}
 use mathlib.Core.List.{List, [], _∷_, _++_}
 use lib.ListN.{length, getD}
+use Rattle.laws.specs.Choose.{ifLt}
 use Rattle.line.specs.Line.{Line}
 
 -- the mark that a record begins with: SLN
 abbrev pub mark : List ℕ
 mark = 0x53 ∷ 0x4C ∷ 0x4E ∷ []
 
--- the version of a line's record
-unfoldable pub versionOf : (used : ℕ) → ℕ
-versionOf used = 1
-
 -- the longest line of version 1
 unfoldable pub longest1 : ℕ
 longest1 = 4096
+
+-- the version of a line's record: 2 for a longer one, with the same fields
+unfoldable pub versionOf : (used : ℕ) → ℕ
+versionOf used = ifLt longest1 used 2 1
 
 -- a 16-bit number, big-endian
 abbrev pub word : ℕ → List ℕ

@@ -1,23 +1,17 @@
 // Bytes that may be a record: their tests, which run over the bytes themselves, so that nothing is written before, and the line in them.
 ghost use mathlib.Core.Path.{_≡_};
 ghost use mathlib.Core.List.{_++_};
-ghost use Prim.Native.Nat.{_+_, _*_, _<_, _≤_};
+ghost use Prim.Native.Nat.{_+_, _*_, _≤_};
 ghost use lib.ListN.{length, drop};
 ghost use Rattle.answers.specs.Limits.{roomLimit};
 ghost use Rattle.line.specs.Test.{areHoused, isOnceEach};
-ghost use Rattle.line.specs.Seen.{hasSeen, withTag};
 ghost use Rattle.stored.specs.Reading.{glyphsIn, tagsIn, homesIn, isMarked, isKnown, isOther, isOwn, isRecord};
 ghost use Rattle.stored.specs.Entries.{newestVersion};
 use answers::ROOM;
+use line::valid;
 
 // The newest version that is read.
-const NEWEST: u16 = 1;
-
-// The longest line of version 1.
-const LONGEST_1: usize = 4096;
-
-// Words of 64 bits that have a bit for each tag.
-const WORDS: usize = ROOM / 64;
+const NEWEST: u16 = 2;
 
 // Whether the mark stands at the start.
 fn is_marked(bytes: &[u8]) -> bool
@@ -62,24 +56,7 @@ fn is_own(version: u16, used: usize) -> bool
     if version != crate::writing::version_of(used) {
         return false;
     }
-    used <= LONGEST_1
-}
-
-// Whether the tag was met.
-fn has_seen(seen: &[u64; WORDS], tag: u16) -> bool
-    requires { ⌜ tag < roomLimit ⌝ }
-    ensures { λ r. ⌜ r ≡ hasSeen (now (seen .entry)) tag ⌝ }
-{
-    (seen[(tag / 64) as usize] >> (tag % 64)) % 2 == 1
-}
-
-// The tag is met.
-fn meet(seen: &mut [u64; WORDS], tag: u16)
-    requires { ⌜ tag < roomLimit ⌝ }
-    ensures { λ _. ⌜ now (seen .exit) ≡ withTag (now (seen .entry)) tag ⌝ }
-{
-    let word = (tag / 64) as usize;
-    seen[word] = seen[word] | (1 << (tag % 64));
+    used <= ROOM
 }
 
 // Whether the tags of the record are 0 to `used` - 1 once each.
@@ -87,17 +64,17 @@ fn once_each(bytes: &[u8], used: usize) -> bool
     requires { ⌜ (9 + used * 4 ≤ length (now bytes)) × (used ≤ roomLimit) ⌝ }
     ensures { λ r. ⌜ r ≡ isOnceEach (tagsIn (now (bytes .entry)) used) used ⌝ }
 {
-    let mut seen = [0u64; WORDS];
+    let mut seen = [0u64; valid::WORDS];
     let mut p = 0;
     while p < used {
         let tag = parse::u16_at(bytes, 11 + p * 4);
         if used <= tag as usize {
             return false;
         }
-        if has_seen(&seen, tag) {
+        if valid::has_seen(&seen, tag) {
             return false;
         }
-        meet(&mut seen, tag);
+        valid::mark(&mut seen, tag);
         p += 1;
     }
     true

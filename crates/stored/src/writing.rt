@@ -8,6 +8,9 @@ ghost use Rattle.line.specs.Line.{lineOf};
 ghost use Rattle.stored.specs.Record.{mark, versionOf, word, joined, placeBytes, homeBytes, recordOf, sizeOf};
 ghost use Rattle.stored.specs.Steps.{putAt};
 
+// The longest line of version 1.
+const LONGEST_1: usize = 4096;
+
 // How many bytes the record of so many places and characters has.
 pub fn size(used: usize, characters: usize) -> usize
     requires { ⌜ (used ≤ roomLimit) × (characters ≤ roomLimit) ⌝ }
@@ -20,6 +23,9 @@ pub fn size(used: usize, characters: usize) -> usize
 pub fn version_of(used: usize) -> u16
     ensures { λ r. ⌜ r ≡ versionOf used ⌝ }
 {
+    if LONGEST_1 < used {
+        return 2;
+    }
     1
 }
 

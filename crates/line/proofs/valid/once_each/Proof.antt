@@ -2,7 +2,7 @@ use Prim.Native.Nat.{_-_}
 use native.Mathlib.Omega.{arith}
 use borrow.Author.Needs.{needs}
 use Rattle.line.proofs.Seen.{Marking, marking-start, marking-large, marking-again, marking-next, marking-done}
-use Rattle.line.proofs.Room.{word-inside}
+use Rattle.line.proofs.Room.{words, word-inside}
 use Rattle.line.proofs.valid.once_each.Statement.{statement}
 use Rattle.line.proofs.valid.once_each.Tie as tie
 
@@ -13,7 +13,7 @@ abbrev μ-loop : tie.MeasureT-loop
 μ-loop tags used seen₀ p₀ seen p = used - p
 
 loop-holds : tie.Need-loop-holds Inv-loop μ-loop
-loop-holds c = marking-start _ _ 64 word-inside
+loop-holds c = marking-start _ _ words word-inside
 
 mul-tag : tie.Need-mul-tag Inv-loop μ-loop
 mul-tag c = search needs

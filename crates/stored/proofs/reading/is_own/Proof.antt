@@ -1,5 +1,5 @@
 use Rattle.stored.specs.Reading.{isOwn}
-use Rattle.stored.specs.Record.{longest1}
+use Rattle.answers.specs.Limits.{roomLimit}
 use mathlib.Core.Path.{_∙_, sym}
 use borrow.Author.Tests.{eq-eqb, ne-eqb}
 use borrow.Author.Needs.{needs}
@@ -10,11 +10,11 @@ version-of-requires : tie.Need-version-of-requires
 version-of-requires c κs = search needs
 
 returns : tie.Need-returns
-unfolding isOwn longest1
+unfolding isOwn roomLimit
 returns c = rw (ne-eqb _ _ (λ (e : _). c .if1 .taken (e ∙ sym (c .before .version-of .ensures))))
 
 returns-2 : tie.Need-returns-2
-unfolding isOwn longest1
+unfolding isOwn roomLimit
 returns-2 c = rw (eq-eqb _ _ (c .if1 .left ∙ c .before .version-of .ensures))
 
 pub is-own-spec : {M : Type 1} → statement M

@@ -1,7 +1,7 @@
 use Rattle.stored.proofs.Tests.{tags-large, tags-again, tags-next}
 use Rattle.stored.specs.Reading.{tagsIn}
 use Rattle.line.proofs.Seen.{Marking, marking-start, marking-done}
-use Rattle.line.proofs.Room.{word-inside}
+use Rattle.line.proofs.Room.{words, word-inside}
 use borrow.Author.Needs.{needs}
 use Prim.Native.Nat.{_-_}
 use native.Mathlib.Omega.{arith}
@@ -15,7 +15,7 @@ abbrev μ-loop : tie.MeasureT-loop
 μ-loop bytes used seen₀ p₀ seen p = used - p
 
 loop-holds : tie.Need-loop-holds Inv-loop μ-loop
-loop-holds c = marking-start _ _ 64 word-inside
+loop-holds c = marking-start _ _ words word-inside
 
 mul-u16-at : tie.Need-mul-u16-at Inv-loop μ-loop
 mul-u16-at c = omega arith
@@ -38,8 +38,8 @@ has-seen-requires c κs = omega arith
 returns-2 : tie.Need-returns-2 Inv-loop μ-loop
 returns-2 c = search tags-again
 
-meet-requires : tie.Need-meet-requires Inv-loop μ-loop
-meet-requires c κs = omega arith
+mark-requires : tie.Need-mark-requires Inv-loop μ-loop
+mark-requires c κs = omega arith
 
 add-p : tie.Need-add-p Inv-loop μ-loop
 add-p c = omega arith
@@ -67,7 +67,7 @@ once-each-spec =
     returns
     has-seen-requires
     returns-2
-    meet-requires
+    mark-requires
     add-p
     loop-less
     loop-again
