@@ -11,8 +11,8 @@
      subtable (its head included), state table or list of glyphs begins. Longer than AAT_LONGEST_TABLE is AAT_TABLE. Where a
      whole kern or kerx table is asked for, start 0 is no table, which has no subtables; elsewhere it is a start as any other.
    - glyph 0xFFFF is a deleted glyph. Flags told as uint32_t are set where they are not 0.
-   - The refusals are tested in this order, and where several apply, the answer is the first: AAT_TABLE, AAT_RECORD_VERSION,
-     AAT_RECORD, AAT_LINE, AAT_PLACE, AAT_STATE, AAT_HEAD, AAT_OVERLAP, AAT_SPACE.
+   - The refusals are tested in this order, and where several apply, the answer is the first: AAT_TABLE, AAT_REQUEST,
+     AAT_RECORD_VERSION, AAT_RECORD, AAT_LINE, AAT_PLACE, AAT_STATE, AAT_HEAD, AAT_OVERLAP, AAT_SPACE.
 
    The most work of a call, for a watchdog. A turn is one entry of a state table that is looked at.
    - A lookup, class or pair looks at 16 records at most, a pair of kerx at 32; aat_survey at 65,535; aat_mend at as many, with
@@ -23,7 +23,9 @@
    - A pass takes 18 turns for each place, and 18 more: 589,842 at most, in AAT_LARGEST_ROOM places. Insertion passes count
      the places of the room, whatever used is. Non-contextual and pair passes look up each place once.
    - A run makes AAT_MOST_HEADS passes at most, by a table of any length: a subtable of size 0 is visited again and again, so
-     that 400 bytes can ask for 65,534 passes, and for hours.
+     that 400 bytes can ask for 65,534 passes, and for hours. Whenever it visits a chain, a run with requests compares every
+     feature that lies in the table with each of them: 1,398,099 features of a chain that is visited again and again, and
+     AAT_MOST_REQUESTS, make some 6 x 10^12 looks.
    - A turn is a class and an entry. Besides, at most: rearrangement moves the glyphs and tags of the line; contextual
      substitution makes two lookups; kerning adds 8 numbers; insertion puts in 62 glyphs and moves the line, as long as there
      is room. The 18 turns of a ligature's step share 34 actions; each has 31 components at most, for each of which all homes
@@ -47,7 +49,7 @@ typedef __SIZE_TYPE__ size_t;
 #endif
 
 /* Rises with every entry or value that is added; what is there stays. */
-#define AAT_VERSION 8
+#define AAT_VERSION 9
 
 #ifdef __cplusplus
 extern "C" {
@@ -65,6 +67,7 @@ enum aat_answer {
     AAT_FULL = 7,    /* the next insertion would make the line longer than its room; what was done before it stays */
     AAT_ENDED = 8,   /* the work broke off, for want of an entry, a list or a slot of the stack; what was done before stays */
     AAT_LIMIT = 9,   /* a run has counted 65,535 heads and there is another; what was done before stays */
+    AAT_REQUEST = 10, /* more features are asked for than AAT_MOST_REQUESTS */
     AAT_RECORD = 11, /* the bytes are no record of a line */
     AAT_RECORD_VERSION = 12, /* they begin as a record, of another version */
     AAT_OVERLAP = 17, /* two records that a mended table would keep share a glyph */
@@ -87,6 +90,10 @@ enum aat_why {
 };
 
 enum { AAT_LONGEST_TABLE = 16777216, AAT_LARGEST_ROOM = 32768, AAT_MOST_HEADS = 65535, AAT_DELETED = 0xFFFF };
+enum { AAT_MOST_REQUESTS = 64 };
+
+/* A feature as a run is asked for it: its type times 65,536 plus its setting, both of 16 bits. */
+#define AAT_FEATURE(type, setting) ((uint32_t)(type) * 65536 + (uint32_t)(setting))
 
 /* How many numbers each state, cursor and row of fields has, and which number is which. */
 enum aat_sizes {
@@ -278,6 +285,17 @@ uint32_t aat_morx_pass(const uint8_t *table, size_t table_len, size_t start, uin
 uint32_t aat_morx_run(const uint8_t *table, size_t table_len, size_t start, uint32_t right_to_left, uint16_t *glyphs,
                       size_t glyphs_len, uint16_t *tags, size_t tags_len, uint16_t *homes, size_t homes_len, size_t *used,
                       uint32_t *heads);
+
+/* The same with features that are asked for, each an AAT_FEATURE: a chain begins with its default flags, and its features are
+   gone through in the table's order. One that is asked for clears the flags that its last field does not keep, then sets those
+   of the field before. The flags at the end choose the chain's subtables. The list ends at the first feature that does not lie
+   wholly in the table. Requests that no feature answers do nothing, and so do their order and repetition; features are not
+   heads. With no requests it is aat_morx_run.
+   Answers: as aat_morx_run; AAT_REQUEST (more than AAT_MOST_REQUESTS), behind AAT_TABLE.
+   Writes: as aat_morx_run. */
+uint32_t aat_morx_run_with(const uint8_t *table, size_t table_len, size_t start, uint32_t right_to_left,
+                           const uint32_t *requests, size_t requests_len, uint16_t *glyphs, size_t glyphs_len, uint16_t *tags,
+                           size_t tags_len, uint16_t *homes, size_t homes_len, size_t *used, uint32_t *heads);
 
 /* The lists of a morx table: its chains, and each chain's features and subtables
 

@@ -66,10 +66,11 @@
                                buffer, size 8
       47 read_line             glyphs, tags, homes, used 8,      answer 4, glyphs, tags, homes, used 8, characters 8
                                characters 8
+      48 morx_run_with         as 14, then requests              as 14
 
    A name or a buffer is its length 4 and the bytes. Glyphs, tags, homes and new numbers of records are each a count 4 and so many
-   numbers 2, the adjustments along the line a count 4 and so many numbers 8; a reply has the bytes or numbers alone. The record
-   that is read is the table.
+   numbers 2, the adjustments along the line a count 4 and so many numbers 8; a reply has the bytes or numbers alone. Requests
+   are a count 4 and so many numbers 4. The record that is read is the table.
 
    Replies are sent when the input runs dry. Exit status 0 when it ends between calls, 1 for anything out of this form. */
 
@@ -106,6 +107,9 @@ static size_t buffer_len, size;
 
 /* The new numbers of a lookup's records: more than there can be. */
 static uint16_t numbers[65536 + 64];
+
+/* More requests than are taken, so that the refusal can be asked for. */
+static uint32_t requests[1024];
 
 /* A step's state, what it is told, and what it hands over. */
 static uint64_t state[AAT_LIGATURE_STATE], edits[AAT_EDITS];
@@ -314,6 +318,21 @@ static void morx_run(void) {
     uint32_t heads = (uint32_t)take(4);
     put(aat_morx_run(table, table_len, start, right_to_left, glyphs.numbers, glyphs.len, tags.numbers, tags.len,
                      homes.numbers, homes.len, &used, &heads),
+        4);
+    put_line();
+    put(heads, 4);
+    put(used, 8);
+}
+
+static void morx_run_with(void) {
+    take_pass();
+    uint32_t right_to_left = (uint32_t)take(4);
+    uint32_t heads = (uint32_t)take(4);
+    size_t requests_len = take(4);
+    if (requests_len > sizeof requests / sizeof requests[0]) exit(1);
+    for (size_t i = 0; i < requests_len; i++) requests[i] = (uint32_t)take(4);
+    put(aat_morx_run_with(table, table_len, start, right_to_left, requests, requests_len, glyphs.numbers, glyphs.len, tags.numbers,
+                          tags.len, homes.numbers, homes.len, &used, &heads),
         4);
     put_line();
     put(heads, 4);
@@ -585,6 +604,7 @@ static void answer(uint8_t call) {
     case 45: mend(); break;
     case 46: store_line(); break;
     case 47: read_line(); break;
+    case 48: morx_run_with(); break;
     default: exit(1);
     }
 }

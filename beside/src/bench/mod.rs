@@ -120,6 +120,7 @@ fn groups(random: &mut Random) -> Vec<Group> {
         timed_shaping::group(random),
         Group::new("Mended lookup tables", timed_mending::subjects(random)),
         Group::new("Stored lines", timed_storing::subjects(random)),
+        Group::new("Runs of morx that are asked for features", timed_passes::featured(random)),
     ]
 }
 
@@ -217,10 +218,10 @@ pub fn calls_on(length: usize) -> usize {
     (20_480 / length).max(1)
 }
 
-/// A number below a million with its thousands apart.
+/// A number with its thousands apart.
 pub fn grouped(number: usize) -> String {
     match number / 1_000 {
         0 => number.to_string(),
-        thousands => format!("{},{:03}", thousands, number % 1_000),
+        thousands => format!("{},{:03}", grouped(thousands), number % 1_000),
     }
 }

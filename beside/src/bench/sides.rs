@@ -155,6 +155,7 @@ pub mod ours {
         aat_ligature_pass(; usize);
         aat_insertion_pass(; *mut u64);
         aat_morx_run(u32; *mut u64, *mut u32);
+        aat_morx_run_with(u32, *const u32, usize; *mut u64, *mut u32);
         aat_kern_pass(u16; usize, *mut i64, usize);
         aat_kerx_pass(u16; usize, *mut i64, usize);
         aat_kern_pass_by(u16; usize, *mut i64, usize, u32);
@@ -247,6 +248,13 @@ pub mod ours {
         call!(aat_morx_run, table, 0, [0], line, [&mut line.used, &mut heads]);
     }
 
+    /// The same with these features asked for.
+    #[inline(always)]
+    pub fn run_with(line: &mut Line, table: &[u8], requests: &[u32]) {
+        let (mut heads, asked, count) = (0, requests.as_ptr(), requests.len());
+        call!(aat_morx_run_with, table, 0, [0, asked, count], line, [&mut line.used, &mut heads]);
+    }
+
     /// The mended lookup table that the table begins with.
     #[inline(always)]
     pub fn mend(table: &[u8], buffer: &mut [u8], numbers: &mut [u16]) {
@@ -333,6 +341,7 @@ pub mod theirs {
     use crate::reference::oracle::aat::{self, kern, kerx, morx, ExtendedStateTable, StateTable};
     use crate::reference::oracle::Bytes;
     use crate::reference::passes_by_crate::{self, is_chosen};
+    use crate::reference::run::flags_of;
     use crate::tables::morx::the_subtable;
 
     /// The element of a glyph.
@@ -378,16 +387,29 @@ pub mod theirs {
     #[inline(never)]
     pub fn run(line: &mut Line, table: &[u8]) {
         for chain in morx::chains(table, 0) {
-            for subtable in chain.subtables().filter(|subtable| is_chosen(&chain, subtable)) {
-                if let Some(kind) = subtable.kind() {
-                    let is_turned = subtable.should_reverse(false);
-                    if is_turned {
-                        line.reverse();
-                    }
-                    passes_by_crate::pass(&kind, line);
-                    if is_turned {
-                        line.reverse();
-                    }
+            run_chain(line, &chain, chain.default_flags());
+        }
+    }
+
+    /// The same with these features asked for.
+    #[inline(never)]
+    pub fn run_with(line: &mut Line, table: &[u8], requests: &[u32]) {
+        for chain in morx::chains(table, 0) {
+            run_chain(line, &chain, flags_of(&chain, requests));
+        }
+    }
+
+    #[inline(always)]
+    fn run_chain(line: &mut Line, chain: &morx::Chain, flags: u32) {
+        for subtable in chain.subtables().filter(|subtable| is_chosen(flags, subtable)) {
+            if let Some(kind) = subtable.kind() {
+                let is_turned = subtable.should_reverse(false);
+                if is_turned {
+                    line.reverse();
+                }
+                passes_by_crate::pass(&kind, line);
+                if is_turned {
+                    line.reverse();
                 }
             }
         }

@@ -4,6 +4,7 @@ use crate::bench::sides::{ours, theirs};
 use crate::bench::timing::Subject;
 use crate::bench::{calls_on, grouped, LENGTHS, LONG_LENGTHS};
 use crate::reference::line::Line;
+use crate::reference::oracle::LONGEST_TABLE;
 use crate::reference::pass::line_of;
 use crate::tables::ligature::{most_scans, pairs};
 use crate::tables::lookup::{with_values, words};
@@ -61,6 +62,29 @@ fn ligatures(name: String, body: &[u8], glyphs: &[u16]) -> Subject {
     Subject::of_work(name, 1, line_of(glyphs, glyphs.len()), true, ours, theirs)
 }
 
+/// Runs that are asked for features, of as many as a font has and of as many as a table can hold; the last of them, which is asked
+/// for last, chooses the subtables.
+pub fn featured(random: &mut Random) -> Vec<Subject> {
+    let subtables = subtables(random, 10);
+    let most = (LONGEST_TABLE - 24 - subtables.concat().len()) / 12;
+    let rows = [(12, 1), (12, 3), (40, 3), (40, 64), (most, 64)];
+    rows.map(|(features, requests)| {
+        let feature = |number: usize| [number as u32 % 0xFFFF, u32::from(number + 1 == features), u32::MAX];
+        let list: Vec<u8> = (0..features).flat_map(feature).flat_map(u32::to_be_bytes).collect();
+        let table = Rc::new(morx(&[chain(0, &list, &subtables)]));
+        let last = (features as u32 - 1) % 0xFFFF;
+        let asked: Rc<Vec<u32>> = Rc::new((1..requests).map(|number| number << 16 | 7).chain([last]).collect());
+        let line = Line::any(random, 256, 256, usize::from(CLASSED));
+        let (our_table, our_requests) = (table.clone(), asked.clone());
+        let ours = move |line: &mut Line| ours::run_with(line, &our_table, &our_requests);
+        let theirs = move |line: &mut Line| theirs::run_with(line, &table, &asked);
+        let name = format!("run of morx over 256 places, {} features, {} requests", grouped(features), requests);
+        let calls = if features == most { 1 } else { calls_on(256) };
+        Subject::of_work(name, calls, line, true, ours, theirs)
+    })
+    .into()
+}
+
 /// A pass whose times are asked for.
 struct Pass {
     name: &'static str,
@@ -114,8 +138,13 @@ pub fn run_over(random: &mut Random, name: String, glyphs: &[Vec<u16>]) -> Subje
     Subject::of_lines(name, lines.len(), lines, ours, theirs)
 }
 
-/// A table of so many subtables, of all kinds in turn; those that could put glyphs in only mark them.
+/// A table of so many subtables.
 fn with_subtables(random: &mut Random, count: usize) -> Vec<u8> {
+    morx(&[chain(1, &[], &subtables(random, count))])
+}
+
+/// So many subtables, of all kinds in turn; those that could put glyphs in only mark them.
+fn subtables(random: &mut Random, count: usize) -> Vec<Vec<u8>> {
     let kinds = [
         rearrangement_passes(random)[1].table.clone(),
         noncontextual_passes()[0].table.clone(),
@@ -123,8 +152,7 @@ fn with_subtables(random: &mut Random, count: usize) -> Vec<u8> {
         insertion_pass(random, 0).table,
         ligature_pass(random).table,
     ];
-    let subtables: Vec<Vec<u8>> = kinds.into_iter().cycle().take(count).collect();
-    morx(&[chain(1, &[], &subtables)])
+    kinds.into_iter().cycle().take(count).collect()
 }
 
 /// A class table of this format with any of the classes 4 to 7 for a glyph.

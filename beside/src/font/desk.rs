@@ -33,7 +33,9 @@ impl Desk<'_> {
 
     /// Shows a line and what was asked for besides, with a language's index by both sides; whether crate and box say the same.
     pub fn shape(&mut self, wish: &Wish, glyphs: &[u16], languages: Option<[String; 2]>) -> Result<bool, String> {
-        if self.hb_shape.is_none() {
+        if !wish.requests.is_empty() {
+            println!("HarfBuzz is not shown, as it is not asked for features by type and setting");
+        } else if self.hb_shape.is_none() {
             println!("HarfBuzz is not shown, as hb-shape is not in the path (Debian has it in libharfbuzz-bin)");
         }
         let faults = list(self.font, &self.tables, &mut self.the_box)?.faults.len();

@@ -119,7 +119,9 @@ pub fn tell_morx(run: &Run, line: &mut Line, look: &Look, rows: &Rows) -> Result
     let show = &mut |visit: Visit, line: &Line| {
         if chain != Some(visit.number.0) {
             chain = Some(visit.number.0);
-            teller.say(format!("morx chain {}: default flags {:08X}", visit.number.0, visit.default_flags));
+            let default = format!("morx chain {}: default flags {:08X}", visit.number.0, visit.default_flags);
+            let asked_for = format!(", by the features {:08X}", visit.chain_flags);
+            teller.say(default + if run.requests.is_empty() { "" } else { &asked_for });
         }
         if left != *line {
             fault = Some(Fault::Disputed);
@@ -143,8 +145,9 @@ fn tell_visit(visit: &Visit, line: &mut Line) -> Result<Told, Fault> {
     let mut told =
         Told { subtable: Subtable::of_morx(visit.number), about: String::new(), edits: Vec::new(), end: None };
     let verdict = match &visit.opened {
-        _ if visit.default_flags & visit.flags == 0 => {
-            format!("passed over, as the chain's default flags {:08X} have none of its own", visit.default_flags)
+        _ if visit.chain_flags & visit.flags == 0 => {
+            let flags = if visit.chain_flags == visit.default_flags { "default flags" } else { "flags" };
+            format!("passed over, as the chain's {} {:08X} have none of its own", flags, visit.chain_flags)
         }
         _ if !visit.is_chosen => "passed over, as it is for vertical text".into(),
         None => "passed over, as it can't be opened".into(),

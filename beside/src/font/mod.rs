@@ -80,14 +80,17 @@ fn shape(words: &[String]) -> Result<bool, String> {
     let file = std::fs::read(&wish.file).map_err(|error| format!("{}: {}", wish.file, error))?;
     let in_file = |why: String| format!("{}: {}", wish.file, why);
     let font = Font::open(&file, wish.font).map_err(in_file)?;
-    let tables = Tables::of(&font).map_err(in_file)?;
+    let mut tables = Tables::of(&font).map_err(in_file)?;
+    tables.requests.clone_from(&wish.requests);
     let glyphs = glyphs_of_line(&wish.typed, &font).map_err(in_file)?;
     let mut the_box = start(command)?;
     let languages =
         wish.language.as_ref().map(|name| tables.language(name, &mut the_box)).transpose().map_err(in_file)?;
     println!("{}: {}", wish.file, tables.describe());
     let look = Look::new(&font, wish.is_whole);
-    let mut desk = Desk { font: &font, tables, look, the_box, hb_shape: HbShape::find() };
+    // HarfBuzz takes features by their tags, and not by type and setting.
+    let hb_shape = if wish.requests.is_empty() { HbShape::find() } else { None };
+    let mut desk = Desk { font: &font, tables, look, the_box, hb_shape };
     if wish.surveys {
         return desk.survey();
     }

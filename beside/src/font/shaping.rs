@@ -14,7 +14,7 @@ use crate::reference::shaper::SHAPER_ROOM;
 use crate::reference::{kerning_run, run};
 use crate::wire::along::along_of;
 use crate::wire::entries::Entry;
-use crate::wire::pipe::{lend_bytes, lend_table, TheBox};
+use crate::wire::pipe::{lend_bytes, lend_requests, lend_table, TheBox};
 use crate::wire::reply::number;
 use std::collections::BTreeSet;
 use std::io;
@@ -26,6 +26,8 @@ pub struct Tables {
     kerx: Option<Vec<u8>>,
     kern: Option<Vec<u8>>,
     ltag: Option<Vec<u8>>,
+    /// The features that runs of morx are asked for.
+    pub requests: Vec<u32>,
 }
 
 const START: u64 = ALONE_AT as u64;
@@ -41,8 +43,8 @@ pub struct Shaped {
 }
 
 /// The answers by their numbers.
-pub const ANSWERS: [&str; 10] =
-    ["DONE", "NOTHING", "TABLE", "LINE", "PLACE", "STATE", "HEAD", "FULL", "ENDED", "LIMIT"];
+pub const ANSWERS: [&str; 11] =
+    ["DONE", "NOTHING", "TABLE", "LINE", "PLACE", "STATE", "HEAD", "FULL", "ENDED", "LIMIT", "REQUEST"];
 
 impl Shaped {
     /// The characters that belong to a tag.
@@ -65,7 +67,7 @@ impl Tables {
         if [&morx, &kerx, &kern, &ltag].iter().all(|table| table.is_none()) {
             return Err("it has none of the tables morx, kerx, kern and ltag".into());
         }
-        Ok(Tables { glyphs: font.glyphs(), morx, kerx, kern, ltag })
+        Ok(Tables { glyphs: font.glyphs(), morx, kerx, kern, ltag, requests: Vec::new() })
     }
 
     fn all(&self) -> [(&'static str, &Option<Vec<u8>>); 4] {
@@ -103,7 +105,7 @@ impl Tables {
     pub fn by_crate(&self, glyphs: &[u16], right_to_left: bool) -> Result<Shaped, Fault> {
         let mut shaped = Shaped { line: lent_line(glyphs), runs: Vec::new(), along: Vec::new() };
         if let Some(table) = &self.morx {
-            let run = run::Run { table, start: START, right_to_left };
+            let run = run::Run { table, start: START, right_to_left, requests: &self.requests };
             let (answer, heads) = match run.refusal(&shaped.line) {
                 Some(refusal) => (refusal, 0),
                 None => run.make(&mut shaped.line, &mut |_, _| {})?,
@@ -128,10 +130,14 @@ impl Tables {
         let mut shaped = Shaped { line: lent_line(glyphs), runs: Vec::new(), along: Vec::new() };
         let direction = u32::from(right_to_left).to_le_bytes();
         if let Some(table) = &self.morx {
-            let mut call = call_of(table, Entry::MorxRun);
+            let is_plain = self.requests.is_empty();
+            let mut call = call_of(table, if is_plain { Entry::MorxRun } else { Entry::MorxRunWith });
             shaped.line.lend(&mut call);
             call.extend(START.to_le_bytes());
             call.extend([direction, [0; 4]].concat());
+            if !is_plain {
+                lend_requests(&self.requests, &mut call);
+            }
             let reply = the_box.exchange(&call, line_bytes(&shaped.line) + 12)?;
             let (line, rest) = reply.split_at(line_bytes(&shaped.line));
             read_line(&mut shaped.line, line);
@@ -186,7 +192,11 @@ impl Tables {
         };
         if let Some(table) = &self.morx {
             let mut met = Met::new(table, self.glyphs);
-            met_morx::watch(&mut met, &run::Run { table, start: START, right_to_left }, &mut line);
+            met_morx::watch(
+                &mut met,
+                &run::Run { table, start: START, right_to_left, requests: &self.requests },
+                &mut line,
+            );
             add(met);
         }
         for (kerning, table) in self.kernings() {
@@ -214,7 +224,7 @@ impl Tables {
             return Ok(());
         }
         if let Some(table) = &self.morx {
-            let run = run::Run { table, start: START, right_to_left };
+            let run = run::Run { table, start: START, right_to_left, requests: &self.requests };
             tell_morx(&run, &mut line, look, rows).map_err(in_words)?;
         }
         for (kerning, table) in self.kernings() {

@@ -1,13 +1,14 @@
 //! What is asked for, by the words of the command.
 
 use crate::font::characters::{runs_to_left, unicodes};
+use crate::reference::run::request;
 
 /// As the script has it, which puts in the box's command.
 pub const USAGE: &str = "usage: font [OPTION..] FILE GLYPH.. | FILE --text TEXT | FILE -u UNICODES
        font [--font N] FILE --survey
        font --wrap FONT NAME=FILE..
        font --test [tried | published] | --harfbuzz
-options: --font N, --right-to-left, --both-ways, --language NAME, --trace, --whole";
+options: --font N, --right-to-left, --both-ways, --feature TYPE:SETTING, --language NAME, --trace, --whole";
 
 /// A font's file, a line, and what to do with them.
 #[derive(Default)]
@@ -16,6 +17,8 @@ pub struct Wish {
     /// Whether it is shaped from right to left, once or more; by its text where that is not told.
     told_ways: Option<Vec<bool>>,
     pub language: Option<String>,
+    /// The features that are asked for.
+    pub requests: Vec<u32>,
     pub file: String,
     pub typed: Typed,
     /// Whether what each subtable did is shown.
@@ -58,6 +61,7 @@ impl Wish {
             match option {
                 "--font" => wish.font = Some(value.parse().map_err(|_| format!("{} is no font's number", value))?),
                 "--language" => wish.language = Some(value.into()),
+                "--feature" => wish.requests.push(request_of(value)?),
                 "--text" => text = Some(value.chars().map(u32::from).collect()),
                 "-u" | "--unicodes" => text = Some(unicodes(value)?),
                 _ => return Err(USAGE.into()),
@@ -94,6 +98,13 @@ impl Wish {
         };
         self.told_ways.clone().unwrap_or_else(by_text)
     }
+}
+
+/// The request for a feature, as 37:1.
+fn request_of(word: &str) -> Result<u32, String> {
+    let parts = word.split_once(':').and_then(|(kind, setting)| Some((kind.parse().ok()?, setting.parse().ok()?)));
+    let (kind, setting) = parts.ok_or(format!("{} is no feature's type and setting, as 37:1", word))?;
+    Ok(request(kind, setting))
 }
 
 /// The longest line that is taken, which is longer than the largest room.

@@ -59,7 +59,7 @@ impl Case {
         }
         let (table, start) = (&self.table[..], self.start as u32);
         match self.question.entry() {
-            Entry::MorxRun => {
+            Entry::MorxRun | Entry::MorxRunWith => {
                 let mut left = MOST_HEADS;
                 chains(table, start).any(|chain| {
                     left = left.saturating_sub(1 + chain.subtables().take(left).count());

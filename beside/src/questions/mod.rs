@@ -1,6 +1,7 @@
 //! The questions that are put to both sides, one file for the entries of a part.
 
 pub mod classes;
+pub mod features;
 pub mod kerning_choices;
 pub mod kerning_lists;
 pub mod kerning_pairs;
@@ -57,6 +58,10 @@ pub trait Question {
     }
     /// The same question to the entry that is told these choices, where there is one.
     fn with_choices(&self, _choices: Choices) -> Option<Box<dyn Question>> {
+        None
+    }
+    /// The same question to the entry that is told what features are asked for, where there is one: some of the table's, or none.
+    fn with_requests(&self, _table: &[u8], _random: &mut Random) -> Option<Box<dyn Question>> {
         None
     }
     /// What the crate does, step by step, where there are steps.
@@ -130,6 +135,7 @@ pub static PARTS: &[&dyn Part] = &[
     &kerning_choices::ByChoices(Kerx),
     &mended::MendedTables,
     &stored::StoredLines,
+    &features::Features,
 ];
 
 /// The part that an entry belongs to.

@@ -3,6 +3,7 @@
 use crate::fuzz::case::Chosen;
 use crate::fuzz::seeds::{self, Seed};
 use crate::fuzz::source::Source;
+use crate::questions::features::any_requests;
 use crate::questions::passes::for_each_table;
 use crate::questions::{Ask, Part, Question};
 use crate::reference::line::Line;
@@ -17,22 +18,25 @@ use crate::tables::morx::{any_morx, chain, chosen_subtable, morx, puts_in, subta
 use crate::tables::random::Random;
 use crate::tables::strings::for_each_string;
 use crate::wire::entries::Entry;
-use crate::wire::reply::number;
+use crate::wire::pipe::lend_requests;
+use crate::wire::reply::{describe, number};
 use std::rc::Rc;
 
-/// A call of `aat_morx_run`.
+/// A call of `aat_morx_run`, or of `aat_morx_run_with`, which is told what features are asked for.
 pub struct MorxRun {
     pub line: Line,
     pub start: u64,
     /// Not 0 where the text runs from right to left.
     pub right_to_left: u32,
+    pub requests: Option<Vec<u32>>,
     /// What a document gives, with the heads, for its own examples.
     pub written: Option<(Written, u32)>,
 }
 
 impl MorxRun {
-    fn run<'a>(&self, table: &'a [u8]) -> Run<'a> {
-        Run { table, start: self.start, right_to_left: self.right_to_left != 0 }
+    fn run<'a>(&'a self, table: &'a [u8]) -> Run<'a> {
+        let requests = self.requests.as_deref().unwrap_or(&[]);
+        Run { table, start: self.start, right_to_left: self.right_to_left != 0, requests }
     }
 
     /// The answer, the line as the call has to leave it, and the heads, where they are counted.
@@ -52,7 +56,7 @@ impl MorxRun {
 
 impl Question for MorxRun {
     fn entry(&self) -> Entry {
-        Entry::MorxRun
+        self.requests.as_ref().map_or(Entry::MorxRun, |_| Entry::MorxRunWith)
     }
 
     fn arguments(&self, held: u64, call: &mut Vec<u8>) {
@@ -60,6 +64,9 @@ impl Question for MorxRun {
         call.extend(self.start.to_le_bytes());
         call.extend(self.right_to_left.to_le_bytes());
         call.extend((held as u32).to_le_bytes());
+        if let Some(requests) = &self.requests {
+            lend_requests(requests, call);
+        }
     }
 
     fn reply(&self, table: &[u8], held: u64, reply: &mut Vec<u8>) -> Result<(), Fault> {
@@ -72,7 +79,15 @@ impl Question for MorxRun {
 
     fn describe(&self, held: u64) -> String {
         let (start, flag) = (self.start, self.right_to_left);
-        format!("run at start {}, right to left {}, lent heads {}, {}", start, flag, held as u32, self.line.describe())
+        let run = format!("run at start {}, right to left {}, lent heads {}", start, flag, held as u32);
+        let requests = self.requests.as_ref().map_or(String::new(), |requests| describe_requests(requests));
+        format!("{}{}, {}", run, requests, self.line.describe())
+    }
+
+    fn with_requests(&self, table: &[u8], random: &mut Random) -> Option<Box<dyn Question>> {
+        let requests = any_requests(random, table, self.start);
+        let written = if requests.is_empty() { self.written.clone() } else { None };
+        Some(Box::new(MorxRun { line: self.line.clone(), requests: Some(requests), written, ..*self }))
     }
 
     fn describe_reply(&self, reply: &[u8]) -> String {
@@ -87,6 +102,13 @@ impl Question for MorxRun {
             Some(_) => Vec::new(),
         }
     }
+}
+
+/// The features that are asked for in words.
+fn describe_requests(requests: &[u32]) -> String {
+    let requests: Vec<String> =
+        requests.iter().map(|request| format!("{}:{}", request >> 16, request & 0xFFFF)).collect();
+    format!(", requests {}", describe(&requests))
 }
 
 /// Runs of morx.
@@ -115,7 +137,7 @@ impl Part for Runs {
 
     fn chosen(&self, _entry: Entry, chosen: Chosen, _source: &mut Source) -> Box<dyn Question> {
         let Chosen { start, right_to_left, lent, .. } = chosen;
-        Box::new(MorxRun { line: lent.line, start, right_to_left, written: None })
+        Box::new(MorxRun { line: lent.line, start, right_to_left, requests: None, written: None })
     }
 
     fn seed(&self, random: &mut Random, _entry: Entry) -> Seed {
@@ -132,7 +154,7 @@ fn ask_run(asked: &mut dyn Ask, table: &Rc<[u8]>, start: usize, line: &Line) {
 
 fn ask_one_way(asked: &mut dyn Ask, table: &Rc<[u8]>, start: usize, line: &Line, right_to_left: u32) {
     let (line, start) = (line.clone(), start as u64);
-    asked.ask(table, Box::new(MorxRun { line, start, right_to_left, written: None }));
+    asked.ask(table, Box::new(MorxRun { line, start, right_to_left, requests: None, written: None }));
 }
 
 /// Document 01's run, and what it says of chains and subtables.
@@ -157,7 +179,7 @@ fn examples(asked: &mut dyn Ask) {
     for (table, glyphs, heads) in written {
         let written = Written { answer: Answer::Done(()), glyphs: glyphs.to_vec(), homes: Some(vec![0, 1, 2]) };
         let line = line_of(&same, 3);
-        let run = MorxRun { line, start: 0, right_to_left: 0, written: Some((written, heads)) };
+        let run = MorxRun { line, start: 0, right_to_left: 0, requests: None, written: Some((written, heads)) };
         asked.ask(&Rc::from(table), Box::new(run));
     }
 }
@@ -266,6 +288,6 @@ fn random_tables(asked: &mut dyn Ask, random: &mut Random, cases: u64) {
         let mut line = any_line_of(random, glyphs, used, room);
         spoil(random, &mut line);
         let right_to_left = random.among(&[0, 1, 2, u32::MAX]);
-        asked.ask(table, Box::new(MorxRun { line, start, right_to_left, written: None }));
+        asked.ask(table, Box::new(MorxRun { line, start, right_to_left, requests: None, written: None }));
     });
 }

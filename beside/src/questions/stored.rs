@@ -452,7 +452,7 @@ fn run_on(asked: &mut dyn Ask, random: &mut Random, cases: u64) {
     for_each_table(random, cases / 3, any_morx, &mut |random, table, start, glyphs, used| {
         let room = used + random.among(&[0, 1, 9, 40]);
         let mut never_stored = any_line_of(random, glyphs, used, room);
-        let run = Run { table, start, right_to_left: random.once_in(2) };
+        let run = Run { table, start, right_to_left: random.once_in(2), requests: &[] };
         // A fault in the run is for the runs to show.
         if run.refusal(&never_stored).is_some() || run.make(&mut never_stored, &mut |_, _| {}).is_err() {
             return;
@@ -472,13 +472,13 @@ fn run_on(asked: &mut dyn Ask, random: &mut Random, cases: u64) {
 fn ask_same_run(asked: &mut dyn Ask, table: &Rc<[u8]>, start: u64, right_to_left: u32, lines: &[Line; 2]) {
     let mut left = lines.clone();
     for line in &mut left {
-        let _ = Run { table, start, right_to_left: right_to_left != 0 }.make(line, &mut |_, _| {});
+        let _ = Run { table, start, right_to_left: right_to_left != 0, requests: &[] }.make(line, &mut |_, _| {});
     }
     for [one, other] in [lines, &left] {
         let [one, other] = [one, other].map(|line| (record_of(line), line.used));
         assert!(one == other, "a line that was stored runs on otherwise");
     }
     for line in lines {
-        asked.ask(table, Box::new(MorxRun { line: line.clone(), start, right_to_left, written: None }));
+        asked.ask(table, Box::new(MorxRun { line: line.clone(), start, right_to_left, requests: None, written: None }));
     }
 }

@@ -3,7 +3,7 @@
 
 use crate::reference::line::Line;
 use crate::reference::oracle::aat::morx::{
-    Chain, Contextual, ContextualState, Insertion, InsertionState, Ligature, LigatureState, NonContextual,
+    Contextual, ContextualState, Insertion, InsertionState, Ligature, LigatureState, NonContextual,
     Rearrangement, RearrangementState, Subtable, SubtableKind,
 };
 use crate::reference::oracle::{caught_as_none, Answer, Fault};
@@ -29,11 +29,11 @@ pub fn caught_pass(subtable: &SubtableKind, line: &mut Line) -> Result<Answer<()
 const VERTICAL: u32 = 0x8000_0000;
 const BOTH_WAYS: u32 = 0x2000_0000;
 
-/// Whether a run makes the pass by a chain's subtable, if that is of a kind that can be read.
-pub fn is_chosen(chain: &Chain, subtable: &Subtable) -> bool {
+/// Whether a run makes the pass by the subtable of a chain with these flags, if that is of a kind that can be read.
+pub fn is_chosen(flags: u32, subtable: &Subtable) -> bool {
     let coverage = subtable.coverage();
     let is_vertical = coverage & VERTICAL != 0 && coverage & BOTH_WAYS == 0;
-    chain.default_flags() & subtable.flags() != 0 && !is_vertical
+    flags & subtable.flags() != 0 && !is_vertical
 }
 
 /// The number of a subtable's kind.

@@ -58,7 +58,8 @@ pub fn shaped(input: &[u8]) -> Result<Shaped, Fault> {
         Err(answer) => return Ok(Shaped::refused(answer)),
     };
     let mut line = line_of(&glyphs, SHAPER_ROOM);
-    let (answer, heads) = Run { table, start: 0, right_to_left: false }.make(&mut line, &mut |_, _| {})?;
+    let (answer, heads) =
+        Run { table, start: 0, right_to_left: false, requests: &[] }.make(&mut line, &mut |_, _| {})?;
     Ok(Shaped { answer, heads, line })
 }
 

@@ -182,7 +182,7 @@ fn any_chain(random: &mut Random, glyphs: &Range<u16>) -> Vec<u8> {
     made
 }
 
-fn any_chained(random: &mut Random, glyphs: &Range<u16>) -> Vec<u8> {
+pub fn any_chained(random: &mut Random, glyphs: &Range<u16>) -> Vec<u8> {
     let kind: &Kind = &KINDS[random.below(KINDS.len())];
     let number = if random.once_in(20) { random.below(256) as u32 } else { kind.number };
     let bits = if random.once_in(8) { random.number() as u32 & !0xFF } else { random.among(&ORDERS) };

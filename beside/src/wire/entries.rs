@@ -63,4 +63,5 @@ entries! {
     Mend "aat_mend",
     StoreLine "aat_store_line",
     ReadLine "aat_read_line",
+    MorxRunWith "aat_morx_run_with",
 }

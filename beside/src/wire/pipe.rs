@@ -64,3 +64,9 @@ pub fn lend_numbers(numbers: &[u16], batch: &mut Vec<u8>) {
 pub fn add_numbers(numbers: &[u16], batch: &mut Vec<u8>) {
     batch.extend(numbers.iter().flat_map(|number| number.to_le_bytes()));
 }
+
+/// Adds the count of the features that are asked for, and these.
+pub fn lend_requests(requests: &[u32], batch: &mut Vec<u8>) {
+    batch.extend((requests.len() as u32).to_le_bytes());
+    batch.extend(requests.iter().flat_map(|request| request.to_le_bytes()));
+}

@@ -1,4 +1,6 @@
 -- Laws of the heads of a morx table.
 mod Starts
 pub mod Manual
+pub mod Switching
+pub mod ManualFlags
 pub mod ManualWalk

@@ -64,7 +64,7 @@ module _ (table : List ℕ) (place n : ℕ) where
   unfolding nextChain chainAt
   chain-here h = rw (some-left, inside-yes table place 16 (omega arith) (omega arith), one-less, nextChain)
 
-  feature-here : place + 12 ≤ length table → nextFeature table (cursor place (suc n)) ≡ Feature′.At (manualFeature table place n)
+  pub feature-here : place + 12 ≤ length table → nextFeature table (cursor place (suc n)) ≡ Feature′.At (manualFeature table place n)
   unfolding nextFeature featureAt
   feature-here h = rw (some-left, inside-yes table place 12 (omega arith) (omega arith), one-less, nextFeature)
 
@@ -84,7 +84,7 @@ module _ (table : List ℕ) (place n : ℕ) where
   unfolding nextChain
   chain-cut h = rw (some-left, inside-cut table place 16 (omega arith), nextChain)
 
-  feature-cut : length table < place + 12 → nextFeature table (cursor place (suc n)) ≡ Feature′.End
+  pub feature-cut : length table < place + 12 → nextFeature table (cursor place (suc n)) ≡ Feature′.End
   unfolding nextFeature
   feature-cut h = rw (some-left, inside-cut table place 12 (omega arith), nextFeature)
 
@@ -97,7 +97,7 @@ module _ (table : List ℕ) (place : ℕ) where
   unfolding nextChain
   chain-none = refl
 
-  feature-none : nextFeature table (cursor place 0) ≡ Feature′.End
+  pub feature-none : nextFeature table (cursor place 0) ≡ Feature′.End
   unfolding nextFeature
   feature-none = refl
 
@@ -122,7 +122,7 @@ module _ (table : List ℕ) (bytes : ℕ) (size : ℕ → ℕ) (after : ℕ → 
 module _ {A : Type 0} (next : Cursor → A) (end : A) (table : List ℕ) (bytes : ℕ) (places : ℕ → ℕ) (total : ℕ)
     (none : (place : ℕ) → next (cursor place 0) ≡ end)
     (cut : (place n : ℕ) → length table < place + bytes → next (cursor place (suc n)) ≡ end) where
-  ends-there : (n : ℕ) → EndsAt table bytes places total n → next (cursor (places n) (total - n)) ≡ end
+  pub ends-there : (n : ℕ) → EndsAt table bytes places total n → next (cursor (places n) (total - n)) ≡ end
   ends-there n e = go (total - n) refl
     where
       go : (left : ℕ) → total - n ≡ left → next (cursor (places n) left) ≡ end

@@ -1,13 +1,15 @@
 -- Apple's manual on morx tables: where chain i, its feature j and its subtable k begin, what their fields are, what a coverage says, and the heads of
 -- a table one after the other. The manual was not at hand: docs/DIFFERENCES.md says what these lines rest on.
 use Prim.Native.Nat.{ℕ, zero, suc, _+_, _*_, _-_, _%_, _≤_, _<_}
-use mathlib.Core.Bool.{Bool, true, false, not}
+use mathlib.Core.Bool.{Bool, true, false, not, cond}
 use mathlib.Core.List.{List, [], _∷_, _++_}
+use lib.Bits.{bitAnd, bitOr}
 use lib.ListN.{length}
 use Rattle.laws.specs.Bits.{isSet}
 use Rattle.laws.specs.Choose.{ifLt}
 use Rattle.laws.specs.Lists.{both}
 use Rattle.parse.specs.Reads.{u16At, u32At}
+use Rattle.chains.specs.Features.{isAsked}
 use Rattle.chains.specs.declared.Cursor.{Cursor}
 use Rattle.chains.specs.declared.Chain.{Chain}
 use Rattle.chains.specs.declared.Feature.{Feature}
@@ -104,6 +106,16 @@ module _ (table : List ℕ) where
         disable = u32At table (feature + 8);
         next = goesOn (feature + 12) left;
       }
+
+  -- The flags behind the first n features of a chain, from its default flags on: one whose type and setting are asked for leaves of them what its last field
+  -- has, and sets those of the field before.
+  unfoldable pub manualFlags : (requests : List ℕ) → (chain n : ℕ) → ℕ
+  manualFlags requests chain zero = u32At table chain
+  manualFlags requests chain (suc n) =
+      let before : ℕ = manualFlags requests chain n in
+      let feature : ℕ = featurePlace chain n in
+      cond (isAsked requests (u16At table feature * 65536 + u16At table (feature + 2)))
+      (bitOr (bitAnd before (u32At table (feature + 8))) (u32At table (feature + 4))) before
 
   abbrev pub manualSubtable : (subtable left : ℕ) → Subtable
   manualSubtable subtable left =

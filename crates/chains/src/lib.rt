@@ -13,6 +13,8 @@ ghost use Rattle.chains.specs.Lists.{chainCount, chainsFrom, chainAt, ne
 ghost use Rattle.chains.specs.Entries.{chainsTests, chainsCall, chainCall, featureCall, subtableCall};
 ghost use Rattle.chains.specs.Walk.{walkFrom, nextHead};
 
+pub mod features;
+
 // Where a list goes on: the place of its next element in the table, and how many elements its count still gives.
 pub struct Cursor {
     pub place: usize,

@@ -2,6 +2,7 @@
 pub mod Survey
 pub mod Reasons
 pub mod Steps
+pub mod Features
 pub mod Runs
 pub mod Cursors
 pub mod KernCursors

@@ -23,6 +23,7 @@ ghost use Rattle.firmware.specs.Survey.{surveyAnswer, verdictOf, badReco
 
 mod choices;
 mod cursors;
+mod features;
 mod kern_cursors;
 mod kern_steps;
 mod kerns;

@@ -51,7 +51,7 @@ pub extern "C" fn aat_morx_run(
     let choices = Choices {
         right_to_left: right_to_left != 0,
     };
-    let reply = morx::run(table, start, choices, glyphs, tags, homes, *used);
+    let reply = morx::run(table, start, choices, glyphs, tags, homes, *used, &[]);
     *used = reply.used;
     let answer = reply.answer;
     if crate::steps::is_refused(answer) {

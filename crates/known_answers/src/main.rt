@@ -1,6 +1,7 @@
-// Runs document 01's known answers through the proved entries and prints each, and of lookups that find nothing why; those it marks are proved in the
-// crate `promises`.
+// Runs document 01's known answers through the proved entries and prints each, of lookups that find nothing why, and its table with a feature that is
+// asked for; those it marks are proved in the crate `promises`.
 use answers::Reply;
+use morx::Choices;
 use shaper::SHAPER_ROOM;
 use shaper::Shaped;
 use tables::lookup::LookupReply;
@@ -194,6 +195,39 @@ fn print_shaper(input: &[u8]) {
     print_shaped(shaped, &glyphs, &tags, &homes);
 }
 
+// The run over the line 5, 6, 20 by that table, with one chain that has default flags 0 and one feature, type 37, setting 1, which sets the flag of its
+// subtable.
+fn print_run(table: &[u8], requests: &[u32]) {
+    let mut glyphs: [u16; 3] = [5, 6, 20];
+    let mut tags: [u16; 3] = [0, 1, 2];
+    let mut homes: [u16; 3] = [0, 1, 2];
+    let choices = Choices {
+        right_to_left: false,
+    };
+    let reply = morx::run(
+        table,
+        0,
+        choices,
+        &mut glyphs,
+        &mut tags,
+        &mut homes,
+        3,
+        requests,
+    );
+    let answer = reply.answer;
+    print_number(b"run with requests: ", requests.len() as u64);
+    print_number(b", answer ", answers::number(answer) as u64);
+    print_number(b" heads ", reply.heads as u64);
+    io::write_all(OUT, b" glyphs");
+    print_glyphs(&glyphs);
+    io::write_all(OUT, b"\n");
+}
+
+fn print_runs(table: &[u8]) {
+    print_run(table, &[]);
+    print_run(table, &[37 * 65536 + 1]);
+}
+
 fn main() {
     print_verb(1, 0, 4);
     print_verb(13, 0, 4);
@@ -212,5 +246,8 @@ fn main() {
     print_offset(0x1FFFFFFF, 536_870_911);
     print_shaper(
         b"\x00\x00\x00\x2E\x00\x02\x00\x00\x00\x00\x00\x01\x00\x00\x00\x01\x00\x00\x00\x26\x00\x00\x00\x00\x00\x00\x00\x01\x00\x00\x00\x16\x00\x00\x00\x04\x00\x00\x00\x01\x00\x08\x00\x05\x00\x02\x00\x07\x00\x09\x00\x03\x00\x05\x00\x06\x00\x14",
+    );
+    print_runs(
+        b"\x00\x02\x00\x00\x00\x00\x00\x01\x00\x00\x00\x00\x00\x00\x00\x32\x00\x00\x00\x01\x00\x00\x00\x01\x00\x25\x00\x01\x00\x00\x00\x01\xFF\xFF\xFF\xFF\x00\x00\x00\x16\x00\x00\x00\x04\x00\x00\x00\x01\x00\x08\x00\x05\x00\x02\x00\x07\x00\x09",
     );
 }

@@ -24,7 +24,7 @@ use Rattle.machine.specs.Machine.{refusedPass, passCall}
 use Rattle.chains.specs.Entries.{startTest}
 use Rattle.morx.specs.Kinds.{kindAt, subtableOfKind, anySubtable}
 use Rattle.morx.specs.Run.{Ran, ran}
-use Rattle.morx.specs.Calls.{runTests, runCall}
+use Rattle.morx.specs.Calls.{requestLimit, requestTest, runTests, runCall}
 use Rattle.morx.specs.Work.{lineTests}
 use Rattle.morx.specs.declared.Choices.{Choices}
 use Rattle.morx.specs.declared.Kind.{Kind}
@@ -59,32 +59,57 @@ two-refused s t u {why} e = go (s .holds) refl
 two-passed : (s t u : Test) → refuse (s ∷ t ∷ []) ≡ Passed → refuse (s ∷ t ∷ u ∷ []) ≡ refuse (u ∷ [])
 two-passed s t u e = refuse-later s (t ∷ u ∷ []) (passed-here s (t ∷ []) e) ∙ alone-passed t (u ∷ []) (passed-later s (t ∷ []) e)
 
-module _ (length start : ℕ) (l : Line) {check : Check} (e : check ≡ refuse (lineTests length l)) where
-  pub run-line-refused : {why : Refusal} → check ≡ Refused why → Refused why ≡ refuse (runTests length start l)
-  unfolding lineTests runTests
-  run-line-refused f = sym (two-refused (tableTest length) (lineTest l) (startTest length start) (sym e ∙ f))
+-- the tests of a run, one after the other
+module _ (tableLength start : ℕ) (l : Line) (requests : List ℕ) {check : Check} (e : check ≡ refuse (tableTest tableLength ∷ [])) where
+  abbrev behindTable : List Test
+  behindTable = requestTest requests ∷ lineTest l ∷ startTest tableLength start ∷ []
 
-  pub run-past : check ≡ Passed → length < start → Refused Refusal′.Head ≡ refuse (runTests length start l)
-  unfolding lineTests runTests startTest
-  run-past f h = sym (two-passed (tableTest length) (lineTest l) (startTest length start) (sym e ∙ f) ∙ refuse-here (startTest length start) [] (lt-ltb _ _ h))
+  pub run-table : {why : Refusal} → check ≡ Refused why → Refused why ≡ refuse (runTests tableLength start l requests)
+  unfolding runTests
+  run-table f = sym (alone-refused (tableTest tableLength) behindTable _ (sym e ∙ f))
 
-  pub run-passed : check ≡ Passed → start ≤ length → Passed ≡ refuse (runTests length start l)
-  unfolding lineTests runTests startTest
-  run-passed f h =
-      sym (two-passed (tableTest length) (lineTest l) (startTest length start) (sym e ∙ f) ∙ refuse-later (startTest length start) [] (le-ltb _ _ h) ∙ refuse-none)
+  module _ (f : check ≡ Passed) where
+    past-table : refuse (tableTest tableLength ∷ behindTable) ≡ refuse behindTable
+    past-table = alone-passed (tableTest tableLength) behindTable (sym e ∙ f)
+
+    pub run-many : requestLimit < length requests → Refused Refusal′.Request ≡ refuse (runTests tableLength start l requests)
+    unfolding runTests requestTest
+    run-many h = sym (past-table ∙ refuse-here (requestTest requests) (lineTest l ∷ startTest tableLength start ∷ []) (lt-ltb _ _ h))
+
+    module _ (few : length requests ≤ requestLimit) {taken : Bool} (t : taken ≡ isValid l) where
+      past-requests : refuse (tableTest tableLength ∷ behindTable) ≡ refuse (lineTest l ∷ startTest tableLength start ∷ [])
+      unfolding requestTest
+      past-requests = past-table ∙ refuse-later (requestTest requests) (lineTest l ∷ startTest tableLength start ∷ []) (le-ltb _ _ few)
+
+      pub run-not : not taken ≡ true → Refused Refusal′.Line ≡ refuse (runTests tableLength start l requests)
+      unfolding runTests
+      run-not h = sym (past-requests ∙ refuse-line l (startTest tableLength start ∷ []) t h)
+
+      module _ (k : not taken ≡ false) where
+        past-line : refuse (tableTest tableLength ∷ behindTable) ≡ refuse (startTest tableLength start ∷ [])
+        past-line = past-requests ∙ refuse-past-line l (startTest tableLength start ∷ []) t k
+
+        pub run-past : tableLength < start → Refused Refusal′.Head ≡ refuse (runTests tableLength start l requests)
+        unfolding runTests startTest
+        run-past h = sym (past-line ∙ refuse-here (startTest tableLength start) [] (lt-ltb _ _ h))
+
+        pub run-passed : start ≤ tableLength → Passed ≡ refuse (runTests tableLength start l requests)
+        unfolding runTests startTest
+        run-passed h = sym (past-line ∙ refuse-later (startTest tableLength start) [] (le-ltb _ _ h) ∙ refuse-none)
 
 -- a line that a call has taken is valid, and a start not past the table
 pub taken-valid : (length : ℕ) (l : Line) {check : Check} → check ≡ refuse (lineTests length l) → check ≡ Passed → isValid l ≡ true
 unfolding lineTests
 taken-valid length l k e = of-valid l (passed-line l [] (passed-later (tableTest length) (lineTest l ∷ []) (sym k ∙ e)))
 
-pub run-taken : (length start : ℕ) (l : Line) {check : Check} → check ≡ refuse (runTests length start l) → check ≡ Passed
-    → (isValid l ≡ true) × (start ≤ length)
+pub run-taken : (tableLength start : ℕ) (l : Line) (requests : List ℕ) {check : Check} → check ≡ refuse (runTests tableLength start l requests) → check ≡ Passed
+    → (isValid l ≡ true) × (start ≤ tableLength)
 unfolding runTests startTest
-run-taken length start l k e =
-    let behind = passed-later (tableTest length) (lineTest l ∷ startTest length start ∷ []) (sym k ∙ e) in (
-      of-valid l (passed-line l (startTest length start ∷ []) behind),
-      ltb-false _ _ (passed-here (startTest length start) [] (passed-later (lineTest l) (startTest length start ∷ []) behind)),
+run-taken tableLength start l requests k e =
+    let few = passed-later (tableTest tableLength) (requestTest requests ∷ lineTest l ∷ startTest tableLength start ∷ []) (sym k ∙ e) in
+    let behind = passed-later (requestTest requests) (lineTest l ∷ startTest tableLength start ∷ []) few in (
+      of-valid l (passed-line l (startTest tableLength start ∷ []) behind),
+      ltb-false _ _ (passed-here (startTest tableLength start) [] (passed-later (lineTest l) (startTest tableLength start ∷ []) behind)),
     )
 
 -- the pass tests HEAD by opening the subtable: what can't be opened is refused by the pass itself
@@ -133,12 +158,12 @@ module _ (table : List ℕ) (start : ℕ) (l : Line) {check : Check} (k : check 
       record { answers = left .answers ∙ ap (λ (p : Pass.Passed). p .answer) w; line = left .line ∙ ap (λ (p : Pass.Passed). applyAll (p .changes) l) w }
 
 -- a call of the run
-module _ (table : List ℕ) (start : ℕ) (choices : Choices) (l : Line) {check : Check} (k : check ≡ refuse (runTests (length table) start l)) where
+module _ (table : List ℕ) (start : ℕ) (choices : Choices) (l : Line) (requests : List ℕ) {check : Check} (k : check ≡ refuse (runTests (length table) start l requests)) where
   pub run-refused : {why : Refusal} → check ≡ Refused why
-      → RunLeaves (runCall table start choices l) l (record { answer = Answer′.Refused why; used = l .used; heads = 0 }) (l .glyphs) (l .tags) (l .homes)
+      → RunLeaves (runCall table start choices l requests) l (record { answer = Answer′.Refused why; used = l .used; heads = 0 }) (l .glyphs) (l .tags) (l .homes)
   unfolding runCall applyAll
   run-refused {why} e =
-      let r : runCall table start choices l ≡ record { answer = Answer′.Refused why; changes = []; heads = 0 } = rw (sym k ∙ e, runCall) in
+      let r : runCall table start choices l requests ≡ record { answer = Answer′.Refused why; changes = []; heads = 0 } = rw (sym k ∙ e, runCall) in
       record {
         answers = ap (λ (p : Ran). p .answer) (sym r);
         counted = ap (λ (p : Ran). p .heads) (sym r);
@@ -146,8 +171,8 @@ module _ (table : List ℕ) (start : ℕ) (choices : Choices) (l : Line) {check 
       }
 
   pub run-worked : {reply : RunReply} {glyphs tags homes : List ℕ} → check ≡ Passed
-      → RunLeaves (ran table start choices l) l reply glyphs tags homes → RunLeaves (runCall table start choices l) l reply glyphs tags homes
+      → RunLeaves (ran table start choices l requests) l reply glyphs tags homes → RunLeaves (runCall table start choices l requests) l reply glyphs tags homes
   unfolding runCall
   run-worked {reply} {glyphs} {tags} {homes} e left =
-      let r : runCall table start choices l ≡ ran table start choices l = rw (sym k ∙ e, runCall) in
+      let r : runCall table start choices l requests ≡ ran table start choices l requests = rw (sym k ∙ e, runCall) in
       subst⁻¹ (λ (p : Ran). RunLeaves p l reply glyphs tags homes) r left

@@ -35,7 +35,7 @@ call-made (Call.pass kind table start) l v = refl
 call-made (Call.anyPass table start) l v = refl
 call-made (Call.contextualStep c) l v = refl
 call-made (Call.ligatureStep c) l v = refl
-call-made (Call.run table start choices) l v = refl
+call-made (Call.run table start choices requests) l v = refl
 
 call-legal : (call : Call) (l : Line) → Valid l → Fits (makes call l) l
 unfolding makes
@@ -47,7 +47,7 @@ call-legal (Call.contextualStep c) l v =
     step-has Valid Fits fitting contextual Contextual′.step-fits (c .table) (c .start) (c .state) l (c .index) (c .glyph) (c .ends) v
 call-legal (Call.ligatureStep c) l v =
     step-has Valid Fits fitting ligature Ligature′.step-fits (c .table) (c .start) (c .state) l (c .index) (c .glyph) (c .ends) v
-call-legal (Call.run table start choices) l v = run-fits table start choices l v
+call-legal (Call.run table start choices requests) l v = run-fits table start choices l requests v
 
 pub calls-honest : Honest leaves makes
 calls-honest = record { made = call-made; legal = call-legal }

@@ -23,7 +23,7 @@ use Rattle.morx.specs.Heads.{RunsFull, Counted}
 use Rattle.morx.specs.declared.Choices.{Choices}
 use Rattle.morx.proofs.Runs.{run-none, run-limit, run-stops, run-goes}
 
-module _ (table : List ℕ) (choices : Choices) where
+module _ (table : List ℕ) (choices : Choices) (requests : List ℕ) where
   -- a visit is DONE or FULL
   settled-one : (answer : Answer) → (settledAnswer answer ≡ Answer′.Done) ⊎ (settledAnswer answer ≡ Answer′.Full)
   settled-one Answer′.Full = inr refl
@@ -52,8 +52,8 @@ module _ (table : List ℕ) (choices : Choices) where
     pub before : ℕ
     pub counted : r .heads ≡ suc before
     pub within : before < length heads
-    pub done-before : runOver table choices left flags (take before heads) l .answer ≡ Answer′.Done
-    pub full-there : runOver table choices left flags (take (suc before) heads) l ≡ r
+    pub done-before : runOver table choices left flags (take before heads) l requests .answer ≡ Answer′.Done
+    pub full-there : runOver table choices left flags (take (suc before) heads) l requests ≡ r
 
   pub record Counts (left flags : ℕ) (heads : List Head) (l : Line) (r : Ran) : Type 0 where
     pub answers : (r .answer ≡ Answer′.Done) ⊎ ((r .answer ≡ Answer′.Full) ⊎ (r .answer ≡ Answer′.Limit))
@@ -71,14 +71,14 @@ module _ (table : List ℕ) (choices : Choices) where
   full-limit : {A : Type 0} {a : Answer} → a ≡ Answer′.Full → a ≡ Answer′.Limit → A
   full-limit e f = let z : _≡_ {A = ℕ} 0 1 = cc in absurd (omega arith)
 
-  counts-none : (left flags : ℕ) (l : Line) → Counts left flags [] l (runOver table choices left flags [] l)
+  counts-none : (left flags : ℕ) (l : Line) → Counts left flags [] l (runOver table choices left flags [] l requests)
   counts-none left flags l =
-      subst⁻¹ (Counts left flags [] l) (run-none table choices left flags l)
+      subst⁻¹ (Counts left flags [] l) (run-none table choices left flags l requests)
       (record { answers = inl refl; done = λ e. refl; limit = λ e. differ-limit {a = Answer′.Done} refl e; full = λ e. differ {a = Answer′.Done} refl e })
 
-  counts-limit : (flags : ℕ) (head : Head) (heads : List Head) (l : Line) → Counts 0 flags (head ∷ heads) l (runOver table choices 0 flags (head ∷ heads) l)
+  counts-limit : (flags : ℕ) (head : Head) (heads : List Head) (l : Line) → Counts 0 flags (head ∷ heads) l (runOver table choices 0 flags (head ∷ heads) l requests)
   counts-limit flags head heads l =
-      subst⁻¹ (Counts 0 flags (head ∷ heads) l) (run-limit table choices 0 flags l head heads)
+      subst⁻¹ (Counts 0 flags (head ∷ heads) l) (run-limit table choices 0 flags l requests head heads)
       (record {
         answers = inr (inr refl);
         done = λ e. differ-limit {a = Answer′.Limit} e refl;
@@ -87,15 +87,15 @@ module _ (table : List ℕ) (choices : Choices) where
       })
 
   module _ (left flags : ℕ) (head : Head) (heads : List Head) (l : Line) where
-    first-none : (n : ℕ) → runOver table choices n flags (take 0 (head ∷ heads)) l .answer ≡ Answer′.Done
-    first-none n = ap (λ (r : Ran). r .answer) (run-none table choices n flags l)
+    first-none : (n : ℕ) → runOver table choices n flags (take 0 (head ∷ heads)) l requests .answer ≡ Answer′.Done
+    first-none n = ap (λ (r : Ran). r .answer) (run-none table choices n flags l requests)
 
     counts-stop : visit table choices flags head l .answer ≡ Answer′.Full
-        → Counts (suc left) flags (head ∷ heads) l (runOver table choices (suc left) flags (head ∷ heads) l)
+        → Counts (suc left) flags (head ∷ heads) l (runOver table choices (suc left) flags (head ∷ heads) l requests)
     counts-stop e =
         let stops : isDone (visit table choices flags head l .answer) ≡ false = ap isDone e in
         let over : Ran = record { answer = visit table choices flags head l .answer; changes = visit table choices flags head l .changes; heads = 1 } in
-        subst⁻¹ (Counts (suc left) flags (head ∷ heads) l) (run-stops table choices left flags l head heads stops)
+        subst⁻¹ (Counts (suc left) flags (head ∷ heads) l) (run-stops table choices left flags l requests head heads stops)
         (record {
           answers = inr (inl e);
           done = λ f. differ f e;
@@ -106,18 +106,18 @@ module _ (table : List ℕ) (choices : Choices) where
                 counted = refl;
                 within = omega arith;
                 done-before = first-none (suc left);
-                full-there = run-stops table choices left flags l head [] stops;
+                full-there = run-stops table choices left flags l requests head [] stops;
               };
         })
 
     counts-go : visit table choices flags head l .answer ≡ Answer′.Done
-        → Counts left (flagsAfter head flags) heads (visitLeaves table choices flags head l)
-        (runOver table choices left (flagsAfter head flags) heads (visitLeaves table choices flags head l))
-        → Counts (suc left) flags (head ∷ heads) l (runOver table choices (suc left) flags (head ∷ heads) l)
+        → Counts left (flagsAfter table head flags requests) heads (visitLeaves table choices flags head l)
+        (runOver table choices left (flagsAfter table head flags requests) heads (visitLeaves table choices flags head l) requests)
+        → Counts (suc left) flags (head ∷ heads) l (runOver table choices (suc left) flags (head ∷ heads) l requests)
     counts-go e c =
         let goes : isDone (visit table choices flags head l .answer) ≡ true = ap isDone e in
-        let rest : Ran = runOver table choices left (flagsAfter head flags) heads (visitLeaves table choices flags head l) in
-        subst⁻¹ (Counts (suc left) flags (head ∷ heads) l) (run-goes table choices left flags l head heads goes)
+        let rest : Ran = runOver table choices left (flagsAfter table head flags requests) heads (visitLeaves table choices flags head l) requests in
+        subst⁻¹ (Counts (suc left) flags (head ∷ heads) l) (run-goes table choices left flags l requests head heads goes)
         (record {
           answers = c .answers;
           done = λ f. ap suc (c .done f);
@@ -129,28 +129,28 @@ module _ (table : List ℕ) (choices : Choices) where
                 counted = ap suc (fills .counted);
                 within = omega (arith, fills .within);
                 done-before =
-                    ap (λ (r : Ran). r .answer) (run-goes table choices left flags l head (take (fills .before) heads) goes) ∙ fills .done-before;
+                    ap (λ (r : Ran). r .answer) (run-goes table choices left flags l requests head (take (fills .before) heads) goes) ∙ fills .done-before;
                 full-there =
-                    run-goes table choices left flags l head (take (suc (fills .before)) heads) goes
+                    run-goes table choices left flags l requests head (take (suc (fills .before)) heads) goes
                     ∙ ap (behind (visit table choices flags head l .changes)) (fills .full-there);
               };
         })
 
-  pub counts : (left flags : ℕ) (heads : List Head) (l : Line) → Counts left flags heads l (runOver table choices left flags heads l)
+  pub counts : (left flags : ℕ) (heads : List Head) (l : Line) → Counts left flags heads l (runOver table choices left flags heads l requests)
   counts left flags [] l = counts-none left flags l
   counts zero flags (head ∷ heads) l = counts-limit flags head heads l
   counts (suc left) flags (head ∷ heads) l =
       ⊎-elim
       (λ (e : visit table choices flags head l .answer ≡ Answer′.Done).
-      counts-go left flags head heads l e (counts left (flagsAfter head flags) heads (visitLeaves table choices flags head l)))
+      counts-go left flags head heads l e (counts left (flagsAfter table head flags requests) heads (visitLeaves table choices flags head l)))
       (λ (e : visit table choices flags head l .answer ≡ Answer′.Full). counts-stop left flags head heads l e)
       (visit-one flags head l)
 
 -- the run of a table
-pub heads-counted : (table : List ℕ) (start : ℕ) (choices : Choices) (l : Line) → Counted table start choices l (ran table start choices l)
+pub heads-counted : (table : List ℕ) (start : ℕ) (choices : Choices) (l : Line) (requests : List ℕ) → Counted table start choices l requests (ran table start choices l requests)
 unfolding ran
-heads-counted table start choices l =
-    let c = counts table choices headLimit 0 (walkOf table start) l in
+heads-counted table start choices l requests =
+    let c = counts table choices requests headLimit 0 (walkOf table start) l in
     record {
       answers = c .answers;
       done = c .done;

@@ -6,6 +6,7 @@ mod Visits
 mod Runs
 mod Calls
 pub mod Heads
+pub mod Requests
 pub mod Closed
 mod Known
 pub mod Honesty

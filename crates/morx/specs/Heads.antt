@@ -11,10 +11,10 @@ use Rattle.chains.specs.Walk.{walkOf}
 use Rattle.morx.specs.Run.{Ran, runOver, ran}
 use Rattle.morx.specs.declared.Choices.{Choices}
 
-module _ (table : List ℕ) (start : ℕ) (choices : Choices) (l : Line) where
+module _ (table : List ℕ) (start : ℕ) (choices : Choices) (l : Line) (requests : List ℕ) where
   -- a run over the first so many heads alone
   abbrev pub ranUpTo : ℕ → Ran
-  ranUpTo n = runOver table choices headLimit 0 (take n (walkOf table start)) l
+  ranUpTo n = runOver table choices headLimit 0 (take n (walkOf table start)) l requests
 
   -- FULL: over the heads before the last counted one the run is DONE, and that one is where it runs full
   pub record RunsFull (r : Ran) : Type 0 where

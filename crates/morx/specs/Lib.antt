@@ -3,6 +3,7 @@ pub mod Kinds
 pub mod Run
 pub mod Heads
 pub mod Calls
+pub mod Defaults
 pub mod Sequence
 pub mod Memory
 pub mod Work

@@ -31,6 +31,6 @@ inMemory (Call.ligatureStep c) l = writtenBy Ligature (stepLeaves ligature (c .t
 inMemory (Call.anyPass table start) l =
     let left : Line = callLeaves anySubtable table start l in
     lineOf (left .glyphs) (left .tags) (left .homes) (left .used)
-inMemory (Call.run table start choices) l =
-    let left : Line = runLeaves table start choices l in
+inMemory (Call.run table start choices requests) l =
+    let left : Line = runLeaves table start choices l requests in
     lineOf (left .glyphs) (left .tags) (left .homes) (left .used)

@@ -12,6 +12,7 @@ use Rattle.line.specs.Line.{Line}
 use Rattle.line.specs.Changes.{Change, apply, applyAll}
 use Rattle.machine.specs.Pass.{Passed, isDone}
 use Rattle.chains.specs.Orders.{isReversed}
+use Rattle.chains.specs.Features.{flagsBehind}
 use Rattle.chains.specs.Walk.{walkOf}
 use Rattle.chains.specs.declared.Chain.{Chain}
 use Rattle.chains.specs.declared.Subtable.{Subtable}
@@ -21,9 +22,9 @@ use Rattle.morx.specs.Kinds.{kindOf, subtableOfKind}
 use Rattle.morx.specs.declared.Kind.{Kind}
 use Rattle.morx.specs.declared.Choices.{Choices}
 
--- the flags that choose a chain's subtables: its default flags
-abbrev pub choosing : Chain → ℕ
-choosing chain = chain .flags
+-- the flags that choose a chain's subtables: its default flags, switched by those of its features that are asked for, in table order
+unfoldable pub choosing : List ℕ → (requests : List ℕ) → Chain → ℕ
+choosing table requests chain = flagsBehind table (chain .features) (chain .flags) requests
 
 -- two numbers have some common bit
 unfoldable pub shareBit : ℕ → ℕ → Bool
@@ -78,9 +79,9 @@ module _ (table : List ℕ) (choices : Choices) where
   visitLeaves flags head l = applyAll (visit flags head l .changes) l
 
 -- the flags behind a head: a chain's choose from there on
-abbrev pub flagsAfter : Head → ℕ → ℕ
-flagsAfter (Head′.Chain chain) flags = choosing chain
-flagsAfter (Head′.Subtable s) flags = flags
+abbrev pub flagsAfter : List ℕ → Head → (flags : ℕ) → (requests : List ℕ) → ℕ
+flagsAfter table (Head′.Chain chain) flags requests = choosing table requests chain
+flagsAfter table (Head′.Subtable s) flags requests = flags
 
 -- what a run answers, the changes it made, and how many heads it counted
 pub record Ran : Type 0 where
@@ -94,16 +95,16 @@ behind done r = record { answer = r .answer; changes = done ++ r .changes; heads
 
 module _ (table : List ℕ) (choices : Choices) where
   -- over heads, with so many left to count: LIMIT where none is left and another head can be read
-  unfoldable pub runOver : (left : ℕ) → (flags : ℕ) → List Head → Line → Ran
-  runOver left flags [] l = record { answer = Answer′.Done; changes = []; heads = 0 }
-  runOver zero flags (head ∷ heads) l = record { answer = Answer′.Limit; changes = []; heads = 0 }
-  runOver (suc left) flags (head ∷ heads) l =
+  unfoldable pub runOver : (left : ℕ) → (flags : ℕ) → List Head → Line → (requests : List ℕ) → Ran
+  runOver left flags [] l requests = record { answer = Answer′.Done; changes = []; heads = 0 }
+  runOver zero flags (head ∷ heads) l requests = record { answer = Answer′.Limit; changes = []; heads = 0 }
+  runOver (suc left) flags (head ∷ heads) l requests =
       let here : Passed = visit table choices flags head l in
       elim (isDone (here .answer)) [
         | false ↦ record { answer = here .answer; changes = here .changes; heads = 1 }
-        | true ↦ behind (here .changes) (runOver left (flagsAfter head flags) heads (visitLeaves table choices flags head l))
+        | true ↦ behind (here .changes) (runOver left (flagsAfter table head flags requests) heads (visitLeaves table choices flags head l) requests)
       ]
 
 -- the run over the table at `start`
-unfoldable pub ran : List ℕ → (start : ℕ) → Choices → Line → Ran
-ran table start choices l = runOver table choices headLimit 0 (walkOf table start) l
+unfoldable pub ran : List ℕ → (start : ℕ) → Choices → Line → (requests : List ℕ) → Ran
+ran table start choices l requests = runOver table choices headLimit 0 (walkOf table start) l requests

@@ -22,7 +22,7 @@ pub data Call : Type 0 where
   anyPass : (table : List ℕ) → (start : ℕ) → Call
   contextualStep : StepCall ContextualState → Call
   ligatureStep : StepCall LigatureState → Call
-  run : (table : List ℕ) → (start : ℕ) → Choices → Call
+  run : (table : List ℕ) → (start : ℕ) → Choices → (requests : List ℕ) → Call
 
 -- the line that a call leaves, as its entry promises
 unfoldable pub leaves : Call → Line → Line
@@ -32,7 +32,7 @@ leaves (pass kind table start) l = callLeaves (subtableOfKind kind) table start 
 leaves (anyPass table start) l = callLeaves anySubtable table start l
 leaves (contextualStep c) l = stepLeaves contextual (c .table) (c .start) (c .state) l (c .index) (c .glyph) (c .ends)
 leaves (ligatureStep c) l = stepLeaves ligature (c .table) (c .start) (c .state) l (c .index) (c .glyph) (c .ends)
-leaves (run table start choices) l = runLeaves table start choices l
+leaves (run table start choices requests) l = runLeaves table start choices l requests
 
 -- the changes that it makes
 unfoldable pub makes : Call → Line → List Change
@@ -42,4 +42,4 @@ makes (pass kind table start) l = passCall (subtableOfKind kind) table start l .
 makes (anyPass table start) l = passCall anySubtable table start l .changes
 makes (contextualStep c) l = stepCall contextual (c .table) (c .start) (c .state) l (c .index) (c .glyph) (c .ends) .changes
 makes (ligatureStep c) l = stepCall ligature (c .table) (c .start) (c .state) l (c .index) (c .glyph) (c .ends) .changes
-makes (run table start choices) l = runCall table start choices l .changes
+makes (run table start choices requests) l = runCall table start choices l requests .changes

@@ -15,7 +15,7 @@ use Rattle.morx.specs.declared.Kind.{Kind}
 use Rattle.morx.specs.declared.PassReply.{PassReply}
 use Rattle.morx.specs.declared.RunReply.{RunReply}
 
--- the tests that a pass and a run begin with: TABLE, LINE
+-- the tests that a pass begins with: TABLE, LINE
 unfoldable pub lineTests : (tableLength : ℕ) → Line → List Test
 lineTests tableLength l = tableTest tableLength ∷ lineTest l ∷ []
 
@@ -32,8 +32,8 @@ unfoldable pub subtableLeaves : List ℕ → Choices → (flags : ℕ) → Subta
 subtableLeaves table choices flags s l = applyAll (visitSubtable table choices flags s l .changes) l
 
 -- the line that a run leaves
-unfoldable pub ranLeaves : List ℕ → (start : ℕ) → Choices → Line → Line
-ranLeaves table start choices l = applyAll (ran table start choices l .changes) l
+unfoldable pub ranLeaves : List ℕ → (start : ℕ) → Choices → Line → (requests : List ℕ) → Line
+ranLeaves table start choices l requests = applyAll (ran table start choices l requests .changes) l
 
 -- what a run answers: its answer, the used length after its changes, and its heads
 abbrev pub runReplyOf : Ran → Line → RunReply

@@ -25,6 +25,9 @@ ghost use Rattle.morx.specs.Run.{shareBit, isPassedOver, turnedWork, set
 ghost use Rattle.morx.specs.Calls.{runTests, runCall, runLeaves};
 ghost use Rattle.morx.specs.Work.{subtableLeaves, turnedLeaves, ranLeaves, runReplyOf, passReplyOf, lineTests};
 
+// The most features that a run may be asked for.
+pub const REQUESTS: usize = 64;
+
 // The kinds of subtables; those that are left out are one.
 pub enum Kind {
     Rearrangement,
@@ -292,14 +295,15 @@ fn visit(
     visit_subtable(table, choices, flags, subtable, glyphs, tags, homes, used)
 }
 
-// The flags that choose behind a head: those of the last chain.
-fn flags_after(head: Head, flags: u32) -> u32
-    ensures { λ r. ⌜ r ≡ flagsAfter head flags ⌝ }
+// The flags that choose behind a head: those of the last chain, switched by its features that are asked for.
+fn flags_after(table: &[u8], head: Head, flags: u32, requests: &[u32]) -> u32
+    ensures { λ r. ⌜ r ≡ flagsAfter (now (table .entry)) head flags (now (requests .entry)) ⌝ }
 {
     let Head::Chain(chain) = head else {
         return flags;
     };
-    chain.flags
+    let features = chain.features;
+    chains::features::flags_behind(table, features, chain.flags, requests)
 }
 
 // The run over a line that LINE has taken, and a table whose start is not past its end.
@@ -311,12 +315,13 @@ fn run_line(
     tags: &mut [u16],
     homes: &mut [u16],
     used: usize,
+    requests: &[u32],
 ) -> RunReply
     requires { ⌜ (isValid (lineOf (now glyphs) (now tags) (now homes) used) ≡ true) × (start ≤ length (now table)) ⌝ }
-    ensures reply { λ r. ⌜ r ≡ runReplyOf (ran (now (table .entry)) start choices (lineOf (now (glyphs .entry)) (now (tags .entry)) (now (homes .entry)) used)) (lineOf (now (glyphs .entry)) (now (tags .entry)) (now (homes .entry)) used) ⌝ }
-    ensures glyphs { λ _. ⌜ now (glyphs .exit) ≡ ranLeaves (now (table .entry)) start choices (lineOf (now (glyphs .entry)) (now (tags .entry)) (now (homes .entry)) used) .glyphs ⌝ }
-    ensures tags { λ _. ⌜ now (tags .exit) ≡ ranLeaves (now (table .entry)) start choices (lineOf (now (glyphs .entry)) (now (tags .entry)) (now (homes .entry)) used) .tags ⌝ }
-    ensures homes { λ _. ⌜ now (homes .exit) ≡ ranLeaves (now (table .entry)) start choices (lineOf (now (glyphs .entry)) (now (tags .entry)) (now (homes .entry)) used) .homes ⌝ }
+    ensures reply { λ r. ⌜ r ≡ runReplyOf (ran (now (table .entry)) start choices (lineOf (now (glyphs .entry)) (now (tags .entry)) (now (homes .entry)) used) (now (requests .entry))) (lineOf (now (glyphs .entry)) (now (tags .entry)) (now (homes .entry)) used) ⌝ }
+    ensures glyphs { λ _. ⌜ now (glyphs .exit) ≡ ranLeaves (now (table .entry)) start choices (lineOf (now (glyphs .entry)) (now (tags .entry)) (now (homes .entry)) used) (now (requests .entry)) .glyphs ⌝ }
+    ensures tags { λ _. ⌜ now (tags .exit) ≡ ranLeaves (now (table .entry)) start choices (lineOf (now (glyphs .entry)) (now (tags .entry)) (now (homes .entry)) used) (now (requests .entry)) .tags ⌝ }
+    ensures homes { λ _. ⌜ now (homes .exit) ≡ ranLeaves (now (table .entry)) start choices (lineOf (now (glyphs .entry)) (now (tags .entry)) (now (homes .entry)) used) (now (requests .entry)) .homes ⌝ }
 {
     let mut walk = chains::walk_from(table, start);
     let mut flags: u32 = 0;
@@ -341,7 +346,7 @@ fn run_line(
                 heads,
             };
         }
-        flags = flags_after(head, flags);
+        flags = flags_after(table, head, flags, requests);
         walk = next;
     }
     let NextHead::At { head: _, next: _ } = chains::next_head(table, walk) else {
@@ -401,7 +406,7 @@ pub fn pass(
     work(kind_at(bytes), bytes, glyphs, tags, homes, used)
 }
 
-// The tests before a run: TABLE, LINE, HEAD.
+// The tests before a run: TABLE, REQUEST, LINE, HEAD.
 fn refuse_run(
     table_length: usize,
     start: usize,
@@ -409,11 +414,18 @@ fn refuse_run(
     tags: &[u16],
     homes: &[u16],
     used: usize,
+    requests: &[u32],
 ) -> Check
-    ensures { λ r. ⌜ r ≡ refuse (runTests «table_length» start (lineOf (now (glyphs .entry)) (now (tags .entry)) (now (homes .entry)) used)) ⌝ }
+    ensures { λ r. ⌜ r ≡ refuse (runTests «table_length» start (lineOf (now (glyphs .entry)) (now (tags .entry)) (now (homes .entry)) used) (now (requests .entry))) ⌝ }
 {
-    if let Check::Refused(why) = refuse_line(table_length, glyphs, tags, homes, used) {
+    if let Check::Refused(why) = answers::refuse_table(table_length) {
         return Check::Refused(why);
+    }
+    if REQUESTS < requests.len() {
+        return Check::Refused(Refusal::Request);
+    }
+    if !line::valid::takes(glyphs, tags, homes, used) {
+        return Check::Refused(Refusal::Line);
     }
     if table_length < start {
         return Check::Refused(Refusal::Head);
@@ -421,7 +433,7 @@ fn refuse_run(
     Check::Passed
 }
 
-// The whole run over a line, by the table at `start`.
+// The whole run over a line, by the table at `start`, with the features that are asked for.
 pub fn run(
     table: &[u8],
     start: usize,
@@ -430,18 +442,27 @@ pub fn run(
     tags: &mut [u16],
     homes: &mut [u16],
     used: usize,
+    requests: &[u32],
 ) -> RunReply
-    ensures reply { λ r. ⌜ r ≡ runReplyOf (runCall (now (table .entry)) start choices (lineOf (now (glyphs .entry)) (now (tags .entry)) (now (homes .entry)) used)) (lineOf (now (glyphs .entry)) (now (tags .entry)) (now (homes .entry)) used) ⌝ }
-    ensures glyphs { λ _. ⌜ now (glyphs .exit) ≡ runLeaves (now (table .entry)) start choices (lineOf (now (glyphs .entry)) (now (tags .entry)) (now (homes .entry)) used) .glyphs ⌝ }
-    ensures tags { λ _. ⌜ now (tags .exit) ≡ runLeaves (now (table .entry)) start choices (lineOf (now (glyphs .entry)) (now (tags .entry)) (now (homes .entry)) used) .tags ⌝ }
-    ensures homes { λ _. ⌜ now (homes .exit) ≡ runLeaves (now (table .entry)) start choices (lineOf (now (glyphs .entry)) (now (tags .entry)) (now (homes .entry)) used) .homes ⌝ }
+    ensures reply { λ r. ⌜ r ≡ runReplyOf (runCall (now (table .entry)) start choices (lineOf (now (glyphs .entry)) (now (tags .entry)) (now (homes .entry)) used) (now (requests .entry))) (lineOf (now (glyphs .entry)) (now (tags .entry)) (now (homes .entry)) used) ⌝ }
+    ensures glyphs { λ _. ⌜ now (glyphs .exit) ≡ runLeaves (now (table .entry)) start choices (lineOf (now (glyphs .entry)) (now (tags .entry)) (now (homes .entry)) used) (now (requests .entry)) .glyphs ⌝ }
+    ensures tags { λ _. ⌜ now (tags .exit) ≡ runLeaves (now (table .entry)) start choices (lineOf (now (glyphs .entry)) (now (tags .entry)) (now (homes .entry)) used) (now (requests .entry)) .tags ⌝ }
+    ensures homes { λ _. ⌜ now (homes .exit) ≡ runLeaves (now (table .entry)) start choices (lineOf (now (glyphs .entry)) (now (tags .entry)) (now (homes .entry)) used) (now (requests .entry)) .homes ⌝ }
 {
-    if let Check::Refused(why) = refuse_run(table.len(), start, glyphs, tags, homes, used) {
+    if let Check::Refused(why) = refuse_run(
+        table.len(),
+        start,
+        glyphs,
+        tags,
+        homes,
+        used,
+        requests,
+    ) {
         return RunReply {
             answer: Answer::Refused(why),
             used,
             heads: 0,
         };
     }
-    run_line(table, start, choices, glyphs, tags, homes, used)
+    run_line(table, start, choices, glyphs, tags, homes, used, requests)
 }

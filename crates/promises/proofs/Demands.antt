@@ -14,6 +14,7 @@ use Rattle.ligature.proofs.EntryTurns.{entry-turns}
 use Rattle.insertion.proofs.Turns.{insertion-turns}
 use Rattle.kerning_machine.proofs.Turns.{kerning-turns}
 use Rattle.morx.proofs.Heads.{heads-counted}
+use Rattle.morx.proofs.Requests.{no-requests, any-order, flags-as-manual}
 use Rattle.stored.specs.Entries.{newestVersion}
 use Rattle.stored.specs.Reading.{readLine}
 use Rattle.stored.proofs.Written.{record-size}
@@ -41,6 +42,7 @@ use Rattle.noncontextual.proofs.Reasons.{noncontextual-drops}
 use Rattle.ligature.proofs.Manual.{action-by-manual, action-past-manual, component-by-manual, component-past-manual, ligature-by-manual, ligature-past-manual}
 use Rattle.insertion.proofs.Manual.{glyphs-by-manual, list-by-manual, list-past-manual, list-at-end}
 use Rattle.chains.proofs.ManualWalk.{walk-as-manual}
+use Rattle.chains.proofs.ManualFlags.{features-ended}
 use Rattle.chains.proofs.Manual.{order-as-manual, reverse-as-manual, vertical-as-manual, chain-as-manual, chains-end, feature-as-manual, features-end, subtable-as-manual, subtables-end}
 use Rattle.pairs.proofs.Reasons.{pair-passes-on, absent-uncovered, left-speaks-first, right-speaks-next, number-speaks-last, pass-drops}
 use Rattle.pairs.proofs.Joined.{neighbours-all, joined-pairs, joined-without-deleted}
@@ -52,7 +54,7 @@ use Rattle.kern_machine.proofs.Manual.{list-as-manual}
 use Rattle.kerx.proofs.Cursors as KerxCursor
 use Rattle.kerx.proofs.Manual.{kerx-as-manual, kerx-without-list, kerx-pair-as-manual, kerx-class-as-manual}
 use Rattle.promises.specs.Demand1.{Demand1}
-use Rattle.promises.specs.Demand2.{Lookups, Reasons, Mends, StateTables, Verbs, SubtableLists, Chains, Kerning, Choosing, Demand2}
+use Rattle.promises.specs.Demand2.{Lookups, Reasons, Mends, StateTables, Verbs, SubtableLists, Chains, Features, Kerning, Choosing, Demand2}
 use Rattle.promises.specs.Demand3.{Stored, Demand3}
 use Rattle.promises.proofs.Known.{known-answers, known-reasons, known-pairs}
 
@@ -168,6 +170,9 @@ chains =
       walk-as-manual = walk-as-manual;
     }
 
+features : Features
+features = record { no-requests = no-requests; any-order = any-order; flags-as-manual = flags-as-manual; features-ended = features-ended }
+
 kerning : Kerning
 kerning =
     record {
@@ -203,6 +208,7 @@ demand2 =
       verbs = verbs;
       subtable-lists = subtable-lists;
       chains = chains;
+      features = features;
       kerning = kerning;
       choosing = choosing;
       index-as-manual = index-as-manual;

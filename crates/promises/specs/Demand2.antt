@@ -58,10 +58,16 @@ use Rattle.chains.specs.Orders.{orderOf, isReversed, isVertical}
 use Rattle.chains.specs.Lists.{chainsFrom, nextChain, nextFeature, nextSubtable}
 use Rattle.chains.specs.Followed.{afterChains, afterFeatures, afterSubtables}
 use Rattle.chains.specs.Walk.{walkOf}
-use Rattle.chains.specs.Manual.{manualOrder, manualReversed, onlyVertical, Lie, EndsAt, chainTotal, chainPlace, featureTotal, featurePlace, subtableTotal, subtablePlace, manualChain, manualFeature, manualSubtable, manualHeads}
+use Rattle.chains.specs.Features.{isAsked}
+use Rattle.chains.specs.Manual.{manualOrder, manualReversed, onlyVertical, Lie, EndsAt, chainTotal, chainPlace, featureTotal, featurePlace, subtableTotal, subtablePlace, manualChain, manualFeature, manualSubtable, manualHeads, manualFlags}
 use Rattle.chains.specs.declared.NextChain.the-variants as Chain
 use Rattle.chains.specs.declared.NextFeature.the-variants as Feature
 use Rattle.chains.specs.declared.NextSubtable.the-variants as Subtable
+use Rattle.line.specs.Line.{Line}
+use Rattle.morx.specs.Run.{choosing}
+use Rattle.morx.specs.Calls.{requestLimit, runCall}
+use Rattle.morx.specs.Defaults.{callByDefaults}
+use Rattle.morx.specs.declared.Choices.{Choices}
 use Rattle.pairs.specs.Pairs.{keyOf, numberAt, pairNumber}
 use Rattle.pairs.specs.Reply.{numberReply}
 use Rattle.pairs.specs.Reply as Reply
@@ -271,6 +277,19 @@ pub record Chains : Type 0 where
   -- the heads that a run walks over are the manual's, chain 0, its subtables, chain 1, and so on: as many of them as a run may count, and one more
   pub walk-as-manual : (table : List ℕ) (start : ℕ) → walkOf table start ≡ take (suc headLimit) (manualHeads table start)
 
+-- The features that a run of morx is asked for.
+pub record Features : Type 0 where
+  -- with no requests the run is that of document 01, by a chain's default flags alone
+  pub no-requests : (table : List ℕ) (start : ℕ) (choices : Choices) (l : Line) → runCall table start choices l [] ≡ callByDefaults table start choices l
+  -- two lists with the same requests in them give the same run, in whatever order and however often each has them
+  pub any-order : (table : List ℕ) (start : ℕ) (choices : Choices) (l : Line) (xs ys : List ℕ) → ((request : ℕ) → isAsked xs request ≡ isAsked ys request)
+      → length xs ≤ requestLimit → length ys ≤ requestLimit → runCall table start choices l xs ≡ runCall table start choices l ys
+  -- a chain's flags are the manual's, over the features that lie where it says, up to the first that does not
+  pub flags-as-manual : (table requests : List ℕ) (chain left n : ℕ) → EndsAt table 12 (featurePlace table chain) (featureTotal table chain) n
+      → choosing table requests (manualChain table chain left) ≡ manualFlags table requests chain n
+  -- and in every table there is such an end
+  pub features-ended : (table : List ℕ) (chain : ℕ) → (n : ℕ) × EndsAt table 12 (featurePlace table chain) (featureTotal table chain) n
+
 -- kern and kerx.
 pub record Kerning : Type 0 where
   -- kern's subtable k begins behind the lengths that the heads before it tell, in both editions, and is in the walk exactly when it is counted and those
@@ -340,6 +359,7 @@ pub record Demand2 : Type 0 where
   pub verbs : Verbs
   pub subtable-lists : SubtableLists
   pub chains : Chains
+  pub features : Features
   pub kerning : Kerning
   pub choosing : Choosing
   -- the index of a language is that of the first tag whose bytes are the name; it is found where all tags up to it lie in the table, none of them empty at

@@ -48,8 +48,8 @@ pub record Stored : Type 0 where
   pub known-records : (recordOf Records.shaped ≡ Records.shapedRecord) × (recordOf Records.empty ≡ Records.emptyRecord)
 
 pub record Demand3 : Type 0 where
-  -- Demand 3 itself: from a fresh line, over any sequence of lone verbs, passes of every kind, steps that write the line and whole runs, refused
-  -- and cut-short ones included, on any tables
+  -- Demand 3 itself: from a fresh line, over any sequence of lone verbs, passes of every kind, steps that write the line and whole runs with any
+  -- requests, refused and cut-short ones included, on any tables
   pub fresh-demand3 : (glyphs tags homes : List ℕ) → refuse (freshTests glyphs tags homes) ≡ Passed → (calls : List Call)
       → FromFresh (length glyphs) (length homes)
       (historyBy leaves makes calls (freshOf glyphs tags homes)) (leftBy leaves makes calls (freshOf glyphs tags homes))

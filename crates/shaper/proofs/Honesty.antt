@@ -1,6 +1,6 @@
 -- An input that is taken is shaped: TABLE and LINE are the input's own, and HEAD is never given.
 use Prim.Native.Nat.{ℕ, _+_, _-_, _/_, _≤_}
-use mathlib.Core.Path.{_≡_, sym, _∙_, ap, subst}
+use mathlib.Core.Path.{_≡_, refl, sym, _∙_, ap, subst}
 use mathlib.Core.Bool.{not}
 use mathlib.Core.List.{List, [], _∷_, _++_}
 use mathlib.Core.Logic.{_⊎_}
@@ -22,7 +22,7 @@ use Rattle.line.proofs.FreshLaws.{fresh-passed, fresh-valid}
 use Rattle.line.proofs.Loops.{length-glyphsOf}
 use Rattle.chains.specs.Entries.{startTest}
 use Rattle.morx.specs.Run.{Ran, ran}
-use Rattle.morx.specs.Calls.{runTests, runCall}
+use Rattle.morx.specs.Calls.{requestLimit, requestTest, runTests, runCall}
 use Rattle.morx.specs.declared.Choices.{Choices}
 use Rattle.morx.proofs.Heads.{heads-counted}
 use Rattle.shaper.specs.Shaper.{shaperTable, shaperRoom, inputOf, leftToRight, startLine, shapedIn, shapedBy, shaped}
@@ -34,17 +34,18 @@ abbrev pub Runs : Answer → Type 0
 Runs answer = (answer ≡ Answer′.Done) ⊎ ((answer ≡ Answer′.Full) ⊎ (answer ≡ Answer′.Limit))
 
 -- a run over a valid line, from the start of a table within the limit
-run-runs : (table : List ℕ) (choices : Choices) (l : Line) → length table ≤ tableLimit → Valid l → Runs (runCall table 0 choices l .answer)
-unfolding runCall runTests tableTest lineTest startTest
+run-runs : (table : List ℕ) (choices : Choices) (l : Line) → length table ≤ tableLimit → Valid l → Runs (runCall table 0 choices l [] .answer)
+unfolding runCall runTests tableTest requestTest requestLimit lineTest startTest
 run-runs table choices l h v =
     let n : ℕ = length table in
-    let passed : refuse (runTests n 0 l) ≡ Check′.Passed =
-    refuse-later (tableTest n) (lineTest l ∷ startTest n 0 ∷ []) (le-ltb _ _ h)
+    let passed : refuse (runTests n 0 l []) ≡ Check′.Passed =
+    refuse-later (tableTest n) (requestTest [] ∷ lineTest l ∷ startTest n 0 ∷ []) (le-ltb _ _ h)
+    ∙ refuse-later (requestTest []) (lineTest l ∷ startTest n 0 ∷ []) refl
     ∙ refuse-later (lineTest l) (startTest n 0 ∷ []) (ap not (of-valid l v))
     ∙ refuse-later (startTest n 0) [] (le-ltb n 0 (omega arith))
     ∙ refuse-none in
-    let r : runCall table 0 choices l ≡ ran table 0 choices l = rw (passed, runCall) in
-    subst (λ (p : Ran). Runs (p .answer)) (sym r) (heads-counted table 0 choices l .answers)
+    let r : runCall table 0 choices l [] ≡ ran table 0 choices l [] = rw (passed, runCall) in
+    subst (λ (p : Ran). Runs (p .answer)) (sym r) (heads-counted table 0 choices l [] .answers)
 
 module _ (new glyphs tags homes : List ℕ) (few : length new / 2 ≤ shaperRoom) (g : length glyphs ≡ shaperRoom) (t : length tags ≡ shaperRoom)
     (h : length homes ≡ shaperRoom) where

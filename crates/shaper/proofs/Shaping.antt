@@ -92,10 +92,10 @@ spliced-empty new xs = rw (slice-empty 0 xs, append-nil new, zero-add (length ne
 -- what the run over a line answers and leaves
 abbrev pub RunsTo : (table : List ℕ) → Line → RunReply → (glyphs tags homes : List ℕ) → Type 0
 RunsTo table l reply glyphs tags homes =
-    (reply ≡ runReplyOf (runCall table 0 leftToRight l) l)
-    × ((glyphs ≡ runLeaves table 0 leftToRight l .glyphs)
-    × ((tags ≡ runLeaves table 0 leftToRight l .tags)
-    × (homes ≡ runLeaves table 0 leftToRight l .homes)))
+    (reply ≡ runReplyOf (runCall table 0 leftToRight l []) l)
+    × ((glyphs ≡ runLeaves table 0 leftToRight l [] .glyphs)
+    × ((tags ≡ runLeaves table 0 leftToRight l [] .tags)
+    × (homes ≡ runLeaves table 0 leftToRight l [] .homes)))
 
 module _ (new glyphs tags homes : List ℕ) (e : length homes ≡ length new / 2) {glyphs′ tags′ homes′ : List ℕ}
     (g : glyphs′ ≡ spliced (min 0 0) 0 (glyphsOf new) glyphs)

@@ -1,7 +1,7 @@
 -- The shaper: what its input says, the line it starts with, and what it answers and leaves.
 use Prim.Native.Nat.{ℕ, _+_, _-_, _*_, _/_}
 use mathlib.Core.Bool.{false}
-use mathlib.Core.List.{List, _++_}
+use mathlib.Core.List.{List, [], _++_}
 use lib.ListN.{length, take, drop}
 use Rattle.laws.specs.Choose.{ifLt, ifEq}
 use Rattle.answers.specs.declared.Answer.the-variants as Answer′
@@ -57,7 +57,7 @@ pub record Left : Type 0 where
   pub tags : List ℕ
   pub homes : List ℕ
 
--- an input whose table ends at `end`: the table stands behind its length and the glyphs behind their count; the run over their fresh line,
+-- an input whose table ends at `end`: the table stands behind its length and the glyphs behind their count; the run over their fresh line, asked for no feature,
 -- in the room that is lent. The homes behind the characters are as they were
 unfoldable pub shapedIn : (input : List ℕ) → (end : ℕ) → (glyphs tags homes : List ℕ) → Left
 shapedIn input end glyphs tags homes =
@@ -65,8 +65,8 @@ shapedIn input end glyphs tags homes =
     let new : List ℕ = drop (end + 2) input in
     let characters : ℕ = length new / 2 in
     let start : Line = startLine new glyphs tags (take characters homes) in
-    let ran : Ran = runCall table 0 leftToRight start in
-    let after : Line = runLeaves table 0 leftToRight start in
+    let ran : Ran = runCall table 0 leftToRight start [] in
+    let after : Line = runLeaves table 0 leftToRight start [] in
     record {
       reply = record { answer = ran .answer; heads = ran .heads; used = after .used; characters = characters };
       glyphs = after .glyphs;

@@ -4,6 +4,7 @@ use answers::Refusal;
 use morx::Choices;
 use morx::RunReply;
 ghost use mathlib.Core.Path.{_≡_};
+ghost use mathlib.Core.List.{[]};
 ghost use Prim.Native.Nat.{_/_, _≤_};
 ghost use lib.ListN.{length};
 ghost use Rattle.answers.specs.Limits.{roomLimit};
@@ -65,10 +66,10 @@ fn shape_line(
     homes: &mut [u16],
 ) -> RunReply
     requires { ⌜ (length (now homes) ≡ length (now new) / 2) × (length (now new) / 2 ≤ length (now glyphs)) × (length (now new) / 2 ≤ length (now tags)) × (length (now new) / 2 ≤ roomLimit) ⌝ }
-    ensures reply { λ r. ⌜ r ≡ runReplyOf (runCall (now (table .entry)) 0 leftToRight (startLine (now (new .entry)) (now (glyphs .entry)) (now (tags .entry)) (now (homes .entry)))) (startLine (now (new .entry)) (now (glyphs .entry)) (now (tags .entry)) (now (homes .entry))) ⌝ }
-    ensures glyphs { λ _. ⌜ now (glyphs .exit) ≡ runLeaves (now (table .entry)) 0 leftToRight (startLine (now (new .entry)) (now (glyphs .entry)) (now (tags .entry)) (now (homes .entry))) .glyphs ⌝ }
-    ensures tags { λ _. ⌜ now (tags .exit) ≡ runLeaves (now (table .entry)) 0 leftToRight (startLine (now (new .entry)) (now (glyphs .entry)) (now (tags .entry)) (now (homes .entry))) .tags ⌝ }
-    ensures homes { λ _. ⌜ now (homes .exit) ≡ runLeaves (now (table .entry)) 0 leftToRight (startLine (now (new .entry)) (now (glyphs .entry)) (now (tags .entry)) (now (homes .entry))) .homes ⌝ }
+    ensures reply { λ r. ⌜ r ≡ runReplyOf (runCall (now (table .entry)) 0 leftToRight (startLine (now (new .entry)) (now (glyphs .entry)) (now (tags .entry)) (now (homes .entry))) []) (startLine (now (new .entry)) (now (glyphs .entry)) (now (tags .entry)) (now (homes .entry))) ⌝ }
+    ensures glyphs { λ _. ⌜ now (glyphs .exit) ≡ runLeaves (now (table .entry)) 0 leftToRight (startLine (now (new .entry)) (now (glyphs .entry)) (now (tags .entry)) (now (homes .entry))) [] .glyphs ⌝ }
+    ensures tags { λ _. ⌜ now (tags .exit) ≡ runLeaves (now (table .entry)) 0 leftToRight (startLine (now (new .entry)) (now (glyphs .entry)) (now (tags .entry)) (now (homes .entry))) [] .tags ⌝ }
+    ensures homes { λ _. ⌜ now (homes .exit) ≡ runLeaves (now (table .entry)) 0 leftToRight (startLine (now (new .entry)) (now (glyphs .entry)) (now (tags .entry)) (now (homes .entry))) [] .homes ⌝ }
 {
     let characters = homes.len();
     line::edits::insert(glyphs, tags, 0, 0, new);
@@ -76,7 +77,7 @@ fn shape_line(
     let choices = Choices {
         right_to_left: false,
     };
-    morx::run(table, 0, choices, glyphs, tags, homes, characters)
+    morx::run(table, 0, choices, glyphs, tags, homes, characters, &[])
 }
 
 // Shapes the line of an input whose table ends at `end`.

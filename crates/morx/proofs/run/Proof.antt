@@ -25,7 +25,7 @@ same-length-3 c = search needs
 
 returns : tie.Need-returns
 unfolding runLeaves
-returns c = run-to-post (runCall _ _ _ (lineOf _ _ _ _)) (lineOf _ _ _ _) _ _ _ _ (run-refused _ _ _ (lineOf _ _ _ _) (c .before .before .before .refuse-run .ensures) (c .before .why .given .1))
+returns c = run-to-post (runCall _ _ _ (lineOf _ _ _ _) _) (lineOf _ _ _ _) _ _ _ _ (run-refused _ _ _ (lineOf _ _ _ _) _ (c .before .before .before .refuse-run .ensures) (c .before .why .given .1))
 
 enum-told : tie.Need-enum-told
 enum-told c = search needs
@@ -34,7 +34,7 @@ run-line-requires : tie.Need-run-line-requires
 run-line-requires c κs =
     let at-enum-told = c .before .before .before in
     let at-refuse-run = at-enum-told .before .before in
-    run-taken _ _ (lineOf _ _ _ _) (at-refuse-run .refuse-run .ensures) (at-enum-told .enum-told .given .1)
+    run-taken _ _ (lineOf _ _ _ _) _ (at-refuse-run .refuse-run .ensures) (at-enum-told .enum-told .given .1)
 
 same-length-4 : tie.Need-same-length-4
 same-length-4 c = search needs
@@ -51,7 +51,7 @@ returns-2 c =
     let at-run-line = c .before .before .before .before .before .before in
     let at-enum-told = at-run-line .before .before .before .before in
     let at-refuse-run = at-enum-told .before .before in
-    run-to-post (runCall _ _ _ (lineOf _ _ _ _)) (lineOf _ _ _ _) _ _ _ _ (run-worked _ _ _ (lineOf _ _ _ _) (at-refuse-run .refuse-run .ensures) (at-enum-told .enum-told .given .1) (run-of-post (ran _ _ _ (lineOf _ _ _ _)) (lineOf _ _ _ _) _ _ _ _ (at-run-line .run-line .ensures)))
+    run-to-post (runCall _ _ _ (lineOf _ _ _ _) _) (lineOf _ _ _ _) _ _ _ _ (run-worked _ _ _ (lineOf _ _ _ _) _ (at-refuse-run .refuse-run .ensures) (at-enum-told .enum-told .given .1) (run-of-post (ran _ _ _ (lineOf _ _ _ _) _) (lineOf _ _ _ _) _ _ _ _ (at-run-line .run-line .ensures)))
 
 pub run-spec : {M : Type 1} → statement M
 run-spec =

@@ -14,15 +14,17 @@ use Rattle.morx.proofs.run_line.Statement.{statement}
 use Rattle.morx.proofs.run_line.Tie as tie
 
 abbrev Inv-loop : tie.InvT-loop
-Inv-loop table start choices glyphs₀ tags₀ homes₀ used walk₀ flags₀ heads₀ length₀ glyphs tags homes walk flags heads length =
-    Going table choices (lineOf glyphs₀ tags₀ homes₀ used) (ran table start choices (lineOf glyphs₀ tags₀ homes₀ used)) glyphs tags homes walk flags heads length
+Inv-loop table start choices glyphs₀ tags₀ homes₀ used requests walk₀ flags₀ heads₀ length₀ glyphs tags homes walk flags heads length =
+    Going table choices requests (lineOf glyphs₀ tags₀ homes₀ used) (ran table start choices (lineOf glyphs₀ tags₀ homes₀ used) requests) glyphs tags homes walk flags heads length
 
 abbrev μ-loop : tie.MeasureT-loop
-μ-loop table start choices glyphs₀ tags₀ homes₀ used walk₀ flags₀ heads₀ length₀ glyphs tags homes walk flags heads length =
+μ-loop table start choices glyphs₀ tags₀ homes₀ used requests walk₀ flags₀ heads₀ length₀ glyphs tags homes walk flags heads length =
     65535 - heads
 
 walk-from-requires : tie.Need-walk-from-requires Inv-loop μ-loop
-walk-from-requires c κs = c .before .before .before .before .pre .1
+walk-from-requires c κs =
+    let start = c .before .before .before .before .before in
+    start .pre .1
 
 loop-holds : tie.Need-loop-holds Inv-loop μ-loop
 loop-holds c = search going-start
@@ -47,7 +49,7 @@ same-length-3 c = c .before .before .before .before .loop .inv .long-homes
 
 returns : tie.Need-returns Inv-loop μ-loop
 unfolding ranLeaves
-returns c = run-to-post (ran _ _ _ (lineOf _ _ _ _)) (lineOf _ _ _ _) _ _ _ _ (going-end _ _ _ _ (c .before .before .before .before .loop .inv) (sym (c .before .before .next-head .ensures) ∙ c .enum-told .given .1))
+returns c = run-to-post (ran _ _ _ (lineOf _ _ _ _) _) (lineOf _ _ _ _) _ _ _ _ (going-end _ _ _ _ _ (c .before .before .before .before .loop .inv) (sym (c .before .before .next-head .ensures) ∙ c .enum-told .given .1))
 
 visit-requires : tie.Need-visit-requires Inv-loop μ-loop
 visit-requires c κs = search of-valid
@@ -76,7 +78,7 @@ returns-2 c =
     let at-next-head = at-head .before .before in
     let at-loop-test = at-next-head .before in
     let at-loop = at-loop-test .before in
-    run-to-post (ran _ _ _ (lineOf _ _ _ _)) (lineOf _ _ _ _) _ _ _ _ (going-stop _ _ _ _ (at-loop .loop .inv) (at-loop-test .loop-test .taken) (sym (at-next-head .next-head .ensures) ∙ at-head .head .given .1) (of-post (visit _ _ _ _ (lineOf _ _ _ _)) (lineOf _ _ _ _) _ _ _ _ (at-visit .visit .ensures)) (sym (at-is-done .is-done .ensures) ∙ not-true _ (c .if1 .taken)))
+    run-to-post (ran _ _ _ (lineOf _ _ _ _) _) (lineOf _ _ _ _) _ _ _ _ (going-stop _ _ _ _ _ (at-loop .loop .inv) (at-loop-test .loop-test .taken) (sym (at-next-head .next-head .ensures) ∙ at-head .head .given .1) (of-post (visit _ _ _ _ (lineOf _ _ _ _)) (lineOf _ _ _ _) _ _ _ _ (at-visit .visit .ensures)) (sym (at-is-done .is-done .ensures) ∙ not-true _ (c .if1 .taken)))
 
 flags-after-requires : tie.Need-flags-after-requires Inv-loop μ-loop
 flags-after-requires c κs = search needs
@@ -94,7 +96,7 @@ loop-again c =
     let at-next-head = at-head .before .before in
     let at-loop-test = at-next-head .before in
     let at-loop = at-loop-test .before in
-    going-step _ _ _ _ (at-loop .loop .inv) (at-loop-test .loop-test .taken) (sym (at-next-head .next-head .ensures) ∙ at-head .head .given .1) (of-post (visit _ _ _ _ (lineOf _ _ _ _)) (lineOf _ _ _ _) _ _ _ _ (at-visit .visit .ensures)) (sym (at-is-done .is-done .ensures) ∙ not-false _ (at-if1 .if1 .left)) (c .flags-after .ensures) (at-visit .visit .kept .1 .1 .1 .1 .0) (at-visit .visit .kept .1 .1 .1 .1 .1 .0) (at-visit .visit .kept .1 .1 .1 .1 .1 .1 .0)
+    going-step _ _ _ _ _ (at-loop .loop .inv) (at-loop-test .loop-test .taken) (sym (at-next-head .next-head .ensures) ∙ at-head .head .given .1) (of-post (visit _ _ _ _ (lineOf _ _ _ _)) (lineOf _ _ _ _) _ _ _ _ (at-visit .visit .ensures)) (sym (at-is-done .is-done .ensures) ∙ not-false _ (at-if1 .if1 .left)) (c .flags-after .ensures) (at-visit .visit .kept .1 .1 .1 .1 .0) (at-visit .visit .kept .1 .1 .1 .1 .1 .0) (at-visit .visit .kept .1 .1 .1 .1 .1 .1 .0)
 
 next-head-requires-2 : tie.Need-next-head-requires-2 Inv-loop μ-loop
 next-head-requires-2 c κs = search needs
@@ -116,7 +118,7 @@ same-length-9 c = c .before .before .before .before .loop .inv .long-homes
 
 returns-3 : tie.Need-returns-3 Inv-loop μ-loop
 unfolding ranLeaves
-returns-3 c = run-to-post (ran _ _ _ (lineOf _ _ _ _)) (lineOf _ _ _ _) _ _ _ _ (going-end _ _ _ _ (c .before .before .before .before .loop .inv) (sym (c .before .before .next-head2 .ensures) ∙ c .enum-told3 .given .1))
+returns-3 c = run-to-post (ran _ _ _ (lineOf _ _ _ _) _) (lineOf _ _ _ _) _ _ _ _ (going-end _ _ _ _ _ (c .before .before .before .before .loop .inv) (sym (c .before .before .next-head2 .ensures) ∙ c .enum-told3 .given .1))
 
 same-length-10 : tie.Need-same-length-10 Inv-loop μ-loop
 same-length-10 c = c .before .before .before .before .loop .inv .long-glyphs
@@ -129,7 +131,7 @@ same-length-12 c = c .before .before .before .before .loop .inv .long-homes
 
 returns-4 : tie.Need-returns-4 Inv-loop μ-loop
 unfolding ranLeaves headLimit
-returns-4 c = run-to-post (ran _ _ _ (lineOf _ _ _ _)) (lineOf _ _ _ _) _ _ _ _ (going-limit _ _ _ _ (c .before .before .before .before .loop .inv) (c .before .before .before .loop-test .left) (sym (c .before .before .next-head2 .ensures) ∙ c .enum-told2 .given .1))
+returns-4 c = run-to-post (ran _ _ _ (lineOf _ _ _ _) _) (lineOf _ _ _ _) _ _ _ _ (going-limit _ _ _ _ _ (c .before .before .before .before .loop .inv) (c .before .before .before .loop-test .left) (sym (c .before .before .next-head2 .ensures) ∙ c .enum-told2 .given .1))
 
 pub run-line-spec : {M : Type 1} → statement M
 run-line-spec =

@@ -11,6 +11,9 @@ insert-requires c κs = search needs
 number-requires : tie.Need-number-requires
 number-requires c κs = (omega arith, omega (arith, room-small))
 
+slice-aggregate-run : tie.Need-slice-aggregate-run
+slice-aggregate-run c = search needs
+
 run-requires : tie.Need-run-requires
 run-requires c κs = search needs
 
@@ -26,7 +29,7 @@ same-length-3 c = search needs
 returns : tie.Need-returns
 returns c =
     let at-run = c .before .before .before .before .before .before in
-    let at-number = at-run .before .before .before .before .before .before in
+    let at-number = at-run .before .before .before .before .before .before .before in
     let at-insert = at-number .before .before .before .before .before .before in
     let start = at-insert .before .before .before .before .before .before .before .before in
     started _ _ _ _ (start .pre .0) (at-insert .insert .ensures .0) (at-insert .insert .ensures .1 .0) (at-number .number .ensures) _ _ _ _ _ (at-run .run .ensures)
@@ -37,6 +40,7 @@ shape-line-spec =
     (tie.spec
     insert-requires
     number-requires
+    slice-aggregate-run
     run-requires
     same-length
     same-length-2

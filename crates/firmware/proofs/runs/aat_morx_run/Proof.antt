@@ -1,5 +1,6 @@
 use Rattle.firmware.proofs.Stepping.{numbered, kept, put}
 use Rattle.firmware.specs.Runs.{morxRun, morxLeaves}
+use Rattle.firmware.specs.Features.{morxRunWith, morxLeavesWith}
 use Rattle.morx.specs.declared.RunReply.{RunReply}
 use Rattle.morx.specs.Calls.{runLeaves}
 use mathlib.Core.Path.{_∙_, ap, refl}
@@ -9,6 +10,9 @@ use Rattle.firmware.proofs.runs.aat_morx_run.Tie as tie
 use Rattle.answers.proofs.number.Reads as number-reads
 use Rattle.firmware.proofs.steps.is_refused.Reads as is-refused-reads
 use Rattle.morx.proofs.run.Reads as run-reads
+
+slice-aggregate-run : tie.Need-slice-aggregate-run
+slice-aggregate-run c = search needs
 
 run-requires : tie.Need-run-requires
 run-requires c κs = search needs
@@ -29,7 +33,7 @@ same-length-3 : tie.Need-same-length-3
 same-length-3 c = search needs
 
 returns : tie.Need-returns
-unfolding morxRun morxLeaves runLeaves
+unfolding morxRun morxLeaves morxRunWith morxLeavesWith runLeaves
 returns c =
     let at-if1 = c .before in
     let at-is-refused = at-if1 .before in
@@ -50,7 +54,7 @@ same-length-6 : tie.Need-same-length-6
 same-length-6 c = search needs
 
 returns-2 : tie.Need-returns-2
-unfolding morxRun morxLeaves runLeaves
+unfolding morxRun morxLeaves morxRunWith morxLeavesWith runLeaves
 returns-2 c =
     let at-if1 = c .before in
     let at-is-refused = at-if1 .before in
@@ -62,6 +66,7 @@ pub aat-morx-run-spec : {M : Type 1} → statement M
 aat-morx-run-spec =
     tie.close
     (tie.spec
+    slice-aggregate-run
     run-requires
     is-refused-requires
     number-requires
