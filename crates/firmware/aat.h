@@ -12,7 +12,7 @@
      whole kern or kerx table is asked for, start 0 is no table, which has no subtables; elsewhere it is a start as any other.
    - glyph 0xFFFF is a deleted glyph. Flags told as uint32_t are set where they are not 0.
    - The refusals are tested in this order, and where several apply, the answer is the first: AAT_TABLE, AAT_REQUEST,
-     AAT_RECORD_VERSION, AAT_RECORD, AAT_LINE, AAT_PLACE, AAT_STATE, AAT_HEAD, AAT_OVERLAP, AAT_SPACE.
+     AAT_RECORD_VERSION, AAT_RECORD, AAT_LINE, AAT_PLACE, AAT_STATE, AAT_HEAD, AAT_TUPLES, AAT_OVERLAP, AAT_SPACE.
 
    The most work of a call, for a watchdog. A turn is one entry of a state table that is looked at.
    - A lookup, class or pair looks at 16 records at most, a pair of kerx at 32; aat_survey at 65,535; aat_mend at as many, with
@@ -49,7 +49,7 @@ typedef __SIZE_TYPE__ size_t;
 #endif
 
 /* Rises with every entry or value that is added; what is there stays. */
-#define AAT_VERSION 9
+#define AAT_VERSION 10
 
 #ifdef __cplusplus
 extern "C" {
@@ -70,6 +70,7 @@ enum aat_answer {
     AAT_REQUEST = 10, /* more features are asked for than AAT_MOST_REQUESTS */
     AAT_RECORD = 11, /* the bytes are no record of a line */
     AAT_RECORD_VERSION = 12, /* they begin as a record, of another version */
+    AAT_TUPLES = 13, /* the kerx subtable has tuples, and the manual's reading of it is chosen */
     AAT_OVERLAP = 17, /* two records that a mended table would keep share a glyph */
     AAT_SPACE = 18,  /* what is to be written does not fit where it is lent */
 };
@@ -384,9 +385,15 @@ enum aat_choices {
     AAT_JOINED_PAIRS = 1, /* pairs (kern 0, kerx 0 and 2) are two glyphs below 0xFFFF with only 0xFFFF between them; else they
                              are neighbours, whatever their glyphs. The number goes to the first of the two, in the order of
                              work either way: in a line that is turned for a subtable, the first of the turned line */
+    AAT_MANUAL_LISTS = 2, /* kerx is read as the manual has it: number k of a format 1 list lies at the value table's place plus
+                             twice the index plus 2k, counted from the state table's start, and 0xFFFF ends the list, popping
+                             nothing; format 10 of every lookup has elements of one byte at unit size 1, of two at 2, and none
+                             at any other; a subtable whose tuple count, read from version 4 on, is not 0 is passed over by a
+                             run and AAT_TUPLES of a pass or step, where it is not AAT_HEAD. kern does not look at this bit */
 };
 
-/* The passes and runs above by choices; with choices 0 they are those. Answers and writes: the same. */
+/* The passes and runs above by choices; with choices 0 they are those. Answers and writes: the same, and AAT_TUPLES of
+   aat_kerx_pass_by. */
 uint32_t aat_kern_pass_by(const uint8_t *table, size_t table_len, size_t start, uint16_t version, const uint16_t *glyphs,
                           size_t glyphs_len, const uint16_t *tags, size_t tags_len, const uint16_t *homes, size_t homes_len,
                           size_t used, int64_t *along, size_t along_len, uint32_t choices);
@@ -465,6 +472,12 @@ uint32_t aat_kern_step(uint64_t state[AAT_KERNING_STATE], const uint8_t *table, 
                        size_t used, size_t index, uint16_t glyph, int64_t *along, size_t along_len, size_t *advance);
 uint32_t aat_kerx_step(uint64_t state[AAT_KERNING_STATE], const uint8_t *table, size_t table_len, size_t start, uint16_t version,
                        size_t used, size_t index, uint16_t glyph, int64_t *along, size_t along_len, size_t *advance);
+
+/* The same by choices (enum aat_choices), of which a step looks at AAT_MANUAL_LISTS; with choices 0 it is aat_kerx_step. The
+   other answer is AAT_TUPLES. */
+uint32_t aat_kerx_step_by(uint64_t state[AAT_KERNING_STATE], const uint8_t *table, size_t table_len, size_t start,
+                          uint16_t version, size_t used, size_t index, uint16_t glyph, int64_t *along, size_t along_len,
+                          size_t *advance, uint32_t choices);
 
 #ifdef __cplusplus
 }

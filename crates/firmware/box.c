@@ -67,6 +67,7 @@
       47 read_line             glyphs, tags, homes, used 8,      answer 4, glyphs, tags, homes, used 8, characters 8
                                characters 8
       48 morx_run_with         as 14, then requests              as 14
+      49 kerx_step_by          as 26, then choices 4             as 25
 
    A name or a buffer is its length 4 and the bytes. Glyphs, tags, homes and new numbers of records are each a count 4 and so many
    numbers 2, the adjustments along the line a count 4 and so many numbers 8; a reply has the bytes or numbers alone. Requests
@@ -476,19 +477,34 @@ static void kerx_run_by(void) {
 typedef uint32_t kerning_step(uint64_t *, const uint8_t *, size_t, size_t, uint16_t, size_t, size_t, uint16_t, int64_t *,
                               size_t, size_t *);
 
-static void kern_one(kerning_step *entry) {
+static void take_kerning_step(void) {
     take_numbers(state, 11);
     take_along();
-    size_t length = take(8);
+    used = take(8);
     version = (uint16_t)take(2);
     start = take(8);
     index = take(8);
     glyph = (uint16_t)take(2);
     advance = take(8);
-    put(entry(state, table, table_len, start, version, length, index, glyph, along, along_len, &advance), 4);
+}
+
+static void put_kerning_step(uint32_t answered) {
+    put(answered, 4);
     put_along();
     put_numbers(state, 11);
     put(advance, 8);
+}
+
+static void kern_one(kerning_step *entry) {
+    take_kerning_step();
+    put_kerning_step(entry(state, table, table_len, start, version, used, index, glyph, along, along_len, &advance));
+}
+
+static void kerx_one_by(void) {
+    take_kerning_step();
+    uint32_t choices = (uint32_t)take(4);
+    put_kerning_step(aat_kerx_step_by(state, table, table_len, start, version, used, index, glyph, along, along_len, &advance,
+                                      choices));
 }
 
 typedef uint32_t start_of_list(const uint8_t *, size_t, size_t, uint64_t *);
@@ -605,6 +621,7 @@ static void answer(uint8_t call) {
     case 46: store_line(); break;
     case 47: read_line(); break;
     case 48: morx_run_with(); break;
+    case 49: kerx_one_by(); break;
     default: exit(1);
     }
 }

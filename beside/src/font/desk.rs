@@ -8,7 +8,8 @@ use crate::font::sfnt::Font;
 use crate::font::shaping::Tables;
 use crate::font::show::{as_hb_shape, more, print, Column, Look};
 use crate::font::wish::Wish;
-use crate::font::{both, explaining};
+use crate::font::{both, both_by, explaining};
+use crate::reference::kerning_choices::{Choices, MANUAL_LISTS};
 use crate::wire::pipe::TheBox;
 use std::collections::BTreeSet;
 
@@ -43,7 +44,7 @@ impl Desk<'_> {
         let mut met = Rows::new();
         for right_to_left in wish.ways() {
             let rows = self.tables.met(glyphs, right_to_left, wish.language.as_deref());
-            is_same &= self.show(glyphs, right_to_left, &rows, faults)?;
+            is_same &= self.show(glyphs, right_to_left, wish.is_manual, &rows, faults)?;
             if wish.traces {
                 self.tables.trace(glyphs, right_to_left, &self.look, &rows)?;
             }
@@ -53,7 +54,11 @@ impl Desk<'_> {
             println!("language: {} | {}", theirs, ours);
             is_same &= theirs == ours;
         }
-        println!("{}", if is_same { "crate and box say the same" } else { "crate and box DIFFER" });
+        let theirs = if wish.is_manual { "crate, model" } else { "crate" };
+        println!(
+            "{}",
+            if is_same { format!("{} and box say the same", theirs) } else { format!("{} and box DIFFER", theirs) }
+        );
         show_rows(&met, &self.tables.looked_at(wish.language.is_some()));
         if faults > 0 {
             println!("out of order in the tables, as --survey tells: {}", faults);
@@ -61,8 +66,16 @@ impl Desk<'_> {
         Ok(is_same)
     }
 
-    /// Shows what both sides and HarfBuzz make of the line; whether it is the same by both.
-    fn show(&mut self, glyphs: &[u16], right_to_left: bool, rows: &Rows, faults: usize) -> Result<bool, String> {
+    /// Shows what both sides and HarfBuzz make of the line, and the box in the manual's reading, where that is asked for; whether it
+    /// is the same by both sides.
+    fn show(
+        &mut self,
+        glyphs: &[u16],
+        right_to_left: bool,
+        is_manual: bool,
+        rows: &Rows,
+        faults: usize,
+    ) -> Result<bool, String> {
         let Desk { tables, look, the_box, hb_shape, .. } = self;
         let [crates, boxes] = both(tables, glyphs, right_to_left, the_box)?;
         let mut columns = vec![Column::of(&crates, look), Column::of(&boxes, look)];
@@ -70,6 +83,12 @@ impl Desk<'_> {
         let longest = columns[0].places.len().max(columns[1].places.len());
         let mut notable = (0..longest).find(differs);
         let mut told = None;
+        let mut is_same = crates == boxes;
+        if is_manual {
+            let [models, by_manual] = both_by(Choices(MANUAL_LISTS), tables, glyphs, right_to_left, the_box)?;
+            is_same &= models == by_manual;
+            columns.push(Column::of(&by_manual, look));
+        }
         if let Some(hb_shape) = hb_shape {
             let reading = hb_shape.shape(tables, glyphs, right_to_left)?;
             let (column, places) = reading.column(&boxes, look, &hb_shape.version);
@@ -82,12 +101,14 @@ impl Desk<'_> {
                 _ => told_of_harfbuzz(&places, rows, faults),
             });
         }
+        let way = if right_to_left { "right to left" } else { "left to right" };
+        let manual = if is_manual { " | box in the manual's reading of kerx" } else { "" };
         let harfbuzz = if told.is_some() { " | HarfBuzz" } else { "" };
-        println!("from {}, crate | box{}", if right_to_left { "right to left" } else { "left to right" }, harfbuzz);
+        println!("from {}, crate | box{}{}", way, manual, harfbuzz);
         print(&columns, look.most, notable);
         println!("in the form of hb-shape: {}", as_hb_shape(&boxes, look, right_to_left));
         told.iter().for_each(|told| println!("{}", told));
-        Ok(crates == boxes)
+        Ok(is_same)
     }
 }
 

@@ -31,6 +31,7 @@ use crate::font::shaping::{Shaped, Tables};
 use crate::font::show::Look;
 use crate::font::tried::{ask_harfbuzz, try_all};
 use crate::font::wish::{Typed, Wish, USAGE};
+use crate::reference::kerning_choices::Choices;
 use crate::reference::oracle;
 use crate::wire::hex;
 use crate::wire::pipe::TheBox;
@@ -132,8 +133,20 @@ fn start(command: &[String]) -> Result<TheBox, String> {
 
 /// A line by the crate and by the box.
 fn both(tables: &Tables, glyphs: &[u16], right_to_left: bool, the_box: &mut TheBox) -> Result<[Shaped; 2], String> {
-    let crates = tables.by_crate(glyphs, right_to_left).map_err(|fault| fault.describe().to_string())?;
-    let boxes = tables.by_box(glyphs, right_to_left, the_box).map_err(|error| format!("the box: {}", error))?;
+    both_by(Choices::NONE, tables, glyphs, right_to_left, the_box)
+}
+
+/// The same by these choices; what the crate does not have is by its model.
+fn both_by(
+    choices: Choices,
+    tables: &Tables,
+    glyphs: &[u16],
+    right_to_left: bool,
+    the_box: &mut TheBox,
+) -> Result<[Shaped; 2], String> {
+    let crates = tables.by_crate(glyphs, right_to_left, choices).map_err(|fault| fault.describe().to_string())?;
+    let boxes =
+        tables.by_box(glyphs, right_to_left, choices, the_box).map_err(|error| format!("the box: {}", error))?;
     Ok([crates, boxes])
 }
 

@@ -1,17 +1,22 @@
 //! The rows of docs/DIFFERENCES.md.
 
-/// A row: its number, what it says of the crate, and what its line in beside/tried becomes by the crate and by HarfBuzz.
+/// A row: its number, what it says of the crate, and what its line in beside/tried becomes by the crate, by HarfBuzz, and by the
+/// box in the manual's reading, where its table has a column for that.
 pub struct Row {
     pub number: u32,
     pub what: &'static str,
     pub by_crate: &'static str,
     pub by_harfbuzz: &'static str,
+    pub by_manual: Option<&'static str>,
 }
 
 const DIFFERENCES: &str = include_str!("../../../docs/DIFFERENCES.md");
 
 /// What stands in a cell of a row that has no line which the box, or hb-shape, could be asked for.
 pub const NOT_RUN: &str = "-";
+
+/// The column of what the box makes of a line in the manual's reading of kerx.
+pub const BY_MANUAL: &str = "Box by the manual";
 
 /// All rows, each by the head of its table.
 pub fn rows() -> Vec<Row> {
@@ -23,9 +28,11 @@ pub fn rows() -> Vec<Row> {
             Ok(number) => {
                 let cell = |name| head.iter().position(|column| *column == name).and_then(|column| cells.get(column));
                 // What stands in brackets is said of the result.
-                let result = |name| cell(name).map_or(NOT_RUN, |cell: &&str| cell.split(" (").next().unwrap_or(cell));
+                let told = |name| cell(name).map(|cell: &&str| cell.split(" (").next().unwrap_or(cell));
+                let result = |name| told(name).unwrap_or(NOT_RUN);
                 let what = cells.get(1).copied().unwrap_or("");
-                rows.push(Row { number, what, by_crate: result("Crate"), by_harfbuzz: result("HarfBuzz") });
+                let [by_crate, by_harfbuzz] = ["Crate", "HarfBuzz"].map(result);
+                rows.push(Row { number, what, by_crate, by_harfbuzz, by_manual: told(BY_MANUAL) });
             }
             Err(_) if cells[0] == "No." => head = cells,
             Err(_) => {}

@@ -7,6 +7,7 @@ use crate::font::show::Look;
 use crate::font::{met_kerning, met_language, met_morx};
 use crate::reference::kerning::{Kerned, Kerning, ALONE_AT};
 use crate::reference::kerning_choices::Choices;
+use crate::reference::kerx_readings::{self, Reading};
 use crate::reference::line::{Line, LARGEST_ROOM};
 use crate::reference::oracle::{self, Fault, LONGEST_TABLE};
 use crate::reference::pass::line_of;
@@ -101,8 +102,8 @@ impl Tables {
         tables.into_iter().filter_map(|(kerning, table)| Some((kerning, table.as_ref()?)))
     }
 
-    /// The line by the crate: first morx, then each table of kerning on what it left.
-    pub fn by_crate(&self, glyphs: &[u16], right_to_left: bool) -> Result<Shaped, Fault> {
+    /// The line by the crate: first morx, then each table of kerning on what it left; kerx in the manual's reading by its model.
+    pub fn by_crate(&self, glyphs: &[u16], right_to_left: bool, choices: Choices) -> Result<Shaped, Fault> {
         let mut shaped = Shaped { line: lent_line(glyphs), runs: Vec::new(), along: Vec::new() };
         if let Some(table) = &self.morx {
             let run = run::Run { table, start: START, right_to_left, requests: &self.requests };
@@ -114,10 +115,11 @@ impl Tables {
         }
         for (kerning, table) in self.kernings() {
             let mut lent = unkerned(&shaped.line);
-            let run = kerning_run::Run { kerning, table, start: START, right_to_left, choices: Choices::NONE };
-            let (answer, heads) = match run.refusal(&lent) {
-                Some(refusal) => (refusal, 0),
-                None => run.make(&mut lent)?,
+            let run = kerning_run::Run { kerning, table, start: START, right_to_left, choices };
+            let (answer, heads) = match (run.refusal(&lent), choices.reading(kerning)) {
+                (Some(refusal), _) => (refusal, 0),
+                (None, Reading::Crate) => run.make(&mut lent)?,
+                (None, reading) => kerx_readings::run(reading, table, START, right_to_left, choices, &mut lent),
             };
             shaped.runs.push((kerning.name(), answer.number(), heads));
             shaped.along.push((kerning.name(), lent.along));
@@ -126,7 +128,13 @@ impl Tables {
     }
 
     /// The same by the box.
-    pub fn by_box(&self, glyphs: &[u16], right_to_left: bool, the_box: &mut TheBox) -> io::Result<Shaped> {
+    pub fn by_box(
+        &self,
+        glyphs: &[u16],
+        right_to_left: bool,
+        choices: Choices,
+        the_box: &mut TheBox,
+    ) -> io::Result<Shaped> {
         let mut shaped = Shaped { line: lent_line(glyphs), runs: Vec::new(), along: Vec::new() };
         let direction = u32::from(right_to_left).to_le_bytes();
         if let Some(table) = &self.morx {
@@ -146,12 +154,22 @@ impl Tables {
         }
         for (kerning, table) in self.kernings() {
             let lent = unkerned(&shaped.line);
-            let entry = if kerning == Kerning::Kern { Entry::KernRun } else { Entry::KerxRun };
-            let mut call = call_of(table, entry);
+            let is_read_as_ever = choices.reading(kerning) == Reading::Crate;
+            let mut call = call_of(
+                table,
+                match kerning {
+                    Kerning::Kern => Entry::KernRun,
+                    Kerning::Kerx if is_read_as_ever => Entry::KerxRun,
+                    Kerning::Kerx => Entry::KerxRunBy,
+                },
+            );
             lent.lend(START, &mut call);
             call.extend([0; 4]);
             if kerning == Kerning::Kerx {
                 call.extend(direction);
+            }
+            if !is_read_as_ever {
+                call.extend(choices.0.to_le_bytes());
             }
             let reply = the_box.exchange(&call, line_bytes(&shaped.line) + 8 * lent.along.len() + 4)?;
             let (line, rest) = reply.split_at(line_bytes(&shaped.line));

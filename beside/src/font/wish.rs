@@ -8,7 +8,7 @@ pub const USAGE: &str = "usage: font [OPTION..] FILE GLYPH.. | FILE --text TEXT 
        font [--font N] FILE --survey
        font --wrap FONT NAME=FILE..
        font --test [tried | published] | --harfbuzz
-options: --font N, --right-to-left, --both-ways, --feature TYPE:SETTING, --language NAME, --trace, --whole";
+options: --font N, --right-to-left, --both-ways, --feature TYPE:SETTING, --language NAME, --manual, --trace, --whole";
 
 /// A font's file, a line, and what to do with them.
 #[derive(Default)]
@@ -21,6 +21,8 @@ pub struct Wish {
     pub requests: Vec<u32>,
     pub file: String,
     pub typed: Typed,
+    /// Whether the manual's reading of kerx is shown, too.
+    pub is_manual: bool,
     /// Whether what each subtable did is shown.
     pub traces: bool,
     /// Whether its tables are listed instead.
@@ -82,6 +84,7 @@ impl Wish {
         match option {
             "--right-to-left" => self.told_ways = Some(vec![true]),
             "--both-ways" => self.told_ways = Some(vec![false, true]),
+            "--manual" => self.is_manual = true,
             "--survey" => self.surveys = true,
             "--trace" => self.traces = true,
             "--whole" => self.is_whole = true,

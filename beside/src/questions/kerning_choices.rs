@@ -8,9 +8,9 @@ use crate::questions::kerning_runs::{any_table, behind_others, KerningRun, Runs,
 use crate::questions::passes::for_each_table;
 use crate::questions::{Ask, Part, Question};
 use crate::reference::kerning::{Kerned, Kerning};
-use crate::reference::kerning_choices::Choices;
+use crate::reference::kerning_choices::{Choices, JOINED_PAIRS, MANUAL_LISTS};
 use crate::reference::line::{Line, DELETED, LARGEST_ROOM};
-use crate::reference::oracle::Answer;
+use crate::reference::oracle::{Answer, Fault};
 use crate::reference::pass::line_of;
 use crate::tables::kerning::{any_body, any_subtable, classes, editions, formats, Edition, Pair};
 use crate::tables::lines::any_glyphs;
@@ -29,32 +29,50 @@ pub fn describe_choices(choices: Option<Choices>) -> String {
 
 const PASSES_BY: [Entry; 2] = [Entry::KernPassBy, Entry::KerxPassBy];
 const RUNS_BY: [Entry; 2] = [Entry::KernRunBy, Entry::KerxRunBy];
-const JOINING: [Entry; 4] = [Entry::KernPassBy, Entry::KerxPassBy, Entry::KernRunBy, Entry::KerxRunBy];
+
+/// The choices that an entry looks at.
+const LOOKED_AT: [(Entry, u32); 7] = [
+    (Entry::KernPassBy, JOINED_PAIRS),
+    (Entry::KerxPassBy, JOINED_PAIRS),
+    (Entry::KernRunBy, JOINED_PAIRS),
+    (Entry::KerxRunBy, JOINED_PAIRS),
+    (Entry::KerxPassBy, MANUAL_LISTS),
+    (Entry::KerxRunBy, MANUAL_LISTS),
+    (Entry::KerxStepBy, MANUAL_LISTS),
+];
 
 thread_local! {
-    /// For each entry that joins pairs, how often it did, and how often that made another sum than neighbours do.
-    static JOINED: Cell<[[u64; 2]; JOINING.len()]> = Cell::default();
+    /// For each of these, how often it was chosen, and how often that made a difference.
+    static COUNTED: Cell<[[u64; 2]; LOOKED_AT.len()]> = Cell::default();
 }
 
-/// Counts a call by joined pairs.
-pub fn count_joined(entry: Entry, is_otherwise: bool) {
-    let place = JOINING.iter().position(|joining| *joining == entry).expect("an entry that joins pairs");
-    let mut joined = JOINED.with(Cell::get);
-    joined[place][0] += 1;
-    joined[place][1] += u64::from(is_otherwise);
-    JOINED.with(|cell| cell.set(joined));
+/// Counts a call; what it would leave by other choices may be told from what it leaves.
+pub fn count(entry: Entry, choices: Choices, differs: impl Fn(Choices) -> Result<bool, Fault>) -> Result<(), Fault> {
+    let mut counted = COUNTED.with(Cell::get);
+    for ((_, choice), [calls, otherwise]) in LOOKED_AT.iter().zip(&mut counted).filter(|((of, _), _)| *of == entry) {
+        if choices.0 & choice != 0 {
+            *calls += 1;
+            *otherwise += u64::from(differs(choices.without(*choice))?);
+        }
+    }
+    COUNTED.with(|cell| cell.set(counted));
+    Ok(())
 }
 
-/// How often joined pairs and neighbours differed, in words.
+/// How often choices were made, and made a difference, in words.
 pub fn counted() -> Vec<String> {
     let name = |entry: Entry| ENTRIES[entry as usize - 1].1;
-    let line = |(entry, [calls, otherwise]): (&Entry, [u64; 2])| {
-        format!("{}: {} calls by joined pairs, {} otherwise than by neighbours", name(*entry), calls, otherwise)
+    let line = |((entry, choice), [calls, otherwise]): (&(Entry, u32), [u64; 2])| {
+        let [by, than] = match *choice {
+            JOINED_PAIRS => ["by joined pairs", "by neighbours"],
+            _ => ["in the manual's reading", "in the crate's"],
+        };
+        format!("{}: {} calls {}, {} otherwise than {}", name(*entry), calls, by, otherwise, than)
     };
-    JOINING.iter().zip(JOINED.with(Cell::get)).map(line).collect()
+    LOOKED_AT.iter().zip(COUNTED.with(Cell::get)).map(line).collect()
 }
 
-/// The bit that is named and others, alone and together.
+/// The bits that are named and others, alone and together.
 const CHOICES: [Choices; 8] = [
     Choices(0),
     Choices(1),
@@ -67,9 +85,16 @@ const CHOICES: [Choices; 8] = [
 ];
 
 /// Asks the same of the entries that take choices, each question by the next of these, and nothing else.
-struct ByTurns<'a> {
+pub struct ByTurns<'a> {
     asked: &'a mut dyn Ask,
     turns: usize,
+}
+
+impl<'a> ByTurns<'a> {
+    /// Nothing is asked yet.
+    pub fn new(asked: &'a mut dyn Ask) -> Self {
+        ByTurns { asked, turns: 0 }
+    }
 }
 
 impl Ask for ByTurns<'_> {
@@ -118,7 +143,7 @@ impl Part for ByChoices {
         every_format(asked, kerning, random);
         random_passes(asked, kerning, random, cases / 2);
         random_runs(asked, kerning, random, cases / 2);
-        let asked = &mut ByTurns { asked, turns: 0 };
+        let asked = &mut ByTurns::new(asked);
         self.entries().into_iter().for_each(|entry| self.plain(entry).ask(asked, random, cases / 25));
     }
 
@@ -190,7 +215,7 @@ fn of_numbers(edition: Edition, format: u8, glyphs: &[u16], numbers: &[i16]) -> 
 const REVERSED: u32 = 0x1000_0000;
 
 /// A line with adjustments of 0.
-fn unkerned(glyphs: &[u16]) -> Kerned {
+pub fn unkerned(glyphs: &[u16]) -> Kerned {
     Kerned { line: line_of(glyphs, glyphs.len()), along: vec![0; glyphs.len()] }
 }
 
@@ -356,7 +381,7 @@ fn every_format(asked: &mut dyn Ask, kerning: Kerning, random: &mut Random) {
 }
 
 /// Any line of up to so many of these glyphs, with any adjustments, some of it deleted: little, much or all.
-fn any_kerned(random: &mut Random, glyphs: &Range<u16>, longest: usize) -> Kerned {
+pub fn any_kerned(random: &mut Random, glyphs: &Range<u16>, longest: usize) -> Kerned {
     let used = random.below(longest + 1);
     let room = used + random.among(&[0, 0, 1, 9]);
     let mut lent = Kerned::any(random, glyphs, used, room.min(LARGEST_ROOM));
@@ -370,7 +395,7 @@ fn any_kerned(random: &mut Random, glyphs: &Range<u16>, longest: usize) -> Kerne
 }
 
 /// Mostly short lines, rarely up to the largest room.
-fn any_longest(random: &mut Random) -> usize {
+pub fn any_longest(random: &mut Random) -> usize {
     if random.once_in(400) {
         LARGEST_ROOM
     } else {

@@ -3,12 +3,13 @@
 use crate::fuzz::case::Chosen;
 use crate::fuzz::seeds::{self, Seed};
 use crate::fuzz::source::Source;
-use crate::questions::kerning_choices::{count_joined, describe_choices};
+use crate::questions::kerning_choices::{count, describe_choices};
 use crate::questions::{Ask, Part, Question};
 use crate::reference::kerning::{Kerned, Kerning, Subtable, LARGEST_ADJUSTMENT};
 use crate::reference::kerning_by_copy::open;
 use crate::reference::kerning_choices::Choices;
 use crate::reference::kerning_trace::describe_pass;
+use crate::reference::kerx_readings::{Kerx, Reading};
 use crate::reference::line::{Line, DELETED, LARGEST_ROOM};
 use crate::reference::oracle::{Answer, Fault, LONGEST_TABLE};
 use crate::reference::pass::line_of;
@@ -35,14 +36,10 @@ pub struct Pass {
 impl Pass {
     /// The answer, and what the call has to leave.
     fn after(&self, table: &[u8]) -> Result<(Answer<()>, Kerned), Fault> {
-        let mut lent = self.lent.clone();
-        let answer = match lent.refuses_pass(table) {
-            Some(answer) => answer,
-            None => self.made(table, &mut lent)?,
-        };
-        if let Some(true) = self.choices.map(Choices::joins_pairs) {
-            let (_, by_neighbours) = Pass { choices: None, written: None, ..self.clone() }.after(table)?;
-            count_joined(self.entry(), by_neighbours.along != lent.along);
+        let (answer, lent) = self.left(table)?;
+        if let Some(choices) = self.choices {
+            let left_by = |choices| Pass { choices: Some(choices), ..self.clone() }.left(table);
+            count(self.entry(), choices, |choices| Ok(left_by(choices)?.1.along != lent.along))?;
         }
         match &self.written {
             Some(written) if *written != (answer, lent.along.clone()) => Err(Fault::Disputed),
@@ -50,13 +47,40 @@ impl Pass {
         }
     }
 
-    /// The pass by the crate, if the subtable can be read; steps by its copy have to make the same.
+    fn left(&self, table: &[u8]) -> Result<(Answer<()>, Kerned), Fault> {
+        let mut lent = self.lent.clone();
+        let answer = match lent.refuses_pass(table) {
+            Some(answer) => answer,
+            None => self.made(table, &mut lent)?,
+        };
+        Ok((answer, lent))
+    }
+
+    /// The pass by the crate, and where choices are told of by kerx's model, too.
     fn made(&self, table: &[u8], lent: &mut Kerned) -> Result<Answer<()>, Fault> {
         let Edition { kerning, version, .. } = self.edition;
-        let table = match table.get(self.start as usize..) {
-            Some(bytes) => kerning.alone(version, bytes),
+        let data = match table.get(self.start as usize..) {
+            Some(data) => data,
             None => return Ok(Answer::Head),
         };
+        let choices = match self.choices {
+            Some(choices) if kerning == Kerning::Kerx => choices,
+            _ => return self.made_by_crate(data, lent),
+        };
+        let reading = choices.reading(kerning);
+        let mut of_model = lent.clone();
+        let (glyphs, along) = of_model.used();
+        let by_model = Kerx { reading, version, data }.pass(choices, glyphs, along);
+        let by_crate = || Ok((self.made_by_crate(data, lent)?, lent.along.clone()));
+        let (answer, along) = reading.right((by_model, of_model.along), by_crate)?;
+        lent.along = along;
+        Ok(answer)
+    }
+
+    /// The pass by the crate, if the subtable can be read; steps by its copy have to make the same.
+    fn made_by_crate(&self, data: &[u8], lent: &mut Kerned) -> Result<Answer<()>, Fault> {
+        let Edition { kerning, version, .. } = self.edition;
+        let table = kerning.alone(version, data);
         let subtable = match Subtable::alone(kerning, &table)? {
             Some(subtable) => subtable,
             None => return Ok(Answer::Head),
@@ -109,8 +133,9 @@ impl Question for Pass {
     fn trace(&self, table: &[u8]) -> Vec<String> {
         let choices = self.choices.unwrap_or(Choices::NONE);
         let Edition { kerning, version, .. } = self.edition;
+        let is_by_crate = choices.reading(kerning) == Reading::Crate;
         match table.get(self.start as usize..) {
-            Some(bytes) if self.lent.refuses_pass(table).is_none() => {
+            Some(bytes) if is_by_crate && self.lent.refuses_pass(table).is_none() => {
                 describe_pass(kerning, &kerning.alone(version, bytes), choices, &self.lent)
             }
             _ => Vec::new(),

@@ -3,13 +3,14 @@
 use crate::fuzz::case::Chosen;
 use crate::fuzz::seeds::{self, Seed};
 use crate::fuzz::source::Source;
-use crate::questions::kerning_choices::{count_joined, describe_choices};
+use crate::questions::kerning_choices::{count, describe_choices};
 use crate::questions::passes::for_each_table;
 use crate::questions::{Ask, Part, Question};
 use crate::reference::kerning::{Kerned, Kerning, ALONE_AT};
 use crate::reference::kerning_choices::Choices;
 use crate::reference::kerning_run::Run;
 use crate::reference::kerning_trace::describe_run;
+use crate::reference::kerx_readings::{self, Reading};
 use crate::reference::line::Line;
 use crate::reference::oracle::{Answer, Fault, LONGEST_TABLE};
 use crate::reference::pass::line_of;
@@ -53,16 +54,33 @@ impl KerningRun {
         if let Some(answer) = run.refusal(&lent) {
             return Ok((answer, lent, None));
         }
-        let (answer, heads) = run.make(&mut lent)?;
-        if run.choices.joins_pairs() {
-            let mut by_neighbours = self.lent.clone();
-            Run { choices: Choices::NONE, ..run }.make(&mut by_neighbours)?;
-            count_joined(self.entry(), by_neighbours.along != lent.along);
+        let (answer, heads) = self.made(&run, &mut lent)?;
+        if let Some(choices) = self.choices {
+            count(self.entry(), choices, |choices| {
+                let mut other = self.lent.clone();
+                self.made(&Run { choices, ..run }, &mut other)?;
+                Ok(other.along != lent.along)
+            })?;
         }
         match &self.written {
             Some(written) if answer != Answer::Done(()) || *written != lent.along => Err(Fault::Disputed),
             _ => Ok((answer, lent, Some(heads))),
         }
+    }
+
+    /// The run by the crate, and where choices are told of by kerx's model, too.
+    fn made(&self, run: &Run, lent: &mut Kerned) -> Result<(Answer<()>, u32), Fault> {
+        if self.choices.is_none() || self.kerning == Kerning::Kern {
+            return run.make(lent);
+        }
+        let Run { kerning, table, start, right_to_left, choices } = *run;
+        let reading = choices.reading(kerning);
+        let mut of_model = lent.clone();
+        let by_model = kerx_readings::run(reading, table, start, right_to_left, choices, &mut of_model);
+        let by_crate = || Ok((run.make(lent)?, lent.along.clone()));
+        let (made, along) = reading.right((by_model, of_model.along), by_crate)?;
+        lent.along = along;
+        Ok(made)
     }
 }
 
@@ -105,8 +123,8 @@ impl Question for KerningRun {
     fn trace(&self, table: &[u8]) -> Vec<String> {
         let run = self.run(table);
         match run.refusal(&self.lent) {
-            None => describe_run(&run, &self.lent),
-            Some(_) => Vec::new(),
+            None if run.choices.reading(run.kerning) == Reading::Crate => describe_run(&run, &self.lent),
+            _ => Vec::new(),
         }
     }
 }

@@ -3,10 +3,13 @@
 use crate::fuzz::case::Chosen;
 use crate::fuzz::seeds::{self, Seed};
 use crate::fuzz::source::Source;
+use crate::questions::kerning_choices::{count, describe_choices};
 use crate::questions::steps::for_each_told_length;
 use crate::questions::{Ask, Part, Question};
 use crate::reference::kerning::{are_roomy, Kerning};
 use crate::reference::kerning_by_copy::{open, DEEPEST, STATE};
+use crate::reference::kerning_choices::Choices;
+use crate::reference::kerx_readings::Kerx;
 use crate::reference::line::LARGEST_ROOM;
 use crate::reference::oracle::{Answer, Fault, LONGEST_TABLE};
 use crate::reference::trace::describe_state;
@@ -20,10 +23,12 @@ use crate::wire::entries::Entry;
 use crate::wire::reply::{add, number, numbers};
 use std::rc::Rc;
 
-/// A call of `aat_kern_step` or `aat_kerx_step`.
+/// A call of a step.
 #[derive(Clone)]
 pub struct Step {
     pub edition: Edition,
+    /// What is chosen, by kerx's entry that takes choices; None is the entry without them.
+    pub choices: Option<Choices>,
     pub start: u64,
     pub state: [u64; STATE],
     pub length: u64,
@@ -35,9 +40,21 @@ pub struct Step {
 /// The most steps in a row that do not advance.
 const MOST_CYCLES: u64 = 17;
 
+/// An answer, and the state and the adjustments that are left.
+type Stepped = (Answer<usize>, [u64; STATE], Vec<i64>);
+
 impl Step {
-    /// The answer, and the state and the adjustments that the call has to leave.
-    fn after(&self, table: &[u8]) -> Result<(Answer<usize>, [u64; STATE], Vec<i64>), Fault> {
+    /// What the call has to answer and to leave.
+    fn after(&self, table: &[u8]) -> Result<Stepped, Fault> {
+        let left = self.left(table)?;
+        if let Some(choices) = self.choices {
+            let left_by = |choices| Step { choices: Some(choices), ..self.clone() }.left(table);
+            count(self.entry(), choices, |choices| Ok(left_by(choices)? != left))?;
+        }
+        Ok(left)
+    }
+
+    fn left(&self, table: &[u8]) -> Result<Stepped, Fault> {
         let (mut state, mut along) = (self.state, self.along.clone());
         let answer = match self.refusal(table) {
             Some(answer) => answer,
@@ -64,13 +81,33 @@ impl Step {
         number <= 0xFFFF && !is_deep && cycles <= MOST_CYCLES && are_places()
     }
 
-    /// The step, if the subtable can be read and has a machine.
+    /// The step by the crate, and where choices are told of by kerx's model, too.
     fn made(&self, table: &[u8], state: &mut [u64; STATE], along: &mut [i64]) -> Result<Answer<usize>, Fault> {
         let Edition { kerning, version, .. } = self.edition;
-        let table = match table.get(self.start as usize..) {
-            Some(bytes) => kerning.alone(version, bytes),
+        let data = match table.get(self.start as usize..) {
+            Some(data) => data,
             None => return Ok(Answer::Head),
         };
+        let choices = match self.choices {
+            Some(choices) => choices,
+            None => return self.made_by_crate(data, state, along),
+        };
+        let reading = choices.reading(kerning);
+        let mut of_model = (*state, along.to_vec());
+        let length = self.length as usize;
+        let subtable = Kerx { reading, version, data };
+        let by_model = subtable.step(&mut of_model.0, self.index as usize, self.glyph, &mut of_model.1[..length]);
+        let by_crate = || Ok((self.made_by_crate(data, state, along)?, (*state, along.to_vec())));
+        let (answer, left) = reading.right((by_model, of_model), by_crate)?;
+        *state = left.0;
+        along.copy_from_slice(&left.1);
+        Ok(answer)
+    }
+
+    /// The step, if the subtable can be read and has a machine.
+    fn made_by_crate(&self, data: &[u8], state: &mut [u64; STATE], along: &mut [i64]) -> Result<Answer<usize>, Fault> {
+        let Edition { kerning, version, .. } = self.edition;
+        let table = kerning.alone(version, data);
         match open(kerning, &table) {
             Some(machine) => machine.step(state, self.index as usize, self.glyph, &mut along[..self.length as usize]),
             None => Ok(Answer::Head),
@@ -80,6 +117,9 @@ impl Step {
 
 impl Question for Step {
     fn entry(&self) -> Entry {
+        if self.choices.is_some() {
+            return Entry::KerxStepBy;
+        }
         self.edition.kerning.its(ENTRIES)
     }
 
@@ -91,6 +131,7 @@ impl Question for Step {
         add(&[self.start, self.index], call);
         call.extend(self.glyph.to_le_bytes());
         add(&[held], call);
+        call.extend(self.choices.iter().flat_map(|choices| choices.0.to_le_bytes()));
     }
 
     fn reply(&self, table: &[u8], held: u64, reply: &mut Vec<u8>) -> Result<(), Fault> {
@@ -111,7 +152,15 @@ impl Question for Step {
         let Edition { kerning, version, .. } = self.edition;
         let told = format!("length {}, index {}, glyph {}, lent advance {}", self.length, self.index, self.glyph, held);
         let lent = format!("state {}; {}", describe_state(&self.state), describe_along(&self.along));
-        format!("{} step at start {}, version {}: {}; {}", kerning.name(), self.start, version, told, lent)
+        let chosen = describe_choices(self.choices);
+        format!("{} step at start {}, version {}{}: {}; {}", kerning.name(), self.start, version, chosen, told, lent)
+    }
+
+    fn with_choices(&self, choices: Choices) -> Option<Box<dyn Question>> {
+        match self.edition.kerning {
+            Kerning::Kern => None,
+            Kerning::Kerx => Some(Box::new(Step { choices: Some(choices), ..self.clone() })),
+        }
     }
 
     fn describe_reply(&self, reply: &[u8]) -> String {
@@ -153,7 +202,8 @@ impl Part for Steps {
         let edition = Edition::new(self.0, version, 0);
         let state = [(); STATE].map(|()| source.number());
         let (length, along) = (lent.line.used, lent.along);
-        Box::new(Step { edition, start, state, length, index: told.index, glyph: told.glyph, along })
+        let (index, glyph) = (told.index, told.glyph);
+        Box::new(Step { edition, choices: None, start, state, length, index, glyph, along })
     }
 
     fn seed(&self, random: &mut Random, _entry: Entry) -> Seed {
@@ -173,7 +223,8 @@ fn ask_pass(asked: &mut dyn Ask, edition: Edition, table: &Rc<[u8]>, start: usiz
         let show = &mut |state: &[u64; STATE], place: usize, along: &[i64]| {
             let along = [along, &[5]].concat();
             let (start, state, glyph) = (start as u64, *state, glyphs[place]);
-            ask_step(asked, table, &Step { edition, start, state, length, index: place as u64, glyph, along });
+            let index = place as u64;
+            ask_step(asked, table, &Step { edition, choices: None, start, state, length, index, glyph, along });
         };
         // A fault in the pass is for the passes to show.
         let _ = machine.pass(glyphs, &mut vec![0; glyphs.len()], show);
@@ -196,7 +247,8 @@ fn right_step(edition: Edition) -> (Vec<u8>, Step) {
     let mut made = Vec::new();
     runs_on_past_its_end(edition, &mut |subtable| made = subtable);
     let state = [0; STATE];
-    (made, Step { edition, start: 0, state, length: 3, index: 1, glyph: 11, along: vec![1, 2, 3, 4, 5] })
+    let (choices, along) = (None, vec![1, 2, 3, 4, 5]);
+    (made, Step { edition, choices, start: 0, state, length: 3, index: 1, glyph: 11, along })
 }
 
 /// All that a step is refused for, in every mix.
@@ -274,7 +326,8 @@ fn short_bodies(asked: &mut dyn Ask, kerning: Kerning, random: &mut Random) {
                 let mut state = any_state(random, 3);
                 state[0] = 0;
                 let (index, along) = (random.below(4) as u64, vec![1, 2, 3, 4]);
-                ask_step(asked, &table, &Step { edition: *edition, start: 0, state, length: 3, index, glyph, along });
+                let (edition, choices) = (*edition, None);
+                ask_step(asked, &table, &Step { edition, choices, start: 0, state, length: 3, index, glyph, along });
             }
         });
     }
@@ -309,7 +362,7 @@ fn random_states(asked: &mut dyn Ask, kerning: Kerning, random: &mut Random, cas
             };
             let length = if random.once_in(30) { room as u64 + 1 } else { length };
             let along = any_along(random, room);
-            ask_step(asked, &table, &Step { edition, start, state, length, index, glyph, along });
+            ask_step(asked, &table, &Step { edition, choices: None, start, state, length, index, glyph, along });
         }
         left -= steps;
     }
@@ -328,7 +381,7 @@ fn random_passes(asked: &mut dyn Ask, kerning: Kerning, random: &mut Random, pas
 }
 
 /// Any state of a line this long.
-fn any_state(random: &mut Random, length: u64) -> [u64; STATE] {
+pub fn any_state(random: &mut Random, length: u64) -> [u64; STATE] {
     let mut state = [0; STATE];
     state[0] = random.among(&[0, 0, 0, 1, 2, 3, 4, 0xFFFF]);
     state[1] = random.among(&[0, 1, 2, 3, 5, 7, 7, 8]);

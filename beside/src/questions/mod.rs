@@ -8,6 +8,7 @@ pub mod kerning_pairs;
 pub mod kerning_passes;
 pub mod kerning_runs;
 pub mod kerning_steps;
+pub mod kerx_manual;
 pub mod language;
 pub mod lists;
 pub mod lone_insertion;
@@ -136,6 +137,7 @@ pub static PARTS: &[&dyn Part] = &[
     &mended::MendedTables,
     &stored::StoredLines,
     &features::Features,
+    &kerx_manual::Manual,
 ];
 
 /// The part that an entry belongs to.

@@ -1,6 +1,7 @@
-//! Document 02's choices of kerning: joined pairs (W-201), written from the request alone over the crate's own `get`.
+//! Document 02's choices of kerning; and joined pairs (W-201), written from the request alone over the crate's own `get`.
 
-use crate::reference::kerning::{add_at, Subtable};
+use crate::reference::kerning::{add_at, Kerning, Subtable};
+use crate::reference::kerx_readings::Reading;
 use crate::reference::line::DELETED;
 use crate::reference::oracle::{caught, Answer, Fault};
 
@@ -11,6 +12,9 @@ pub struct Choices(pub u32);
 /// The choice of joined pairs.
 pub const JOINED_PAIRS: u32 = 1;
 
+/// The choice of the manual's reading of kerx.
+pub const MANUAL_LISTS: u32 = 2;
+
 impl Choices {
     /// No choice is made: document 01's passes and runs.
     pub const NONE: Choices = Choices(0);
@@ -18,6 +22,20 @@ impl Choices {
     /// Whether pairs are those of `joined_pairs`, and else the neighbours.
     pub fn joins_pairs(self) -> bool {
         self.0 & JOINED_PAIRS != 0
+    }
+
+    /// How a table is read; kern is not told of the manual's reading.
+    pub fn reading(self, kerning: Kerning) -> Reading {
+        if kerning == Kerning::Kerx && self.0 & MANUAL_LISTS != 0 {
+            Reading::Manual
+        } else {
+            Reading::Crate
+        }
+    }
+
+    /// The same without some of them.
+    pub fn without(self, choices: u32) -> Self {
+        Choices(self.0 & !choices)
     }
 
     /// The two places of every pair.

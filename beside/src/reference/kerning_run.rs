@@ -7,6 +7,7 @@ use crate::reference::oracle::{caught, Answer, Fault};
 use crate::reference::run::{refusal_of_run, MOST_HEADS};
 
 /// A whole run of the table whose list begins at `start`.
+#[derive(Clone, Copy)]
 pub struct Run<'a> {
     pub kerning: Kerning,
     pub table: &'a [u8],

@@ -6,6 +6,7 @@ pub mod kerning_choices;
 pub mod kerning_lists_by_copy;
 pub mod kerning_run;
 pub mod kerning_trace;
+pub mod kerx_readings;
 pub mod line;
 pub mod lists_by_copy;
 pub mod ltag;

@@ -41,6 +41,7 @@ pub enum Answer<T> {
     Request,
     Record,
     Version,
+    Tuples,
     Overlap,
     Space,
 }
@@ -67,6 +68,7 @@ impl<T: Copy> Answer<T> {
             Answer::Request => 10,
             Answer::Record => 11,
             Answer::Version => 12,
+            Answer::Tuples => 13,
             Answer::Overlap => 17,
             Answer::Space => 18,
         }
@@ -88,6 +90,7 @@ impl<T: Copy> Answer<T> {
             Answer::Request => Answer::Request,
             Answer::Record => Answer::Record,
             Answer::Version => Answer::Version,
+            Answer::Tuples => Answer::Tuples,
             Answer::Overlap => Answer::Overlap,
             Answer::Space => Answer::Space,
         }

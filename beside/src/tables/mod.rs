@@ -4,6 +4,7 @@ pub mod contextual;
 pub mod insertion;
 pub mod kerning;
 pub mod kerning_examples;
+pub mod kerx_manual;
 pub mod kinds;
 pub mod language;
 pub mod ligature;

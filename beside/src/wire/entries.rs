@@ -64,4 +64,5 @@ entries! {
     StoreLine "aat_store_line",
     ReadLine "aat_read_line",
     MorxRunWith "aat_morx_run_with",
+    KerxStepBy "aat_kerx_step_by",
 }

@@ -16,6 +16,7 @@ use Rattle.answers.specs.Refuse.{refuse, tableTest}
 use Rattle.answers.specs.declared.Refusal.{Refusal}
 use Rattle.answers.specs.declared.Check.{Check}
 use Rattle.answers.specs.declared.Check.the-variants as Check′
+use Rattle.tables.specs.declared.units.Reading.the-variants.{Crate}
 use Rattle.pairs.specs.Pairs as Pairs
 use Rattle.pairs.specs.Pairs.{orderedKern, orderedKerx, classesKerx}
 use Rattle.pairs.specs.Reply.{answerOf, valueOf, numberReply, replyOf, checkedPair}
@@ -53,6 +54,7 @@ small-reply : (bytes : List ℕ) (opened : Opened) (left right : ℕ) → Small 
 unfolding replyOf
 small-reply bytes (Opened′.Ready pairs) left right = small-number (Pairs.pairNumber bytes pairs left right) (sized bytes pairs left right)
 small-reply bytes Opened′.Short left right = small-refused
+small-reply bytes Opened′.Tupled left right = small-refused
 
 small-if : (a b : ℕ) {yes no : PairReply} → Small yes → Small no → Small (ifEq a b yes no)
 small-if a b {yes} {no} y n = go (eqb a b)
@@ -84,7 +86,7 @@ small-kerx : (bytes : List ℕ) (version format left right : ℕ) → Small (Ker
 unfolding Kerx.pairBy
 small-kerx bytes version format left right =
     small-if format 0 (small-reply bytes (orderedKerx bytes) left right)
-    (small-if format 2 (small-reply bytes (classesKerx bytes) left right) small-refused)
+    (small-if format 2 (small-reply bytes (classesKerx bytes Crate) left right) small-refused)
 
 pub kern-small : (table : List ℕ) (start version left right : ℕ) → IsSmall (pairCall kern table start version left right)
 kern-small = small-call kern small-kern

@@ -1,11 +1,13 @@
 -- What the exported kerning steps leave: the step's numbers, or those that were lent where it was refused.
 use Prim.Native.Nat.{ℕ}
-use mathlib.Core.Path.{_≡_, sym, _∙_, ap}
+use mathlib.Core.Path.{_≡_, sym, _∙_, ap, ap₂}
 use mathlib.Core.Bool.{Bool, true, false}
 use mathlib.Core.List.{List}
 use lib.IntN.{ℤ}
 use Rattle.answers.specs.Numbers.{numberOf}
+use Rattle.tables.specs.declared.units.Reading.{Reading}
 use Rattle.kerning.specs.Additions.{addAll}
+use Rattle.kerning.specs.declared.choices.Choices.{Choices}
 use Rattle.kerning_machine.specs.declared.KerningState.{KerningState}
 use Rattle.kerning_machine.specs.declared.KerningStep.{KerningStep}
 use Rattle.kern_machine.specs.Machine as Kern
@@ -53,12 +55,14 @@ module _ (table : List ℕ) (start version : ℕ) (slots : List ℕ) (length ind
   unfolding kernStepped
   kern-added e = e ∙ ap (λ (s : KerningState). addAll (Kern.stepCall table start version s length index glyph along .additions) along) g
 
-  pub kerx-is : {step : KerningStep} → step ≡ Kerx.stepCall table start version given length index glyph along .step
-      → step ≡ kerxStepped table start version slots length index glyph along .step
-  unfolding kerxStepped
-  kerx-is e = e ∙ ap (λ (s : KerningState). Kerx.stepCall table start version s length index glyph along .step) g
+  -- and in the reading that is chosen
+  module _ (choices : Choices) {reading : Reading} (r : reading ≡ choices .reading) where
+    pub kerx-is : {step : KerningStep} → step ≡ Kerx.stepCall table start version given length index glyph along reading .step
+        → step ≡ kerxStepped table start version slots length index glyph along choices .step
+    unfolding kerxStepped
+    kerx-is e = e ∙ ap₂ (λ (s : KerningState) (x : Reading). Kerx.stepCall table start version s length index glyph along x .step) g r
 
-  pub kerx-added : {after : List ℤ} → after ≡ addAll (Kerx.stepCall table start version given length index glyph along .additions) along
-      → after ≡ addAll (kerxStepped table start version slots length index glyph along .additions) along
-  unfolding kerxStepped
-  kerx-added e = e ∙ ap (λ (s : KerningState). addAll (Kerx.stepCall table start version s length index glyph along .additions) along) g
+    pub kerx-added : {after : List ℤ} → after ≡ addAll (Kerx.stepCall table start version given length index glyph along reading .additions) along
+        → after ≡ addAll (kerxStepped table start version slots length index glyph along choices .additions) along
+    unfolding kerxStepped
+    kerx-added e = e ∙ ap₂ (λ (s : KerningState) (x : Reading). addAll (Kerx.stepCall table start version s length index glyph along x .additions) along) g r

@@ -5,6 +5,7 @@ use lib.IntN.{ℤ}
 use lib.ListN.{getD}
 use Rattle.laws.specs.Choose.{ifLt}
 use Rattle.laws.specs.Lists.{tab}
+use Rattle.kerning.specs.declared.choices.Choices.{Choices}
 use Rattle.kerning_machine.specs.Machine.{Stepped}
 use Rattle.kerning_machine.specs.declared.KerningState.{KerningState}
 use Rattle.kerning_machine.specs.declared.KerningStep.{KerningStep}
@@ -37,5 +38,6 @@ advanceAfter step was = unlessRefused (step .answer) was (step .advance)
 unfoldable pub kernStepped : List ℕ → (start version : ℕ) → (slots : List ℕ) → (used index glyph : ℕ) → List ℤ → Stepped
 kernStepped table start version slots used index glyph along = Kern.stepCall table start version (kerningFrom slots) used index glyph along
 
-unfoldable pub kerxStepped : List ℕ → (start version : ℕ) → (slots : List ℕ) → (used index glyph : ℕ) → List ℤ → Stepped
-kerxStepped table start version slots used index glyph along = Kerx.stepCall table start version (kerningFrom slots) used index glyph along
+unfoldable pub kerxStepped : List ℕ → (start version : ℕ) → (slots : List ℕ) → (used index glyph : ℕ) → List ℤ → Choices → Stepped
+kerxStepped table start version slots used index glyph along choices =
+    Kerx.stepCall table start version (kerningFrom slots) used index glyph along (choices .reading)

@@ -1,4 +1,5 @@
 // The exported passes and runs of kern and kerx by the choices that the bits of a number make.
+use crate::kern_steps;
 use kerning::choices::choices_of;
 ghost use mathlib.Core.Path.{_≡_};
 ghost use mathlib.Core.Bool.{false};
@@ -11,6 +12,7 @@ ghost use Rattle.kern.specs.Kern.{kern};
 ghost use Rattle.kerx.specs.Kerx.{kerx};
 ghost use Rattle.firmware.specs.Steps.{isFlag};
 ghost use Rattle.firmware.specs.Runs.{kerningHeads};
+ghost use Rattle.firmware.specs.KernSteps.{stateAfter, advanceAfter, kerxStepped};
 
 // The pass over a line, by the kern subtable at `start` and the choices made.
 #[no_mangle]
@@ -68,6 +70,41 @@ pub extern "C" fn aat_kerx_pass_by(
         along,
         choices_of(choices),
     ))
+}
+
+// A lone step of kerx's machine, by the choices made.
+#[no_mangle]
+pub extern "C" fn aat_kerx_step_by(
+    state: &mut [u64; 11],
+    table: &[u8],
+    start: usize,
+    version: u16,
+    used: usize,
+    index: usize,
+    glyph: u16,
+    along: &mut [i64],
+    advance: &mut usize,
+    choices: u32,
+) -> u32
+    ensures answer { λ r. ⌜ r ≡ numberOf (kerxStepped (now (table .entry)) start version (now (state .entry)) used index glyph (now (along .entry)) (choicesOf choices) .step .answer) ⌝ }
+    ensures state { λ _. ⌜ now (state .exit) ≡ stateAfter (kerxStepped (now (table .entry)) start version (now (state .entry)) used index glyph (now (along .entry)) (choicesOf choices) .step) (now (state .entry)) ⌝ }
+    ensures along { λ _. ⌜ now (along .exit) ≡ addAll (kerxStepped (now (table .entry)) start version (now (state .entry)) used index glyph (now (along .entry)) (choicesOf choices) .additions) (now (along .entry)) ⌝ }
+    ensures advance { λ _. ⌜ now (advance .exit) ≡ advanceAfter (kerxStepped (now (table .entry)) start version (now (state .entry)) used index glyph (now (along .entry)) (choicesOf choices) .step) (now (advance .entry)) ⌝ }
+{
+    let given = kern_steps::kerning_from(state);
+    let reading = choices_of(choices).reading;
+    let step = kerx_machine::step_by(
+        given,
+        table,
+        start,
+        version,
+        used,
+        index,
+        glyph,
+        along,
+        reading,
+    );
+    kern_steps::put_step(step, state, advance)
 }
 
 // The run over a line, by the kern table at `start` and the choices made.

@@ -9,6 +9,7 @@ ghost use Rattle.kerning_lists.specs.Family as List;
 ghost use Rattle.kern.specs.Kern.{kern};
 ghost use Rattle.kerx.specs.Kerx.{kerx};
 ghost use Rattle.kerning.specs.Additions.{addAll};
+ghost use Rattle.kerning.specs.Choices.{unchosen};
 ghost use Rattle.firmware.specs.KernSteps.{noKerning, kerningFrom, kerningSlots, stateAfter, advanceAfter, kernStepped, kerxStepped};
 ghost use Rattle.firmware.specs.Small.{IsSmall};
 
@@ -73,7 +74,7 @@ fn no_kerning() -> KerningState
 }
 
 // The state that eleven numbers say: state, depth, cycles, 8 places of the stack.
-fn kerning_from(slots: &[u64; 11]) -> KerningState
+pub fn kerning_from(slots: &[u64; 11]) -> KerningState
     ensures { λ r. ⌜ r ≡ kerningFrom (now (slots .entry)) ⌝ }
 {
     let state = slots[0];
@@ -122,7 +123,7 @@ fn put_kerning(slots: &mut [u64; 11], state: KerningState)
 }
 
 // Puts the state and the advance of a step where they were lent, unless it was refused, and answers with its number.
-fn put_step(step: KerningStep, state: &mut [u64; 11], advance: &mut usize) -> u32
+pub fn put_step(step: KerningStep, state: &mut [u64; 11], advance: &mut usize) -> u32
     ensures answer { λ r. ⌜ r ≡ numberOf (step .answer) ⌝ }
     ensures state { λ _. ⌜ now (state .exit) ≡ stateAfter step (now (state .entry)) ⌝ }
     ensures advance { λ _. ⌜ now (advance .exit) ≡ advanceAfter step (now (advance .entry)) ⌝ }
@@ -173,10 +174,10 @@ pub extern "C" fn aat_kerx_step(
     along: &mut [i64],
     advance: &mut usize,
 ) -> u32
-    ensures answer { λ r. ⌜ r ≡ numberOf (kerxStepped (now (table .entry)) start version (now (state .entry)) used index glyph (now (along .entry)) .step .answer) ⌝ }
-    ensures state { λ _. ⌜ now (state .exit) ≡ stateAfter (kerxStepped (now (table .entry)) start version (now (state .entry)) used index glyph (now (along .entry)) .step) (now (state .entry)) ⌝ }
-    ensures along { λ _. ⌜ now (along .exit) ≡ addAll (kerxStepped (now (table .entry)) start version (now (state .entry)) used index glyph (now (along .entry)) .additions) (now (along .entry)) ⌝ }
-    ensures advance { λ _. ⌜ now (advance .exit) ≡ advanceAfter (kerxStepped (now (table .entry)) start version (now (state .entry)) used index glyph (now (along .entry)) .step) (now (advance .entry)) ⌝ }
+    ensures answer { λ r. ⌜ r ≡ numberOf (kerxStepped (now (table .entry)) start version (now (state .entry)) used index glyph (now (along .entry)) unchosen .step .answer) ⌝ }
+    ensures state { λ _. ⌜ now (state .exit) ≡ stateAfter (kerxStepped (now (table .entry)) start version (now (state .entry)) used index glyph (now (along .entry)) unchosen .step) (now (state .entry)) ⌝ }
+    ensures along { λ _. ⌜ now (along .exit) ≡ addAll (kerxStepped (now (table .entry)) start version (now (state .entry)) used index glyph (now (along .entry)) unchosen .additions) (now (along .entry)) ⌝ }
+    ensures advance { λ _. ⌜ now (advance .exit) ≡ advanceAfter (kerxStepped (now (table .entry)) start version (now (state .entry)) used index glyph (now (along .entry)) unchosen .step) (now (advance .entry)) ⌝ }
 {
     let given = kerning_from(state);
     let step = kerx_machine::step(given, table, start, version, used, index, glyph, along);

@@ -4,5 +4,6 @@ pub mod Adding
 pub mod Scans
 pub mod Ruling
 pub mod Walking
+pub mod Walks
 pub mod Calls
 pub mod Choosing

@@ -20,7 +20,7 @@ use Rattle.parse.specs.declared.ReadU16.the-variants as U16
 use Rattle.parse.proofs.Laws.{u16-value}
 use Rattle.kerning.specs.Lists.{amountOf, ruled, numberAt}
 use Rattle.kerning.specs.declared.lists.Rule.{Rule}
-use Rattle.kerning.specs.declared.lists.Rule.the-variants.{Odd, Never}
+use Rattle.kerning.specs.declared.lists.Rule.the-variants.{Odd, Never, Marked}
 use Rattle.kerning.specs.declared.lists.Number.{Number}
 use Rattle.kerning.specs.declared.lists.Number.the-variants.{Short, Stop, Last, More}
 use Rattle.kerning.proofs.Signs.{size-16}
@@ -67,6 +67,14 @@ module _ {rule : Rule} (n : ℕ) {z : ℤ} where
   unfolding ruled
   ruled-more {crossed} e h f = rw (e, ruled, ne-eqb (n % 2) 1 h) (ap More (amount-round crossed n f))
 
+  pub marked-more : rule ≡ Marked → (n ≡ 0xFFFF → ⊥) → z ≡ signed16 n → More (toZ w16 (ofZ w16 z)) ≡ ruled rule n
+  unfolding ruled
+  marked-more e h f = rw (e, ruled, ne-eqb n 0xFFFF h) (ap More (signed16-round n f))
+
+pub marked-stop : (n : ℕ) → n ≡ 0xFFFF → Stop ≡ ruled Marked n
+unfolding ruled
+marked-stop n h = rw (eq-eqb n 0xFFFF h, ruled)
+
 -- a number that is added is one of 16 bits
 pub data Sized : Number → Type 0 where
   short : Sized Short
@@ -82,6 +90,11 @@ ruled-sized (Odd crossed) n = go (eqb (n % 2) 1)
     go true = last (amount-fits crossed (n - 1))
     go false = more (amount-fits crossed n)
 ruled-sized Never n = more (signed16-fits n)
+ruled-sized Marked n = go (eqb n 0xFFFF)
+  where
+    go : (t : Bool) → Sized (cond t Stop (More (signed16 n)))
+    go true = stop
+    go false = more (signed16-fits n)
 
 pub number-sized : (bytes : List ℕ) (rule : Rule) (place : ℕ) → Sized (numberAt bytes rule place)
 unfolding numberAt

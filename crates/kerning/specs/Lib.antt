@@ -2,5 +2,6 @@
 pub mod Additions
 pub mod Line
 pub mod Lists
+pub mod Walks
 pub mod Bounds
 pub mod Choices

@@ -13,7 +13,7 @@ use Rattle.parse.specs.Reads.{readU16}
 use Rattle.parse.specs.Use.{onU16}
 use Rattle.kerning.specs.Additions.{Addition, additionsAt}
 use Rattle.kerning.specs.declared.lists.Rule.{Rule}
-use Rattle.kerning.specs.declared.lists.Rule.the-variants.{Odd, Never}
+use Rattle.kerning.specs.declared.lists.Rule.the-variants.{Odd, Never, Marked}
 use Rattle.kerning.specs.declared.lists.Number.{Number}
 use Rattle.kerning.specs.declared.lists.Number.the-variants.{Short, Stop, Last, More}
 use Rattle.kerning.specs.declared.lists.Walked.{Walked}
@@ -23,10 +23,11 @@ unfoldable pub amountOf : (crossed : Bool) → ℕ → ℤ
 amountOf crossed number = cond (both crossed (eqb number 0x8000)) (pos 0) (signed16 number)
 
 -- the end rules. kern: an odd number is the last, its lowest bit cleared. kerx, as the crate has it: the test for 0xFFFF never holds, so that
--- -1 is added and the list runs on
+-- -1 is added and the list runs on. kerx in the manual's reading: 0xFFFF ends the list, and pops nothing (docs/DIFFERENCES.md, row 26)
 unfoldable pub ruled : Rule → ℕ → Number
 ruled (Odd crossed) number = ifEq (number % 2) 1 (Last (amountOf crossed (number - 1))) (More (amountOf crossed number))
 ruled Never number = More (signed16 number)
+ruled Marked number = ifEq number 0xFFFF Stop (More (signed16 number))
 
 -- the number at a place
 unfoldable pub numberAt : List ℕ → Rule → ℕ → Number

@@ -16,6 +16,8 @@ pub enum Rule {
     Odd { crossed: bool },
     // kerx, as the crate has it: no number is.
     Never,
+    // kerx in the manual's reading: a mark stops it, and pops nothing.
+    Marked,
 }
 
 // A number of a list, by its rule: none can be read, it stops the list, is the last, or the list goes on.
@@ -35,6 +37,9 @@ pub struct Walked {
 // The number of a cross-stream list that puts the stream back, and adds nothing.
 pub const BACK: u16 = 0x8000;
 
+// The mark behind a list of kerx's in the manual's reading.
+pub const MARK: u16 = 0xFFFF;
+
 // What a number of kern's adds.
 fn amount_of(crossed: bool, number: u16) -> i16
     ensures { λ r. ⌜ r ≡ amountOf crossed number ⌝ }
@@ -48,17 +53,35 @@ fn amount_of(crossed: bool, number: u16) -> i16
     parse::to_signed16(number)
 }
 
-// What a rule makes of a number.
-fn ruled(rule: Rule, number: u16) -> Number
-    ensures { λ r. ⌜ r ≡ ruled rule number ⌝ }
+// What kern's rule makes of a number.
+fn ruled_odd(crossed: bool, number: u16) -> Number
+    ensures { λ r. ⌜ r ≡ ruled (Rule.Odd crossed) number ⌝ }
 {
-    let Rule::Odd { crossed } = rule else {
-        return Number::More(parse::to_signed16(number));
-    };
     if number % 2 == 1 {
         return Number::Last(amount_of(crossed, number - 1));
     }
     Number::More(amount_of(crossed, number))
+}
+
+// What the manual's rule for kerx makes of a number.
+fn ruled_marked(number: u16) -> Number
+    ensures { λ r. ⌜ r ≡ ruled Rule.Marked number ⌝ }
+{
+    if number == MARK {
+        return Number::Stop;
+    }
+    Number::More(parse::to_signed16(number))
+}
+
+// What a rule makes of a number.
+fn ruled(rule: Rule, number: u16) -> Number
+    ensures { λ r. ⌜ r ≡ ruled rule number ⌝ }
+{
+    match rule {
+        Rule::Odd { crossed } => ruled_odd(crossed, number),
+        Rule::Never => Number::More(parse::to_signed16(number)),
+        Rule::Marked => ruled_marked(number),
+    }
 }
 
 // The number at a place of the list.
@@ -128,6 +151,57 @@ pub fn walk(
         }
         left -= 1;
         next += stride;
+    }
+    Walked {
+        ended: false,
+        depth: 0,
+    }
+}
+
+// The same of a list of kern's, in a function of its own, which its one caller takes in whole.
+pub fn walk_kern(
+    bytes: &[u8],
+    crossed: bool,
+    place: usize,
+    stack: &[usize; DEPTH],
+    depth: usize,
+    used: usize,
+    along: &mut [i64],
+) -> Walked
+    requires { ⌜ (depth ≤ 8) × (used ≤ length (now along)) × Within (2 ^ 61) (now along) ⌝ }
+    ensures left { λ r. ⌜ r ≡ walk (now (bytes .entry)) (Rule.Odd crossed) 2 (now (stack .entry)) used depth place .left ⌝ }
+    ensures along { λ _. ⌜ now (along .exit) ≡ addAll (walk (now (bytes .entry)) (Rule.Odd crossed) 2 (now (stack .entry)) used depth place .additions) (now (along .entry)) ⌝ }
+{
+    let mut next = place;
+    let mut left = depth;
+    while 0 < left {
+        let number = number_at(bytes, Rule::Odd { crossed }, next);
+        match number {
+            Number::Short => {
+                return Walked {
+                    ended: true,
+                    depth: left,
+                };
+            }
+            Number::Stop => {
+                return Walked {
+                    ended: false,
+                    depth: left,
+                };
+            }
+            Number::Last(amount) => {
+                add_in_line(along, used, stack[left - 1], amount);
+                return Walked {
+                    ended: false,
+                    depth: 0,
+                };
+            }
+            Number::More(amount) => {
+                add_in_line(along, used, stack[left - 1], amount);
+            }
+        }
+        left -= 1;
+        next += 2;
     }
     Walked {
         ended: false,

@@ -14,10 +14,11 @@ use Rattle.laws.specs.Lists.{both}
 use mathlib.Core.Logic.{_⊎_, ⊎-elim}
 use Rattle.parse.specs.Reads.{u16At}
 use Rattle.state_tables.specs.declared.entries.Entry.{Entry}
+use Rattle.kerning_machine.specs.declared.Start.{Start}
 use Rattle.kerning_machine.specs.declared.Start.the-variants as Start′
-use Rattle.kerning_machine.specs.declared.Reading.the-variants.{Kern, Kerx}
+use Rattle.kerning_machine.specs.declared.Reading.the-variants.{Kern, Kerx, Manual}
 use Rattle.kerning_machine.specs.declared.Orders.{Orders}
-use Rattle.kerning_machine.specs.Machine.{tupleSize, kerxStart, kernOrders, kerxOrders, ordersOf, isFull}
+use Rattle.kerning_machine.specs.Machine.{tupleSize, kerxStart, manualStart, kernOrders, indexedOrders, kerxOrders, ordersOf, isFull}
 
 -- a product is a 64-bit number exactly when the quotient says so
 product-past : (size number : ℕ) → 2 ≤ size → 0xFFFFFFFFFFFFFFFF / size < number → 2 ^ 64 ≤ number * size
@@ -69,6 +70,11 @@ module _ (bytes : List ℕ) (entry : Entry) where
       → orders ≡ ordersOf bytes (Kerx values tuples) entry
   unfolding ordersOf
   kerx-says values tuples o e = o ∙ ap (kerxOrders values tuples (entry .flags)) e
+
+  pub manual-says : (values : ℕ) {index : ℕ} {start : Start} {orders : Orders} → orders ≡ indexedOrders (entry .flags) start → start ≡ manualStart values index
+      → index ≡ u16At bytes (entry .payload) → orders ≡ ordersOf bytes (Manual values) entry
+  unfolding ordersOf
+  manual-says values o s e = o ∙ ap (indexedOrders (entry .flags)) (s ∙ ap (manualStart values) e)
 
 -- kern has no reset
 pub kern-keeps : (flags depth : ℕ) {orders : Orders} → orders ≡ kernOrders flags → depth ≡ cond (orders .resets) 0 depth

@@ -159,3 +159,4 @@ pub worked-within : (bytes : List ℕ) (opened : Opened) (glyphs : List ℕ) (us
 unfolding workedBy addAll
 worked-within bytes (Opened′.Ready kerning) glyphs used along h w = passed-within bytes kerning glyphs used along h w
 worked-within bytes Opened′.Short glyphs used along h w = within-more (omega arith) w
+worked-within bytes Opened′.Tupled glyphs used along h w = within-more (omega arith) w

@@ -27,9 +27,9 @@ use Rattle.kerning.specs.Line.{isModest}
 use Rattle.kerning.specs.Lists.{Walk, leaves, walk}
 use Rattle.kerning.specs.declared.lists.Walked.{Walked}
 use Rattle.kerning.specs.declared.lists.Rule.{Rule}
-use Rattle.kerning.specs.declared.lists.Rule.the-variants.{Odd, Never}
+use Rattle.kerning.specs.declared.lists.Rule.the-variants.{Odd, Never, Marked}
 use Rattle.kerning_machine.specs.declared.Reading.{Reading}
-use Rattle.kerning_machine.specs.declared.Reading.the-variants.{Kern, Kerx}
+use Rattle.kerning_machine.specs.declared.Reading.the-variants.{Kern, Kerx, Manual}
 use Rattle.kerning_machine.specs.declared.Start.{Start}
 use Rattle.kerning_machine.specs.declared.Start.the-variants as Start′
 use Rattle.kerning_machine.specs.declared.Orders.{Orders}
@@ -47,10 +47,12 @@ fresh = record { state = 0; stack = 0 ∷ 0 ∷ 0 ∷ 0 ∷ 0 ∷ 0 ∷ 0 ∷ 0 
 abbrev pub payloadOf : Reading → ℕ
 payloadOf (Kern crossed) = 0
 payloadOf (Kerx values tuples) = 2
+payloadOf (Manual values) = 2
 
 abbrev pub ruleOf : Reading → Rule
 ruleOf (Kern crossed) = Odd crossed
 ruleOf (Kerx values tuples) = Never
+ruleOf (Manual values) = Marked
 
 -- kerx: the tuple size is twice the tuple count, 0 of which counts as 1
 unfoldable pub tupleSize : ℕ → ℕ
@@ -59,6 +61,7 @@ tupleSize tuples = ifEq tuples 0 2 (tuples * 2)
 abbrev pub strideOf : Reading → ℕ
 strideOf (Kern crossed) = 2
 strideOf (Kerx values tuples) = tupleSize tuples
+strideOf (Manual values) = 2
 
 -- kern: the flags but the highest two are the list's place from the state table on; 0 is none
 unfoldable pub kernStart : ℕ → Start
@@ -70,25 +73,27 @@ kerxStart values tuples index =
     ifEq index 0xFFFF Start′.None
     (ifLt ((values + index) * tupleSize tuples) (2 ^ 64) (Start′.At ((values + index) * tupleSize tuples)) Start′.Nowhere)
 
+-- kerx in the manual's reading: the value table's place plus twice the index, counted from where the crate counts, the state table's start; 0xFFFF is none
+unfoldable pub manualStart : (values index : ℕ) → Start
+manualStart values index = ifEq index 0xFFFF Start′.None (Start′.At (values + index * 2))
+
 -- an entry's flags: 0x8000 pushes the index, 0x4000 is don't advance; in kern, a whole flags word of 0 empties the stack, and in kerx 0x2000 does so
 -- behind the list
 unfoldable pub kernOrders : (flags : ℕ) → Orders
 kernOrders flags =
     record { pushes = isSet flags 0x8000; clears = eqb flags 0; start = kernStart flags; resets = false; stays = isSet flags 0x4000 }
 
+unfoldable pub indexedOrders : (flags : ℕ) → Start → Orders
+indexedOrders flags start =
+    record { pushes = isSet flags 0x8000; clears = false; start = start; resets = isSet flags 0x2000; stays = isSet flags 0x4000 }
+
 unfoldable pub kerxOrders : (values tuples flags index : ℕ) → Orders
-kerxOrders values tuples flags index =
-    record {
-      pushes = isSet flags 0x8000;
-      clears = false;
-      start = kerxStart values tuples index;
-      resets = isSet flags 0x2000;
-      stays = isSet flags 0x4000;
-    }
+kerxOrders values tuples flags index = indexedOrders flags (kerxStart values tuples index)
 
 unfoldable pub ordersOf : List ℕ → Reading → Entry → Orders
 ordersOf bytes (Kern crossed) entry = kernOrders (entry .flags)
 ordersOf bytes (Kerx values tuples) entry = kerxOrders values tuples (entry .flags) (u16At bytes (entry .payload))
+ordersOf bytes (Manual values) entry = indexedOrders (entry .flags) (manualStart values (u16At bytes (entry .payload)))
 
 -- the 9th push
 abbrev pub isFull : (pushes : Bool) → (depth : ℕ) → Bool
@@ -200,11 +205,25 @@ passed bytes kerning glyphs used = passedBy (ownClasses bytes kerning) bytes ker
 abbrev pub isShort : Opened → Bool
 isShort (Opened′.Ready kerning) = false
 isShort Opened′.Short = true
+isShort Opened′.Tupled = false
+
+abbrev pub isTupled : Opened → Bool
+isTupled (Opened′.Ready kerning) = false
+isTupled Opened′.Short = false
+isTupled Opened′.Tupled = true
+
+-- what a head gives, where a subtable with tuples is refused or not
+unfoldable pub barred : (tupled : Bool) → Opened → Opened
+barred false opened = opened
+barred true (Opened′.Ready kerning) = Opened′.Tupled
+barred true Opened′.Short = Opened′.Short
+barred true Opened′.Tupled = Opened′.Tupled
 
 -- the pass by what a head gives, over the bytes from the state table on
 unfoldable pub workedBy : List ℕ → Opened → (glyphs : List ℕ) → (used : ℕ) → Kerned
 workedBy bytes (Opened′.Ready kerning) glyphs used = passed bytes kerning glyphs used
 workedBy bytes Opened′.Short glyphs used = nothingAdded (Answer′.Refused Refusal′.Head)
+workedBy bytes Opened′.Tupled glyphs used = nothingAdded (Answer′.Refused Refusal′.Tuples)
 
 -- every used slot's place is within the line or just behind it
 unfoldable pub areWithin : (stack : List ℕ) → (depth used : ℕ) → Bool
@@ -216,18 +235,19 @@ isRoomy along used = ifLt roomLimit (length along) false (ifLt (length along) us
 
 -- the tests of a lone step. LINE: a room above the limit, a length above the room, an adjustment beyond ±2^40; PLACE: the index is above the length;
 -- STATE: a stack above 8, a used slot's place above the length, a cycle count above 17
-unfoldable pub laterTests : (used index : ℕ) → KerningState → List ℤ → (headless : Bool) → List Test
-laterTests used index s along headless =
+unfoldable pub laterTests : (used index : ℕ) → KerningState → List ℤ → (headless tupled : Bool) → List Test
+laterTests used index s along headless tupled =
     record { holds = not (isRoomy along used); refusal = Refusal′.Line }
     ∷ record { holds = ltb used index; refusal = Refusal′.Place }
     ∷ record { holds = ltb 8 (s .depth); refusal = Refusal′.State }
     ∷ record { holds = not (areWithin (s .stack) (s .depth) used); refusal = Refusal′.State }
     ∷ record { holds = ltb 17 (s .cycles); refusal = Refusal′.State }
     ∷ record { holds = headless; refusal = Refusal′.Head }
+    ∷ record { holds = tupled; refusal = Refusal′.Tuples }
     ∷ []
 
-unfoldable pub stepTests : (tableLength used index : ℕ) → KerningState → List ℤ → (headless : Bool) → List Test
-stepTests tableLength used index s along headless = tableTest tableLength ∷ laterTests used index s along headless
+unfoldable pub stepTests : (tableLength used index : ℕ) → KerningState → List ℤ → (headless tupled : Bool) → List Test
+stepTests tableLength used index s along headless tupled = tableTest tableLength ∷ laterTests used index s along headless tupled
 
 -- a refused step hands the state back as given
 abbrev pub refusedStep : KerningState → Answer → Stepped
@@ -240,9 +260,10 @@ steppedBy (Check′.Refused why) s work = refusedStep s (Answer′.Refused why)
 abbrev pub onOpened : Opened → KerningState → (Kerning → Stepped) → Stepped
 onOpened (Opened′.Ready kerning) s work = work kerning
 onOpened Opened′.Short s work = refusedStep s (Answer′.Refused Refusal′.Head)
+onOpened Opened′.Tupled s work = refusedStep s (Answer′.Refused Refusal′.Tuples)
 
 -- a lone step
 unfoldable pub stepCall : (tableLength : ℕ) → List ℕ → Opened → KerningState → (used index glyph : ℕ) → List ℤ → Stepped
 stepCall tableLength bytes opened s used index glyph along =
-    steppedBy (refuse (stepTests tableLength used index s along (isShort opened))) s
+    steppedBy (refuse (stepTests tableLength used index s along (isShort opened) (isTupled opened))) s
     (onOpened opened s (λ kerning. next (ownClasses bytes kerning) bytes kerning s used index glyph))

@@ -25,14 +25,15 @@ ghost use Rattle.state_tables.specs.Opened.{byteClassIn, classBy, LiesIn, Remem
 ghost use Rattle.state_tables.specs.Rows.{isClassic};
 ghost use Rattle.kerning.specs.Additions.{addAll};
 ghost use Rattle.kerning.specs.Bounds.{Within};
-ghost use Rattle.kerning_machine.specs.Machine.{fresh, payloadOf, tupleSize, kernStart, kerxStart, kernOrders, kerxOrders, ordersOf, isFull, stacked, stopped, settled, walkedFrom, behind, acted, next, passedBy, passed, ownClasses, isRoomy, isShort, areWithin, stepTests, stepCall, workedBy};
+ghost use Rattle.kerning_machine.specs.Machine.{fresh, payloadOf, ruleOf, tupleSize, strideOf, kernStart, kerxStart, manualStart, kernOrders, indexedOrders, kerxOrders, ordersOf, isFull, stacked, stopped, settled, walkedFrom, behind, acted, next, passedBy, passed, ownClasses, isRoomy, isShort, areWithin, stepTests, stepCall, isTupled, barred, workedBy};
 ghost use Rattle.kerning_machine.specs.Work.{standing, stepOf, kernOf, kerxOf};
 
 // How a machine reads its entries: kern's flags hold where the list begins, and its subtable may go across the stream; kerx's entries hold
-// an index, which counts from the value table in tuples.
+// an index, which the crate counts in tuples, the value table with it, and the manual in numbers from the value table on.
 pub enum Reading {
     Kern { crossed: bool },
     Kerx { values: u32, tuples: u32 },
+    Manual { values: u32 },
 }
 
 // A machine, as its subtable's head gives it.
@@ -41,10 +42,11 @@ pub struct Kerning {
     pub reading: Reading,
 }
 
-// What a head gives, where it can be read.
+// What a head gives: a machine; none, where it can't be read; or one with tuples, where these are refused.
 pub enum Opened {
     Ready(Kerning),
     Short,
+    Tupled,
 }
 
 // Where an entry's list begins: there is none, at a place, or at one that no 64-bit number tells.
@@ -94,6 +96,7 @@ fn payload_of(reading: Reading) -> u16
     match reading {
         Reading::Kern { .. } => 0,
         Reading::Kerx { .. } => 2,
+        Reading::Manual { .. } => 2,
     }
 }
 
@@ -105,6 +108,28 @@ fn size_of(tuples: u32) -> usize
         return 2;
     }
     tuples as usize * 2
+}
+
+// The rule by which a list ends.
+fn rule_of(reading: Reading) -> Rule
+    ensures { λ r. ⌜ r ≡ ruleOf reading ⌝ }
+{
+    match reading {
+        Reading::Kern { crossed } => Rule::Odd { crossed },
+        Reading::Kerx { .. } => Rule::Never,
+        Reading::Manual { .. } => Rule::Marked,
+    }
+}
+
+// How far the numbers of a list are apart.
+fn stride_of(reading: Reading) -> usize
+    ensures { λ r. ⌜ (r ≡ strideOf reading) × (r ≤ 2 ^ 33) ⌝ }
+{
+    match reading {
+        Reading::Kern { .. } => 2,
+        Reading::Kerx { tuples, .. } => size_of(tuples),
+        Reading::Manual { .. } => 2,
+    }
 }
 
 // Where a list of kern's begins.
@@ -133,6 +158,16 @@ fn kerx_start(values: u32, tuples: u32, index: u16) -> Start
     Start::At(number * size)
 }
 
+// Where a list of kerx's begins in the manual's reading.
+fn manual_start(values: u32, index: u16) -> Start
+    ensures { λ r. ⌜ r ≡ manualStart values index ⌝ }
+{
+    if index == KerningState::NO_LIST {
+        return Start::None;
+    }
+    Start::At(values as usize + index as usize * 2)
+}
+
 // What the flags of an entry of kern's say.
 fn kern_orders(flags: u16) -> Orders
     ensures { λ r. ⌜ r ≡ kernOrders flags ⌝ }
@@ -146,17 +181,24 @@ fn kern_orders(flags: u16) -> Orders
     }
 }
 
-// What the flags of an entry of kerx's and its index say.
-fn kerx_orders(values: u32, tuples: u32, flags: u16, index: u16) -> Orders
-    ensures { λ r. ⌜ r ≡ kerxOrders values tuples flags index ⌝ }
+// What the flags of an entry of kerx's say, whose list begins there.
+fn indexed_orders(flags: u16, start: Start) -> Orders
+    ensures { λ r. ⌜ r ≡ indexedOrders flags start ⌝ }
 {
     Orders {
         pushes: machine::is_set(flags, KerningState::PUSH),
         clears: false,
-        start: kerx_start(values, tuples, index),
+        start,
         resets: machine::is_set(flags, KerningState::RESET),
         stays: machine::is_set(flags, KerningState::DONT_ADVANCE),
     }
+}
+
+// What the flags of an entry of kerx's and its index say.
+fn kerx_orders(values: u32, tuples: u32, flags: u16, index: u16) -> Orders
+    ensures { λ r. ⌜ r ≡ kerxOrders values tuples flags index ⌝ }
+{
+    indexed_orders(flags, kerx_start(values, tuples, index))
 }
 
 // What an entry says.
@@ -164,11 +206,17 @@ fn orders_of(bytes: &[u8], reading: Reading, entry: Entry) -> Orders
     requires { ⌜ entry .payload + payloadOf reading ≤ length (now bytes) ⌝ }
     ensures { λ r. ⌜ r ≡ ordersOf (now (bytes .entry)) reading entry ⌝ }
 {
-    let Reading::Kerx { values, tuples } = reading else {
-        return kern_orders(entry.flags);
-    };
-    let index = entries::one_number(bytes, entry.payload);
-    kerx_orders(values, tuples, entry.flags, index)
+    match reading {
+        Reading::Kern { .. } => kern_orders(entry.flags),
+        Reading::Kerx { values, tuples } => {
+            let index = entries::one_number(bytes, entry.payload);
+            kerx_orders(values, tuples, entry.flags, index)
+        }
+        Reading::Manual { values } => {
+            let index = entries::one_number(bytes, entry.payload);
+            indexed_orders(entry.flags, manual_start(values, index))
+        }
+    }
 }
 
 // The list of an entry, over a stack of so many places.
@@ -196,32 +244,16 @@ fn follow(
             return Walked { ended: true, depth };
         }
         Start::At(place) => {
-            match reading {
-                Reading::Kern { crossed } => {
-                    return lists::walk(
-                        bytes,
-                        Rule::Odd { crossed },
-                        2,
-                        place,
-                        stack,
-                        depth,
-                        used,
-                        along,
-                    );
-                }
-                Reading::Kerx { tuples, .. } => {
-                    return lists::walk(
-                        bytes,
-                        Rule::Never,
-                        size_of(tuples),
-                        place,
-                        stack,
-                        depth,
-                        used,
-                        along,
-                    );
-                }
-            }
+            return lists::walk(
+                bytes,
+                rule_of(reading),
+                stride_of(reading),
+                place,
+                stack,
+                depth,
+                used,
+                along,
+            );
         }
     }
 }
@@ -310,6 +342,59 @@ fn act(
     let deep = push(stack, depth, orders.pushes, orders.clears, index);
     let start = orders.start;
     follow(bytes, reading, start, stack, deep, used, along)
+}
+
+// The list of an entry of kern's.
+fn follow_kern(
+    bytes: &[u8],
+    crossed: bool,
+    start: Start,
+    stack: &[usize; KerningState::DEPTH],
+    depth: usize,
+    used: usize,
+    along: &mut [i64],
+) -> Walked
+    requires { ⌜ (depth ≤ 8) × (used ≤ length (now along)) × Within (2 ^ 61) (now along) ⌝ }
+    ensures left { λ r. ⌜ r ≡ walkedFrom (now (bytes .entry)) (Reading.Kern crossed) start (now (stack .entry)) depth used .left ⌝ }
+    ensures along { λ _. ⌜ now (along .exit) ≡ addAll (walkedFrom (now (bytes .entry)) (Reading.Kern crossed) start (now (stack .entry)) depth used .additions) (now (along .entry)) ⌝ }
+{
+    match start {
+        Start::None => {
+            return Walked {
+                ended: false,
+                depth,
+            };
+        }
+        Start::Nowhere => {
+            return Walked { ended: true, depth };
+        }
+        Start::At(place) => {
+            return lists::walk_kern(bytes, crossed, place, stack, depth, used, along);
+        }
+    }
+}
+
+// What `act` does for an entry of kern's, with the list's walk in it.
+fn act_kern(
+    bytes: &[u8],
+    crossed: bool,
+    orders: Orders,
+    stack: &mut [usize; KerningState::DEPTH],
+    depth: usize,
+    used: usize,
+    index: usize,
+    along: &mut [i64],
+) -> Walked
+    requires { ⌜ (depth ≤ 8) × (used ≤ length (now along)) × Within (2 ^ 61) (now along) ⌝ }
+    ensures step { λ r. ⌜ ((state cycles : ℕ) → behind orders (standing state (now (stack .exit)) (r .depth) cycles) r ≡ acted (now (bytes .entry)) (Reading.Kern crossed) (standing state (now (stack .entry)) depth cycles) orders used index .step) ⌝ }
+    ensures along { λ _. ⌜ ((state cycles : ℕ) → now (along .exit) ≡ addAll (acted (now (bytes .entry)) (Reading.Kern crossed) (standing state (now (stack .entry)) depth cycles) orders used index .additions) (now (along .entry))) ⌝ }
+{
+    if is_full(orders.pushes, depth) {
+        return Walked { ended: true, depth };
+    }
+    let deep = push(stack, depth, orders.pushes, orders.clears, index);
+    let start = orders.start;
+    follow_kern(bytes, crossed, start, stack, deep, used, along)
 }
 
 // The list of an entry of kerx's; its lists are at the same place for any value table.
@@ -410,6 +495,32 @@ fn is_short(opened: Opened) -> bool
     match opened {
         Opened::Ready(_) => false,
         Opened::Short => true,
+        Opened::Tupled => false,
+    }
+}
+
+// Whether there is one whose tuples are refused.
+fn is_tupled(opened: Opened) -> bool
+    ensures { λ r. ⌜ r ≡ isTupled opened ⌝ }
+{
+    match opened {
+        Opened::Ready(_) => false,
+        Opened::Short => false,
+        Opened::Tupled => true,
+    }
+}
+
+// What a head gives, where tuples are refused or not.
+pub fn barred(tupled: bool, opened: Opened) -> Opened
+    ensures { λ r. ⌜ r ≡ barred tupled opened ⌝ }
+{
+    if !tupled {
+        return opened;
+    }
+    match opened {
+        Opened::Ready(_) => Opened::Tupled,
+        Opened::Short => Opened::Short,
+        Opened::Tupled => Opened::Tupled,
     }
 }
 
@@ -482,7 +593,7 @@ impl KerningState {
         }
     }
 
-    // The tests before a lone step: TABLE, LINE, PLACE, STATE, HEAD.
+    // The tests before a lone step: TABLE, LINE, PLACE, STATE, HEAD, TUPLES.
     fn refuse(
         self,
         table_length: usize,
@@ -490,8 +601,9 @@ impl KerningState {
         index: usize,
         along: &[i64],
         headless: bool,
+        tupled: bool,
     ) -> Check
-        ensures { λ r. ⌜ r ≡ refuse (stepTests «table_length» used index self (now (along .entry)) headless) ⌝ }
+        ensures { λ r. ⌜ r ≡ refuse (stepTests «table_length» used index self (now (along .entry)) headless tupled) ⌝ }
     {
         if let Check::Refused(why) = answers::refuse_table(table_length) {
             return Check::Refused(why);
@@ -516,30 +628,26 @@ impl KerningState {
         if headless {
             return Check::Refused(Refusal::Head);
         }
+        if tupled {
+            return Check::Refused(Refusal::Tuples);
+        }
         Check::Passed
     }
 
-    // A lone step, by a machine and the bytes from its state table on, on a line of so many places.
-    pub fn step(
+    // The crate's `next` from this state.
+    fn go(
         self,
-        table_length: usize,
         bytes: &[u8],
-        opened: Opened,
+        kerning: Kerning,
         used: usize,
         index: usize,
         glyph: u16,
         along: &mut [i64],
     ) -> KerningStep
-        ensures step { λ r. ⌜ r ≡ stepCall «table_length» (now (bytes .entry)) opened self used index glyph (now (along .entry)) .step ⌝ }
-        ensures along { λ _. ⌜ now (along .exit) ≡ addAll (stepCall «table_length» (now (bytes .entry)) opened self used index glyph (now (along .entry)) .additions) (now (along .entry)) ⌝ }
+        requires { ⌜ (self .depth ≤ 8) × (used ≤ length (now along)) × Within (2 ^ 61) (now along) ⌝ }
+        ensures step { λ r. ⌜ r ≡ next (ownClasses (now (bytes .entry)) kerning) (now (bytes .entry)) kerning self used index glyph .step ⌝ }
+        ensures along { λ _. ⌜ now (along .exit) ≡ addAll (next (ownClasses (now (bytes .entry)) kerning) (now (bytes .entry)) kerning self used index glyph .additions) (now (along .entry)) ⌝ }
     {
-        let headless = is_short(opened);
-        if let Check::Refused(why) = self.refuse(table_length, used, index, along, headless) {
-            return self.stopped(Answer::Refused(why));
-        }
-        let Opened::Ready(kerning) = opened else {
-            return self.stopped(Answer::Refused(Refusal::Head));
-        };
         let mut stack = self.stack;
         let moved = next(
             bytes,
@@ -565,6 +673,45 @@ impl KerningState {
             advance: moved.advance,
         }
     }
+
+    // A lone step, by a machine and the bytes from its state table on, on a line of so many places.
+    pub fn step(
+        self,
+        table_length: usize,
+        bytes: &[u8],
+        opened: Opened,
+        used: usize,
+        index: usize,
+        glyph: u16,
+        along: &mut [i64],
+    ) -> KerningStep
+        ensures step { λ r. ⌜ r ≡ stepCall «table_length» (now (bytes .entry)) opened self used index glyph (now (along .entry)) .step ⌝ }
+        ensures along { λ _. ⌜ now (along .exit) ≡ addAll (stepCall «table_length» (now (bytes .entry)) opened self used index glyph (now (along .entry)) .additions) (now (along .entry)) ⌝ }
+    {
+        let headless = is_short(opened);
+        let tupled = is_tupled(opened);
+        if let Check::Refused(why) = self.refuse(
+            table_length,
+            used,
+            index,
+            along,
+            headless,
+            tupled,
+        ) {
+            return self.stopped(Answer::Refused(why));
+        }
+        match opened {
+            Opened::Ready(kerning) => {
+                return self.go(bytes, kerning, used, index, glyph, along);
+            }
+            Opened::Short => {
+                return self.stopped(Answer::Refused(Refusal::Head));
+            }
+            Opened::Tupled => {
+                return self.stopped(Answer::Refused(Refusal::Tuples));
+            }
+        }
+    }
 }
 
 // The class of a glyph in an extended table.
@@ -580,7 +727,7 @@ fn class_now(bytes: &[u8], table: Classes, memo: &mut [u32; 64], glyph: u16) -> 
 }
 
 // The pass of kern's machine, over a classic table. The steps at a place are a loop of their own, so that the next place's glyph is
-// read before it is known that the place is left; a state is kept by its row. What `next` does is written out: all but the list is inlined.
+// read before it is known that the place is left; a state is kept by its row. What `next` does is written out, and inlined.
 fn pass_kern(
     bytes: &[u8],
     states: States,
@@ -609,9 +756,9 @@ fn pass_kern(
                 return Answer::Ended;
             };
             let orders = kern_orders(flags);
-            let walked = act(
+            let walked = act_kern(
                 bytes,
-                Reading::Kern { crossed },
+                crossed,
                 orders,
                 &mut stack,
                 depth,
@@ -678,7 +825,7 @@ fn pass_kerx(
     Answer::Done
 }
 
-// The pass by lone steps, for kern's entries in an extended table, which no head gives.
+// The pass by lone steps: in the manual's reading, and for kern's entries in an extended table, which no head gives.
 fn pass_plain(
     bytes: &[u8],
     kerning: Kerning,
@@ -741,6 +888,9 @@ fn pass_line(
             let Classes::Bytes { base, first, count } = opened else {
                 return pass_plain(bytes, kerning, glyphs, used, along);
             };
+            if !entries::is_classic(states) {
+                return pass_plain(bytes, kerning, glyphs, used, along);
+            }
             return pass_kern(
                 bytes,
                 states,
@@ -756,17 +906,27 @@ fn pass_line(
         Reading::Kerx { values, tuples } => {
             return pass_kerx(bytes, states, values, tuples, opened, glyphs, used, along);
         }
+        Reading::Manual { .. } => {
+            return pass_plain(bytes, kerning, glyphs, used, along);
+        }
     }
 }
 
-// The pass by what a head gives; HEAD where it gives none.
+// The pass by what a head gives; HEAD where it gives none, TUPLES where these are refused.
 pub fn work(bytes: &[u8], opened: Opened, glyphs: &[u16], used: usize, along: &mut [i64]) -> Answer
     requires { ⌜ (used ≤ length (now glyphs)) × (used ≤ length (now along)) × (used ≤ roomLimit) × Within (2 ^ 60) (now along) ⌝ }
     ensures answer { λ r. ⌜ r ≡ workedBy (now (bytes .entry)) opened (now (glyphs .entry)) used .answer ⌝ }
     ensures along { λ _. ⌜ now (along .exit) ≡ addAll (workedBy (now (bytes .entry)) opened (now (glyphs .entry)) used .additions) (now (along .entry)) ⌝ }
 {
-    let Opened::Ready(kerning) = opened else {
-        return Answer::Refused(Refusal::Head);
-    };
-    pass_line(bytes, kerning, glyphs, used, along)
+    match opened {
+        Opened::Ready(kerning) => {
+            return pass_line(bytes, kerning, glyphs, used, along);
+        }
+        Opened::Short => {
+            return Answer::Refused(Refusal::Head);
+        }
+        Opened::Tupled => {
+            return Answer::Refused(Refusal::Tuples);
+        }
+    }
 }

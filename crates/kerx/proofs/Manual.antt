@@ -16,6 +16,7 @@ use Rattle.parse.specs.declared.ReadU32.{ReadU32}
 use Rattle.parse.specs.declared.ReadU32.the-variants as U32
 use Rattle.parse.proofs.Laws.{readU16-got, readU32-got, readU32-short, u32-from}
 use Rattle.tables.specs.ManualLookup.{Layout}
+use Rattle.tables.specs.declared.units.Reading.the-variants.{Crate}
 use Rattle.pairs.specs.Pairs.{orderedKerx, classesKerx}
 use Rattle.pairs.specs.Reply.{replyOf}
 use Rattle.pairs.specs.Manual.{Rising, OrderedValue, ClassValue, Legible, Covered}
@@ -134,7 +135,7 @@ module _ (bytes : List ℕ) (version left right : ℕ) where
       rw (head-is (omega (arith, h)), eq-eqb (u32At bytes 4 % 256) 0 (has .told), readU32-got bytes 12 (omega (arith, h)))
 
   classes-are : HasClasses bytes
-      → pairIn kerx bytes version left right ≡ replyOf bytes (Ready (Classes (rowsOf bytes) (columnsOf bytes) (arrayOf bytes))) left right
+      → pairIn kerx bytes version left right ≡ replyOf bytes (Ready (Classes (rowsOf bytes) (columnsOf bytes) (arrayOf bytes) Crate)) left right
   unfolding pairIn pairBy classesKerx subtableOf
   classes-are has =
       let h = has .head in

@@ -12,11 +12,12 @@ use Rattle.answers.specs.Limits.{roomLimit}
 use Rattle.answers.specs.declared.Answer.{Answer}
 use Rattle.answers.specs.declared.Answer.the-variants as Answer′
 use Rattle.answers.specs.declared.Refusal.the-variants as Refusal′
+use Rattle.tables.specs.declared.units.Reading.the-variants.{Crate}
 use Rattle.kerning.specs.Additions.{addAll, nothingAdded}
 use Rattle.kerning.specs.Bounds.{Within}
 use Rattle.kerning.specs.declared.choices.Choices.{Choices}
 use Rattle.kerning.proofs.Adding.{addAll-none, within-more}
-use Rattle.pairs.specs.Pairs.{orderedKerx, classesKerx}
+use Rattle.pairs.specs.Pairs.{orderedKerx, classesKerx, barred}
 use Rattle.pairs.specs.Reply.{replyOf}
 use Rattle.pairs.specs.Pass as Pairs′
 use Rattle.pairs.specs.declared.Opened.{Opened}
@@ -24,6 +25,7 @@ use Rattle.pairs.specs.declared.PairReply.{PairReply}
 use Rattle.pairs.specs.declared.PairReply.the-variants as Reply′
 use Rattle.pairs.proofs.Passes as PairLaws
 use Rattle.kerx_machine.specs.Machine as Machine′
+use Rattle.kerx_machine.specs.Machine.{isTupled}
 use Rattle.kerx_machine.proofs.Bounds as Bounds′
 use Rattle.kerning_lists.specs.Run.{turnedBack}
 use Rattle.kerning_lists.specs.declared.Head.{Head}
@@ -34,24 +36,31 @@ use Rattle.kerning_lists.proofs.Calls.{Works, works-same, works-nothing}
 use Rattle.kerx.specs.Kerx.{worked, pairBy}
 
 module _ (bytes : List ℕ) (version format : ℕ) (glyphs : List ℕ) (used : ℕ) (choices : Choices) (before : List ℤ) where
-  pub works-ordered : {opened : Opened} {answer : Answer} {after : List ℤ} → format ≡ 0 → opened ≡ orderedKerx bytes
-      → answer ≡ Pairs′.workedBy bytes opened glyphs used (choices .pairs) .answer → after ≡ addAll (Pairs′.workedBy bytes opened glyphs used (choices .pairs) .additions) before
+  abbrev tupledHere : Bool
+  tupledHere = isTupled bytes version (choices .reading)
+
+  -- the pairs opened, where tuples are refused or not
+  barred-by : {tupled : Bool} {opened given : Opened} (pairs : Opened) → given ≡ barred tupled opened → tupled ≡ tupledHere → opened ≡ pairs → given ≡ barred tupledHere pairs
+  barred-by pairs g t o = g ∙ ap₂ barred t o
+
+  pub works-ordered : {tupled : Bool} {pairs opened : Opened} {answer : Answer} {after : List ℤ} → format ≡ 0 → opened ≡ barred tupled pairs → tupled ≡ tupledHere
+      → pairs ≡ orderedKerx bytes → answer ≡ Pairs′.workedBy bytes opened glyphs used (choices .pairs) .answer → after ≡ addAll (Pairs′.workedBy bytes opened glyphs used (choices .pairs) .additions) before
       → Works (worked bytes version format glyphs used choices) before answer after
   unfolding worked
-  works-ordered z o a l =
-      works-same (ap (λ (x : Opened). Pairs′.workedBy bytes x glyphs used (choices .pairs)) o ∙ rw (eq-eqb format 0 z)) (record { answers = a; leaves = l })
+  works-ordered z o t p a l =
+      works-same (ap (λ (x : Opened). Pairs′.workedBy bytes x glyphs used (choices .pairs)) (barred-by (orderedKerx bytes) o t p) ∙ rw (eq-eqb format 0 z)) (record { answers = a; leaves = l })
 
-  pub works-machine : {answer : Answer} {after : List ℤ} → (format ≡ 0 → ⊥) → format ≡ 1 → answer ≡ Machine′.worked bytes version glyphs used .answer
-      → after ≡ addAll (Machine′.worked bytes version glyphs used .additions) before → Works (worked bytes version format glyphs used choices) before answer after
+  pub works-machine : {answer : Answer} {after : List ℤ} → (format ≡ 0 → ⊥) → format ≡ 1 → answer ≡ Machine′.worked bytes version glyphs used (choices .reading) .answer
+      → after ≡ addAll (Machine′.worked bytes version glyphs used (choices .reading) .additions) before → Works (worked bytes version format glyphs used choices) before answer after
   unfolding worked
   works-machine n z a l = works-same (rw (ne-eqb format 0 n, eq-eqb format 1 z)) (record { answers = a; leaves = l })
 
-  pub works-classes : {opened : Opened} {answer : Answer} {after : List ℤ} → (format ≡ 0 → ⊥) → (format ≡ 1 → ⊥) → format ≡ 2
-      → opened ≡ classesKerx bytes → answer ≡ Pairs′.workedBy bytes opened glyphs used (choices .pairs) .answer
+  pub works-classes : {tupled : Bool} {pairs opened : Opened} {answer : Answer} {after : List ℤ} → (format ≡ 0 → ⊥) → (format ≡ 1 → ⊥) → format ≡ 2
+      → opened ≡ barred tupled pairs → tupled ≡ tupledHere → pairs ≡ classesKerx bytes (choices .reading) → answer ≡ Pairs′.workedBy bytes opened glyphs used (choices .pairs) .answer
       → after ≡ addAll (Pairs′.workedBy bytes opened glyphs used (choices .pairs) .additions) before → Works (worked bytes version format glyphs used choices) before answer after
   unfolding worked
-  works-classes n m z o a l =
-      works-same (ap (λ (x : Opened). Pairs′.workedBy bytes x glyphs used (choices .pairs)) o ∙ rw (ne-eqb format 0 n, ne-eqb format 1 m, eq-eqb format 2 z))
+  works-classes n m z o t p a l =
+      works-same (ap (λ (x : Opened). Pairs′.workedBy bytes x glyphs used (choices .pairs)) (barred-by (classesKerx bytes (choices .reading)) o t p) ∙ rw (ne-eqb format 0 n, ne-eqb format 1 m, eq-eqb format 2 z))
       (record { answers = a; leaves = l })
 
   pub works-none : (format ≡ 0 → ⊥) → (format ≡ 1 → ⊥) → (format ≡ 2 → ⊥)
@@ -67,13 +76,14 @@ worked-little bytes version format glyphs used choices b along h w = go (eqb for
   where
     go : (zero one two : Bool) → Within (b + 2 ^ 39)
         (addAll
-        (cond zero (Pairs′.workedBy bytes (orderedKerx bytes) glyphs used (choices .pairs))
-        (cond one (Machine′.worked bytes version glyphs used)
-        (cond two (Pairs′.workedBy bytes (classesKerx bytes) glyphs used (choices .pairs)) (nothingAdded (Answer′.Refused Refusal′.Head)))) .additions)
+        (cond zero (Pairs′.workedBy bytes (barred (isTupled bytes version (choices .reading)) (orderedKerx bytes)) glyphs used (choices .pairs))
+        (cond one (Machine′.worked bytes version glyphs used (choices .reading))
+        (cond two (Pairs′.workedBy bytes (barred (isTupled bytes version (choices .reading)) (classesKerx bytes (choices .reading))) glyphs used (choices .pairs))
+        (nothingAdded (Answer′.Refused Refusal′.Head)))) .additions)
         along)
-    go true one two = PairLaws.worked-within bytes (orderedKerx bytes) glyphs used (choices .pairs) along h w
-    go false true two = Bounds′.worked-within bytes version glyphs used along h w
-    go false false true = PairLaws.worked-within bytes (classesKerx bytes) glyphs used (choices .pairs) along h w
+    go true one two = PairLaws.worked-within bytes (barred (isTupled bytes version (choices .reading)) (orderedKerx bytes)) glyphs used (choices .pairs) along h w
+    go false true two = Bounds′.worked-within bytes version glyphs used (choices .reading) along h w
+    go false false true = PairLaws.worked-within bytes (barred (isTupled bytes version (choices .reading)) (classesKerx bytes (choices .reading))) glyphs used (choices .pairs) along h w
     go false false false = within-more (omega arith) (subst (Within b) (sym (addAll-none along)) w)
 
 -- a line turned round and back
@@ -96,7 +106,7 @@ module _ (bytes : List ℕ) (version format left right : ℕ) where
   unfolding pairBy
   pair-ordered z o r = r ∙ ap (λ (x : Opened). replyOf bytes x left right) o ∙ rw (eq-eqb format 0 z)
 
-  pub pair-classes : {opened : Opened} {reply : PairReply} → (format ≡ 0 → ⊥) → format ≡ 2 → opened ≡ classesKerx bytes
+  pub pair-classes : {opened : Opened} {reply : PairReply} → (format ≡ 0 → ⊥) → format ≡ 2 → opened ≡ classesKerx bytes Crate
       → reply ≡ replyOf bytes opened left right → reply ≡ pairBy bytes version format left right
   unfolding pairBy
   pair-classes n z o r = r ∙ ap (λ (x : Opened). replyOf bytes x left right) o ∙ rw (ne-eqb format 0 n, eq-eqb format 2 z)

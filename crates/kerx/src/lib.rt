@@ -12,6 +12,7 @@ use kerning_lists::Run;
 use kerning_lists::Subtable;
 use kerning_lists::SubtableReply;
 use pairs::PairReply;
+use tables::units::Reading;
 ghost use mathlib.Core.Path.{_≡_};
 ghost use mathlib.Core.Bool.{false};
 ghost use Prim.Native.Nat.{_<_, _≤_, _^_};
@@ -163,14 +164,30 @@ fn work(
     ensures along { λ _. ⌜ now (along .exit) ≡ addAll (worked (now (bytes .entry)) version format (now (glyphs .entry)) used choices .additions) (now (along .entry)) ⌝ }
 {
     let rule = choices.pairs;
+    let reading = choices.reading;
+    let tupled = kerx_machine::is_tupled(bytes, version, reading);
     if format == 0 {
-        return pairs::work(bytes, pairs::ordered_kerx(bytes), glyphs, used, along, rule);
+        return pairs::work(
+            bytes,
+            pairs::barred(tupled, pairs::ordered_kerx(bytes)),
+            glyphs,
+            used,
+            along,
+            rule,
+        );
     }
     if format == 1 {
-        return kerx_machine::work(bytes, version, glyphs, used, along);
+        return kerx_machine::work(bytes, version, glyphs, used, along, reading);
     }
     if format == 2 {
-        return pairs::work(bytes, pairs::classes_kerx(bytes), glyphs, used, along, rule);
+        return pairs::work(
+            bytes,
+            pairs::barred(tupled, pairs::classes_kerx(bytes, reading)),
+            glyphs,
+            used,
+            along,
+            rule,
+        );
     }
     Answer::Refused(Refusal::Head)
 }
@@ -183,7 +200,12 @@ fn pair_by(bytes: &[u8], version: u16, format: u32, left: u16, right: u16) -> Pa
         return pairs::reply(bytes, pairs::ordered_kerx(bytes), left, right);
     }
     if format == 2 {
-        return pairs::reply(bytes, pairs::classes_kerx(bytes), left, right);
+        return pairs::reply(
+            bytes,
+            pairs::classes_kerx(bytes, Reading::Crate),
+            left,
+            right,
+        );
     }
     PairReply::Refused(Refusal::Head)
 }

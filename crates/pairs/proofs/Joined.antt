@@ -16,7 +16,7 @@ use Rattle.pairs.specs.Pass.{additionOf, Before, none, place as placed, 
 use Rattle.pairs.specs.Joined.{JoinedPair, toPlace, AddedBy}
 use Rattle.pairs.specs.declared.PairTable.{PairTable}
 use Rattle.pairs.specs.declared.Opened.{Opened}
-use Rattle.pairs.specs.declared.Opened.the-variants.{Ready, Short}
+use Rattle.pairs.specs.declared.Opened.the-variants.{Ready, Short, Tupled}
 use Rattle.pairs.specs.declared.Number.{Number}
 use Rattle.pairs.specs.declared.Number.the-variants.{By, Nothing}
 use Rattle.pairs.proofs.Passes.{last-counted, last-skipped, last-over, below-next}
@@ -205,3 +205,4 @@ unfolding workedBy
 joined-without-deleted bytes (Ready pairs) glyphs used all =
     rw (below-same (counts Joined glyphs) (counts Neighbours glyphs) (pairNumber bytes pairs) glyphs used (λ k h. lt-ltb (getD glyphs k 0) 0xFFFF (all k h)))
 joined-without-deleted bytes Short glyphs used all = refl
+joined-without-deleted bytes Tupled glyphs used all = refl

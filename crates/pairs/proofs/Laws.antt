@@ -14,7 +14,8 @@ use Rattle.parse.specs.declared.ReadI16.{ReadI16}
 use Rattle.parse.specs.declared.ReadI16.the-variants as I16
 use Rattle.tables.specs.Records.{pairPlace}
 use Rattle.tables.specs.Search.{searched}
-use Rattle.tables.specs.Lookup.{lookupAt}
+use Rattle.tables.specs.Units.{lookupBy}
+use Rattle.tables.specs.declared.units.Reading.{Reading}
 use Rattle.tables.specs.declared.records.Keys.the-variants as Keys′
 use Rattle.tables.specs.declared.records.Spot.{Spot}
 use Rattle.tables.specs.declared.records.Spot.the-variants as Spot′
@@ -68,23 +69,23 @@ module _ (bytes : List ℕ) (first count left right : ℕ) {key : ℕ} {spot : S
   ordered-cut f = ap (numberIn bytes first) (sym f) ∙ sym searched-is
 
 -- by classes
-module _ (bytes : List ℕ) (columns row right : ℕ) {part : List ℕ} {found : Found} (d : part ≡ drop columns bytes)
-    (e : found ≡ lookupAt part right) where
-  pub row-at : {column : ℕ} {r : Number} → found ≡ Found′.At column → r ≡ numberAt bytes (row + column) → r ≡ numberInRow bytes columns row right
+module _ (bytes : List ℕ) (columns : ℕ) (reading : Reading) (row right : ℕ) {part : List ℕ} {found : Found} (d : part ≡ drop columns bytes)
+    (e : found ≡ lookupBy reading part right) where
+  pub row-at : {column : ℕ} {r : Number} → found ≡ Found′.At column → r ≡ numberAt bytes (row + column) → r ≡ numberInRow bytes columns reading row right
   unfolding numberInRow
-  row-at f n = n ∙ rw (ap (λ (x : List ℕ). lookupAt x right) (sym d) ∙ sym e ∙ f)
+  row-at f n = n ∙ rw (ap (λ (x : List ℕ). lookupBy reading x right) (sym d) ∙ sym e ∙ f)
 
-  pub row-nothing : {why : Why} → found ≡ Found′.Nothing why → Nothing why ≡ numberInRow bytes columns row right
+  pub row-nothing : {why : Why} → found ≡ Found′.Nothing why → Nothing why ≡ numberInRow bytes columns reading row right
   unfolding numberInRow
-  row-nothing f = rw (ap (λ (x : List ℕ). lookupAt x right) (sym d) ∙ sym e ∙ f)
+  row-nothing f = rw (ap (λ (x : List ℕ). lookupBy reading x right) (sym d) ∙ sym e ∙ f)
 
-module _ (bytes : List ℕ) (rows columns array left right : ℕ) {part : List ℕ} {found : Found} (d : part ≡ drop rows bytes)
-    (e : found ≡ lookupAt part left) where
-  pub class-at : {row : ℕ} {r : Number} → found ≡ Found′.At row → r ≡ numberInRow bytes columns (array + row) right
-      → r ≡ classNumber bytes rows columns array left right
+module _ (bytes : List ℕ) (rows columns array : ℕ) (reading : Reading) (left right : ℕ) {part : List ℕ} {found : Found} (d : part ≡ drop rows bytes)
+    (e : found ≡ lookupBy reading part left) where
+  pub class-at : {row : ℕ} {r : Number} → found ≡ Found′.At row → r ≡ numberInRow bytes columns reading (array + row) right
+      → r ≡ classNumber bytes rows columns array reading left right
   unfolding classNumber
-  class-at f n = n ∙ rw (ap (λ (x : List ℕ). lookupAt x left) (sym d) ∙ sym e ∙ f)
+  class-at f n = n ∙ rw (ap (λ (x : List ℕ). lookupBy reading x left) (sym d) ∙ sym e ∙ f)
 
-  pub class-nothing : {why : Why} → found ≡ Found′.Nothing why → Nothing why ≡ classNumber bytes rows columns array left right
+  pub class-nothing : {why : Why} → found ≡ Found′.Nothing why → Nothing why ≡ classNumber bytes rows columns array reading left right
   unfolding classNumber
-  class-nothing f = rw (ap (λ (x : List ℕ). lookupAt x left) (sym d) ∙ sym e ∙ f)
+  class-nothing f = rw (ap (λ (x : List ℕ). lookupBy reading x left) (sym d) ∙ sym e ∙ f)

@@ -19,6 +19,8 @@ use Rattle.tables.specs.declared.records.Keys.the-variants as Keys′
 use Rattle.tables.specs.declared.records.Spot.{Spot}
 use Rattle.tables.specs.declared.records.Spot.the-variants.{At, Absent, Cut}
 use Rattle.tables.specs.Lookup.{lookupAt}
+use Rattle.tables.specs.declared.units.Reading.the-variants.{Crate}
+use Rattle.tables.proofs.Sizes.{in-crate}
 use Rattle.tables.specs.declared.lookup.Why.{Why}
 use Rattle.tables.specs.declared.lookup.Why.the-variants.{NotCovered, CutShort}
 use Rattle.tables.specs.declared.lookup.Found.{Found}
@@ -141,14 +143,14 @@ module _ (bytes : List ℕ) (glyphs rows columns array left right : ℕ) (leftLa
   column-found : Lookup′.AsManual (drop columns bytes) glyphs right rightLayout
   column-found = lookup-as-manual rightLayout (drop columns bytes) glyphs right (r .0) (r .1)
 
-  class-there : (value : ℤ) → Value value → classNumber bytes rows columns array left right ≡ By value
+  class-there : (value : ℤ) → Value value → classNumber bytes rows columns array Crate left right ≡ By value
   unfolding classNumber numberInRow
   class-there value v =
       let p = v .1 in
-      rw (row-found .there (p .row) (p .rowLies) (p .rowInside), column-found .there (p .column) (p .columnLies) (p .columnInside), ← (p .sum))
+      rw (in-crate (drop rows bytes) left ∙ row-found .there (p .row) (p .rowLies) (p .rowInside), in-crate (drop columns bytes) right ∙ column-found .there (p .column) (p .columnLies) (p .columnInside), ← (p .sum))
       (number-inside bytes (v .0) (p .inside) ∙ ap By (sym (v .2)))
 
-  class-found : (value : ℤ) → classNumber bytes rows columns array left right ≡ By value → Value value
+  class-found : (value : ℤ) → classNumber bytes rows columns array Crate left right ≡ By value → Value value
   unfolding classNumber numberInRow
   class-found value e = go (lookupAt (drop rows bytes) left) (lookupAt (drop columns bytes) right) refl refl
     where
@@ -156,7 +158,7 @@ module _ (bytes : List ℕ) (glyphs rows columns array left right : ℕ) (leftLa
       go (Found′.At a) (Found′.At b) f g =
           let (row, rowLies, rowInside, a-is) = row-found .found a f in
           let (column, columnLies, columnInside, b-is) = column-found .found b g in
-          let n : numberAt bytes (array + a + b) ≡ By value = sym (rw (f, g, classNumber)) ∙ e in
+          let n : numberAt bytes (array + a + b) ≡ By value = sym (rw (in-crate (drop rows bytes) left ∙ f, in-crate (drop columns bytes) right ∙ g, classNumber)) ∙ e in
           let (inside, value-is) = number-found bytes (array + a + b) value n in (
             array + a + b,
             record {
@@ -171,19 +173,19 @@ module _ (bytes : List ℕ) (glyphs rows columns array left right : ℕ) (leftLa
             },
             value-is,
           )
-      go (Found′.At a) (Found′.Nothing why) f g = not-both (classNumber bytes rows columns array left right) why e (rw (f, g, classNumber))
-      go (Found′.Nothing why) b f g = not-both (classNumber bytes rows columns array left right) why e (rw (f, classNumber))
+      go (Found′.At a) (Found′.Nothing why) f g = not-both (classNumber bytes rows columns array Crate left right) why e (rw (in-crate (drop rows bytes) left ∙ f, in-crate (drop columns bytes) right ∙ g, classNumber))
+      go (Found′.Nothing why) b f g = not-both (classNumber bytes rows columns array Crate left right) why e (rw (in-crate (drop rows bytes) left ∙ f, classNumber))
 
   -- of glyphs that both lookups cover, only the number can be cut short
   class-cut : Covered (drop rows bytes) glyphs left leftLayout → Covered (drop columns bytes) glyphs right rightLayout → (why : Why)
-      → classNumber bytes rows columns array left right ≡ Nothing why → why ≡ CutShort
+      → classNumber bytes rows columns array Crate left right ≡ Nothing why → why ≡ CutShort
   unfolding classNumber numberInRow
   class-cut (row, rowLies, rowInside) (column, columnLies, columnInside) why e =
       let a = row-found .there row rowLies rowInside in
       let b = column-found .there column columnLies columnInside in
-      number-cut bytes (array + u16At (drop rows bytes) row + u16At (drop columns bytes) column) why (sym (rw (a, b, classNumber)) ∙ e)
+      number-cut bytes (array + u16At (drop rows bytes) row + u16At (drop columns bytes) column) why (sym (rw (in-crate (drop rows bytes) left ∙ a, in-crate (drop columns bytes) right ∙ b, classNumber)) ∙ e)
 
   pub class-as-manual : Covered (drop rows bytes) glyphs left leftLayout → Covered (drop columns bytes) glyphs right rightLayout
-      → AsManual (replyOf bytes (Ready (Classes rows columns array)) left right) Value CutShort
+      → AsManual (replyOf bytes (Ready (Classes rows columns array Crate)) left right) Value CutShort
   unfolding replyOf pairNumber
-  class-as-manual lefts rights = joined (classNumber bytes rows columns array left right) Value CutShort class-found class-there (class-cut lefts rights)
+  class-as-manual lefts rights = joined (classNumber bytes rows columns array Crate left right) Value CutShort class-found class-there (class-cut lefts rights)

@@ -1,6 +1,6 @@
 -- The pair pass's loops: over a stretch of places that count, and over the stretches.
 use Prim.Native.Nat.{ℕ, zero, suc, _+_, _-_, _*_, _<_, _≤_, _^_}
-use mathlib.Core.Path.{_≡_, refl, sym, _∙_, ap, subst}
+use mathlib.Core.Path.{_≡_, refl, sym, _∙_, ap, ap₂, subst}
 use mathlib.Core.Bool.{Bool, true, false, cond}
 use mathlib.Core.List.{List, [], _++_, append-nil, append-assoc}
 use native.Mathlib.Numerals.{add-one}
@@ -13,12 +13,20 @@ use mir.Val.{SFits, toZ, ofZ}
 use mir.Facts.{toZ-ofZ}
 use Rattle.answers.specs.Limits.{roomLimit}
 use Rattle.line.proofs.Room.{room-small}
+use borrow.Author.Tests.{leb-true}
+use Rattle.laws.proofs.Lists.{both-left, both-right}
 use Rattle.laws.proofs.Signed.{signed16-size}
 use Rattle.laws.proofs.Numbers.{lt-or-ge}
 use Rattle.parse.specs.Reads.{inside, u16At, readI16}
 use Rattle.tables.specs.Records.{pairPlace}
 use Rattle.tables.specs.Search.{searched}
 use Rattle.tables.specs.Lookup.{lookupAt}
+use Rattle.tables.specs.Units.{lookupBy, unitsBy}
+use Rattle.tables.specs.declared.units.Reading.{Reading}
+use Rattle.tables.specs.declared.units.Reading.the-variants.{Crate}
+use Rattle.tables.specs.declared.units.Units.{Units}
+use Rattle.tables.specs.declared.units.Units.the-variants as Units′
+use Rattle.tables.proofs.Sizes.{in-words, in-crate}
 use Rattle.tables.specs.Opened.{openedOf, plain, foundIn}
 use Rattle.tables.specs.declared.opened.Opened as Tables′
 use Rattle.tables.proofs.Openings.{opened-same}
@@ -33,15 +41,15 @@ use Rattle.kerning.specs.Bounds.{Within}
 use Rattle.kerning.specs.declared.choices.PairRule.{PairRule}
 use Rattle.kerning.proofs.Signs.{size-16}
 use Rattle.kerning.proofs.Adding.{length-addAll, addAll-none, addAll-append, within-addAll, within-more, Small, small-none, small-one, small-append}
-use Rattle.pairs.specs.Pairs.{keyOf, numberAt, numberIn, orderedNumber, onClass, numberInRow, classNumber, pairNumber}
+use Rattle.pairs.specs.Pairs.{keyOf, barred, numberAt, numberIn, orderedNumber, onClass, numberInRow, classNumber, pairNumber}
 use Rattle.pairs.specs.Reply.{replyOf}
 use Rattle.pairs.specs.declared.PairReply.the-variants as Reply′
-use Rattle.pairs.specs.Work.{onFound, openedNumber, FirstFrom, stretch, Sized}
+use Rattle.pairs.specs.Work.{areWords, inWords, isPlain, onFound, openedNumber, FirstFrom, stretch, Sized}
 use Rattle.pairs.specs.Pass.{additionOf, Before, none, place as placed, lastBelow, withBefore, pairsBelow, counts, workedBy}
 use Rattle.pairs.specs.declared.PairTable.{PairTable}
 use Rattle.pairs.specs.declared.PairTable.the-variants.{Ordered, Classes}
 use Rattle.pairs.specs.declared.Opened.{Opened}
-use Rattle.pairs.specs.declared.Opened.the-variants.{Ready, Short}
+use Rattle.pairs.specs.declared.Opened.the-variants.{Ready, Short, Tupled}
 use Rattle.pairs.specs.declared.Number.{Number}
 use Rattle.pairs.specs.declared.Number.the-variants.{By, Nothing}
 
@@ -70,9 +78,9 @@ sized-ordered bytes first count left right = sized-in bytes first (searched byte
 pub sized : (bytes : List ℕ) (pairs : PairTable) (left right : ℕ) → Sized (pairNumber bytes pairs left right)
 unfolding pairNumber classNumber numberInRow
 sized bytes (Ordered first count) left right = sized-ordered bytes first count left right
-sized bytes (Classes rows columns array) left right =
-    sized-class (lookupAt (drop rows bytes) left) _
-    (λ row. sized-class (lookupAt (drop columns bytes) right) _ (λ column. sized-at bytes (array + row + column)))
+sized bytes (Classes rows columns array reading) left right =
+    sized-class (lookupBy reading (drop rows bytes) left) _
+    (λ row. sized-class (lookupBy reading (drop columns bytes) right) _ (λ column. sized-at bytes (array + row + column)))
 
 pub sized-opened : (bytes rows : List ℕ) (leftRows : Tables′.Opened) (columns : List ℕ) (rightColumns : Tables′.Opened) (array left right : ℕ)
     → Sized (openedNumber bytes rows leftRows columns rightColumns array left right)
@@ -84,6 +92,74 @@ sized-opened bytes rows leftRows columns rightColumns array left right = go (fou
     go (Found′.At r) (Found′.Nothing why) = tt
     go (Found′.Nothing why) column = tt
 
+-- class pairs in the crate's reading, by the crate's lookup
+pub in-crates : (bytes : List ℕ) (rows columns array left right : ℕ) → pairNumber bytes (Classes rows columns array Crate) left right
+    ≡ onClass (lookupAt (drop rows bytes) left) (λ row. onClass (lookupAt (drop columns bytes) right) (λ column. numberAt bytes (array + row + column)))
+unfolding pairNumber classNumber numberInRow
+in-crates bytes rows columns array left right =
+    ap₂ (λ (a b : Found). onClass a (λ row. onClass b (λ column. numberAt bytes (array + row + column))))
+    (in-crate (drop rows bytes) left) (in-crate (drop columns bytes) right)
+
+-- and where rows and columns have elements of two bytes, in either reading
+are-words : (units : Units) → areWords units ≡ true → units ≡ Units′.Words
+are-words Units′.Words e = refl
+are-words (Units′.Bytes first count) e = let z : _≡_ {A = ℕ} 0 1 = cc in absurd (omega arith)
+are-words (Units′.None why) e = let z : _≡_ {A = ℕ} 0 1 = cc in absurd (omega arith)
+
+pub words-number : (bytes : List ℕ) (rows columns array : ℕ) (reading : Reading) → inWords bytes rows columns reading ≡ true
+    → pairNumber bytes (Classes rows columns array Crate) ≡ pairNumber bytes (Classes rows columns array reading)
+unfolding inWords pairNumber classNumber numberInRow
+words-number bytes rows columns array reading e =
+    λ i left right. (in-crates bytes rows columns array left right ∙ sym (by-reading left right)) i
+  where
+    in-rows : unitsBy reading (drop rows bytes) ≡ Units′.Words
+    in-rows = are-words (unitsBy reading (drop rows bytes)) (both-left (areWords (unitsBy reading (drop rows bytes))) (areWords (unitsBy reading (drop columns bytes))) e)
+
+    in-columns : unitsBy reading (drop columns bytes) ≡ Units′.Words
+    in-columns = are-words (unitsBy reading (drop columns bytes)) (both-right (areWords (unitsBy reading (drop rows bytes))) (areWords (unitsBy reading (drop columns bytes))) e)
+
+    by-reading : (left right : ℕ) → pairNumber bytes (Classes rows columns array reading) left right
+        ≡ onClass (lookupAt (drop rows bytes) left) (λ row. onClass (lookupAt (drop columns bytes) right) (λ column. numberAt bytes (array + row + column)))
+    by-reading left right =
+        ap₂ (λ (a b : Found). onClass a (λ row. onClass b (λ column. numberAt bytes (array + row + column))))
+        (in-words reading (drop rows bytes) left in-rows) (in-words reading (drop columns bytes) right in-columns)
+
+-- pairs that have a loop of their own
+pub plain-ordered : (bytes : List ℕ) {pairs : PairTable} {first count : ℕ} → isPlain bytes pairs ≡ true → pairs ≡ Ordered first count → pairPlace first count ≤ length bytes
+unfolding isPlain
+plain-ordered bytes {pairs} {first} {count} e f = leb-true (pairPlace first count) (length bytes) (sym (ap (isPlain bytes) f) ∙ e)
+
+pub plain-words : (bytes : List ℕ) {pairs : PairTable} {rows columns array : ℕ} {reading : Reading} → isPlain bytes pairs ≡ true
+    → pairs ≡ Classes rows columns array reading → pairNumber bytes (Classes rows columns array Crate) ≡ pairNumber bytes pairs
+unfolding isPlain
+plain-words bytes {pairs} {rows} {columns} {array} {reading} e f =
+    words-number bytes rows columns array reading (sym (ap (isPlain bytes) f) ∙ e) ∙ ap (pairNumber bytes) (sym f)
+
+pub plain-classes : (bytes glyphs : List ℕ) (before from n : ℕ) (along : List ℤ) {along′ : List ℤ} {pairs : PairTable} {rows columns array : ℕ} {reading : Reading}
+    → isPlain bytes pairs ≡ true → pairs ≡ Classes rows columns array reading
+    → along′ ≡ addAll (stretch (pairNumber bytes (Classes rows columns array Crate)) glyphs before from n) along
+    → along′ ≡ addAll (stretch (pairNumber bytes pairs) glyphs before from n) along
+plain-classes bytes glyphs before from n along e f a =
+    a ∙ ap (λ (number : ℕ → ℕ → Number). addAll (stretch number glyphs before from n) along) (plain-words bytes e f)
+
+-- what opening gives, where tuples are refused or not
+module _ {tupled : Bool} {opened : Opened} where
+  pub barred-not : tupled ≡ false → opened ≡ barred tupled opened
+  unfolding barred
+  barred-not e = rw e
+
+  pub barred-ready : {pairs : PairTable} → tupled ≡ true → opened ≡ Ready pairs → Tupled ≡ barred tupled opened
+  unfolding barred
+  barred-ready e f = rw (e, f)
+
+  pub barred-short : tupled ≡ true → opened ≡ Short → Short ≡ barred tupled opened
+  unfolding barred
+  barred-short e f = rw (e, f)
+
+  pub barred-tupled : tupled ≡ true → opened ≡ Tupled → Tupled ≡ barred tupled opened
+  unfolding barred
+  barred-tupled e f = rw (e, f)
+
 -- by classes whose tables are opened once: the same, but for why there is no number
 module _ (bytes : List ℕ) (rows columns array left right : ℕ) {lefts rights : List ℕ} {leftRows rightColumns : Tables′.Opened} {found : Number}
     (a : lefts ≡ drop rows bytes) (b : rights ≡ drop columns bytes) (o : leftRows ≡ openedOf lefts) (p : rightColumns ≡ openedOf rights)
@@ -93,9 +169,10 @@ module _ (bytes : List ℕ) (rows columns array left right : ℕ) {lefts rights 
   unfolding openedNumber
   opened-is = e ∙ rw (o, p, opened-same lefts left, opened-same rights right, a, b)
 
-  pub opened-adds : (place : ℕ) → additionOf place found ≡ additionOf place (pairNumber bytes (Classes rows columns array) left right)
-  unfolding pairNumber classNumber numberInRow
-  opened-adds place = ap (additionOf place) opened-is ∙ go (lookupAt (drop rows bytes) left) (lookupAt (drop columns bytes) right)
+  pub opened-adds : (place : ℕ) → additionOf place found ≡ additionOf place (pairNumber bytes (Classes rows columns array Crate) left right)
+  opened-adds place =
+      ap (additionOf place) opened-is ∙ go (lookupAt (drop rows bytes) left) (lookupAt (drop columns bytes) right)
+      ∙ ap (additionOf place) (sym (in-crates bytes rows columns array left right))
     where
       go : (row column : Found)
           → additionOf place (onFound (plain row) (λ r. onFound (plain column) (λ c. numberAt bytes (array + r + c))))
@@ -385,6 +462,7 @@ unfolding workedBy
 worked-within bytes (Ready pairs) glyphs used rule along h w =
     within-below (counts rule glyphs) (pairNumber bytes pairs) glyphs (sized bytes pairs) used along h w
 worked-within bytes Short glyphs used rule along h w = within-more (omega arith) (subst (Within _) (sym (addAll-none along)) w)
+worked-within bytes Tupled glyphs used rule along h w = within-more (omega arith) (subst (Within _) (sym (addAll-none along)) w)
 
 -- the number of a reply
 pub reply-number : (bytes : List ℕ) (pairs : PairTable) (left right : ℕ) {opened : Opened} {number : Number} {z : ℤ} → opened ≡ Ready pairs

@@ -1,9 +1,11 @@
 -- Why a pair has no number: who speaks first, and that the pass adds nothing whatever it is.
 use Prim.Native.Nat.{ℕ, suc, _+_}
-use mathlib.Core.Path.{_≡_, refl, ap}
+use mathlib.Core.Path.{_≡_, refl, ap, _∙_}
 use mathlib.Core.List.{List, append-nil}
 use lib.ListN.{getD, drop}
 use Rattle.tables.specs.Lookup.{lookupAt}
+use Rattle.tables.specs.declared.units.Reading.the-variants.{Crate}
+use Rattle.tables.proofs.Sizes.{in-crate}
 use Rattle.tables.specs.Search.{searched}
 use Rattle.tables.specs.declared.records.Keys.the-variants as Keys′
 use Rattle.tables.specs.declared.records.Spot.the-variants as Spot′
@@ -33,19 +35,19 @@ absent-uncovered bytes first count left right e = ap (numberIn bytes first) e
 -- of class pairs the left glyph's lookup speaks first, then the right one's, then the number's read
 module _ (bytes : List ℕ) (rows columns array left right : ℕ) where
   pub left-speaks-first : (why : Why) → lookupAt (drop rows bytes) left ≡ Found′.Nothing why
-      → pairNumber bytes (Classes rows columns array) left right ≡ Nothing why
+      → pairNumber bytes (Classes rows columns array Crate) left right ≡ Nothing why
   unfolding pairNumber classNumber
-  left-speaks-first why e = rw (e, classNumber)
+  left-speaks-first why e = rw (in-crate (drop rows bytes) left ∙ e, classNumber)
 
   pub right-speaks-next : (row : ℕ) (why : Why) → lookupAt (drop rows bytes) left ≡ Found′.At row → lookupAt (drop columns bytes) right ≡ Found′.Nothing why
-      → pairNumber bytes (Classes rows columns array) left right ≡ Nothing why
+      → pairNumber bytes (Classes rows columns array Crate) left right ≡ Nothing why
   unfolding pairNumber classNumber numberInRow
-  right-speaks-next row why e f = rw (e, f, classNumber)
+  right-speaks-next row why e f = rw (in-crate (drop rows bytes) left ∙ e, in-crate (drop columns bytes) right ∙ f, classNumber)
 
   pub number-speaks-last : (row column : ℕ) → lookupAt (drop rows bytes) left ≡ Found′.At row → lookupAt (drop columns bytes) right ≡ Found′.At column
-      → pairNumber bytes (Classes rows columns array) left right ≡ numberAt bytes (array + row + column)
+      → pairNumber bytes (Classes rows columns array Crate) left right ≡ numberAt bytes (array + row + column)
   unfolding pairNumber classNumber numberInRow
-  number-speaks-last row column e f = rw (e, f, classNumber)
+  number-speaks-last row column e f = rw (in-crate (drop rows bytes) left ∙ e, in-crate (drop columns bytes) right ∙ f, classNumber)
 
 -- two neighbours without a number add nothing
 pub pass-drops : (number : (left right : ℕ) → Number) (glyphs : List ℕ) (place : ℕ) (why : Why)

@@ -11,7 +11,7 @@ use Rattle.kerning.specs.declared.choices.PairRule.{PairRule}
 use Rattle.kerning.specs.declared.choices.PairRule.the-variants.{Neighbours, Joined}
 use Rattle.pairs.specs.Pairs.{pairNumber}
 use Rattle.pairs.specs.declared.Opened.{Opened}
-use Rattle.pairs.specs.declared.Opened.the-variants.{Ready, Short}
+use Rattle.pairs.specs.declared.Opened.the-variants.{Ready, Short, Tupled}
 use Rattle.pairs.specs.declared.Number.{Number}
 use Rattle.pairs.specs.declared.Number.the-variants.{By, Nothing}
 
@@ -55,8 +55,9 @@ isCounted Joined glyph = ltb glyph 0xFFFF
 abbrev pub counts : PairRule → (glyphs : List ℕ) → ℕ → Bool
 counts rule glyphs p = isCounted rule (getD glyphs p 0)
 
--- the pass over the first `used` glyphs, by a subtable's pairs; HEAD where they can't be opened
+-- the pass over the first `used` glyphs, by a subtable's pairs; HEAD where they can't be opened, TUPLES where these are refused
 unfoldable pub workedBy : List ℕ → Opened → (glyphs : List ℕ) → (used : ℕ) → PairRule → Kerned
 workedBy bytes (Ready pairs) glyphs used rule =
     record { answer = Answer′.Done; additions = pairsBelow (counts rule glyphs) (pairNumber bytes pairs) glyphs used }
 workedBy bytes Short glyphs used rule = nothingAdded (Answer′.Refused Refusal′.Head)
+workedBy bytes Tupled glyphs used rule = nothingAdded (Answer′.Refused Refusal′.Tuples)

@@ -9,7 +9,7 @@ use Rattle.answers.specs.declared.Check.{Check}
 use Rattle.answers.specs.declared.Check.the-variants as Check′
 use Rattle.pairs.specs.Pairs.{pairNumber}
 use Rattle.pairs.specs.declared.Opened.{Opened}
-use Rattle.pairs.specs.declared.Opened.the-variants.{Ready, Short}
+use Rattle.pairs.specs.declared.Opened.the-variants.{Ready, Short, Tupled}
 use Rattle.pairs.specs.declared.Number as Pair′
 use Rattle.pairs.specs.declared.Number.the-variants as Number′
 use Rattle.pairs.specs.declared.PairReply.{PairReply}
@@ -32,10 +32,11 @@ abbrev pub numberReply : Pair′.Number → PairReply
 numberReply (Number′.By z) = Number z
 numberReply (Number′.Nothing why) = Nothing why
 
--- HEAD where the pairs can't be opened
+-- HEAD where the pairs can't be opened, TUPLES where these are refused, which they are not for a single pair
 unfoldable pub replyOf : List ℕ → Opened → (left right : ℕ) → PairReply
 replyOf bytes (Ready pairs) left right = numberReply (pairNumber bytes pairs left right)
 replyOf bytes Short left right = Refused Refusal′.Head
+replyOf bytes Tupled left right = Refused Refusal′.Tuples
 
 -- a refused call is answered so, any other by its work
 abbrev pub checkedPair : Check → PairReply → PairReply

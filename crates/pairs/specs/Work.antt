@@ -2,11 +2,18 @@
 -- the first place of some, what a stretch of places adds, and that a number has 16 bits, with which the code shows that it does not overflow.
 use Prim.Native.Nat.{ℕ, zero, suc, _+_, _<_, _≤_}
 use mathlib.Core.Path.{_≡_}
-use mathlib.Core.Bool.{Bool, not}
+use mathlib.Core.Bool.{Bool, true, false, not}
 use mathlib.Core.List.{List, [], _++_}
-use lib.ListN.{getD}
+use lib.Dec.{leb}
+use lib.ListN.{length, getD, drop}
 use mir.Syntax.{w16}
 use mir.Val.{SFits}
+use Rattle.laws.specs.Lists.{both}
+use Rattle.tables.specs.Records.{pairPlace}
+use Rattle.tables.specs.Units.{unitsBy}
+use Rattle.tables.specs.declared.units.Reading.{Reading}
+use Rattle.tables.specs.declared.units.Units.{Units}
+use Rattle.tables.specs.declared.units.Units.the-variants as Units′
 use Rattle.tables.specs.Opened.{foundIn}
 use Rattle.tables.specs.declared.opened.Opened.{Opened}
 use Rattle.tables.specs.declared.lookup.Why.the-variants.{NotCovered}
@@ -15,8 +22,24 @@ use Rattle.tables.specs.declared.lookup.Found.the-variants as Found′
 use Rattle.pairs.specs.Pairs.{numberAt}
 use Rattle.kerning.specs.Additions.{Addition}
 use Rattle.pairs.specs.Pass.{additionOf}
+use Rattle.pairs.specs.declared.PairTable.{PairTable}
+use Rattle.pairs.specs.declared.PairTable.the-variants.{Ordered, Classes}
 use Rattle.pairs.specs.declared.Number.{Number}
 use Rattle.pairs.specs.declared.Number.the-variants.{By, Nothing}
+
+-- rows and columns both have elements of two bytes
+abbrev pub areWords : Units → Bool
+areWords Units′.Words = true
+areWords (Units′.Bytes first count) = false
+areWords (Units′.None why) = false
+
+unfoldable pub inWords : List ℕ → (rows columns : ℕ) → Reading → Bool
+inWords bytes rows columns reading = both (areWords (unitsBy reading (drop rows bytes))) (areWords (unitsBy reading (drop columns bytes)))
+
+-- pairs that have a loop of their own
+unfoldable pub isPlain : List ℕ → PairTable → Bool
+isPlain bytes (Ordered first count) = leb (pairPlace first count) (length bytes)
+isPlain bytes (Classes rows columns array reading) = inWords bytes rows columns reading
 
 -- what is made of a class; why there is none is not told apart
 abbrev pub onFound : Found → (ℕ → Number) → Number

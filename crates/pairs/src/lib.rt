@@ -2,13 +2,15 @@
 use answers::Answer;
 use answers::Refusal;
 use kerning::choices::PairRule;
-use tables::lookup;
 use tables::lookup::Found;
 use tables::lookup::Why;
 use tables::opened;
 use tables::records;
 use tables::records::Keys;
 use tables::records::Spot;
+use tables::units;
+use tables::units::Reading;
+use tables::units::Units;
 ghost use mathlib.Core.Path.{_≡_};
 ghost use mathlib.Core.Bool.{true, false};
 ghost use Prim.Native.Nat.{_-_, _<_, _≤_, _^_};
@@ -20,21 +22,30 @@ ghost use Rattle.kerning.specs.Additions.{addAll};
 ghost use Rattle.kerning.specs.Bounds.{Within};
 ghost use Rattle.pairs.specs.Reply.{replyOf};
 ghost use Rattle.pairs.specs.Pass.{additionOf, isCounted, counts, pairsBelow, workedBy};
-ghost use Rattle.pairs.specs.Pairs.{keyOf, orderedKern, orderedKerx, classesKerx, numberAt, orderedNumber, numberInRow, classNumber, pairNumber};
+ghost use Rattle.pairs.specs.Pairs.{keyOf, orderedKern, orderedKerx, classesKerx, barred, numberAt, orderedNumber, numberInRow, classNumber, pairNumber};
 ghost use Rattle.pairs.specs.declared.PairTable.the-variants.{Ordered, Classes};
-ghost use Rattle.pairs.specs.Work.{openedNumber, FirstFrom, stretch, Sized};
+ghost use Rattle.pairs.specs.Work.{inWords, isPlain, openedNumber, FirstFrom, stretch, Sized};
 
 // Where a subtable's pairs lie, from its own start on: as many ordered pairs as counted, or the left glyphs' rows, the right
-// ones' columns, and the array.
+// ones' columns, and the array; rows and columns are read by a reading.
 pub enum PairTable {
-    Ordered { first: u16, count: u32 },
-    Classes { rows: u32, columns: u32, array: u32 },
+    Ordered {
+        first: u16,
+        count: u32,
+    },
+    Classes {
+        rows: u32,
+        columns: u32,
+        array: u32,
+        reading: Reading,
+    },
 }
 
-// What opening a subtable's pairs gives.
+// What opening a subtable's pairs gives: pairs; none, where its head can't be read; or some with tuples, where these are refused.
 pub enum Opened {
     Ready(PairTable),
     Short,
+    Tupled,
 }
 
 // What a pair of glyphs adds, or why it adds nothing.
@@ -75,8 +86,8 @@ pub fn ordered_kerx(bytes: &[u8]) -> Opened
 }
 
 // kerx format 2.
-pub fn classes_kerx(bytes: &[u8]) -> Opened
-    ensures { λ r. ⌜ r ≡ classesKerx (now (bytes .entry)) ⌝ }
+pub fn classes_kerx(bytes: &[u8], reading: Reading) -> Opened
+    ensures { λ r. ⌜ r ≡ classesKerx (now (bytes .entry)) reading ⌝ }
 {
     let parse::ReadU32::Got(rows) = parse::read_u32(bytes, 16) else {
         return Opened::Short;
@@ -91,7 +102,22 @@ pub fn classes_kerx(bytes: &[u8]) -> Opened
         rows,
         columns,
         array,
+        reading,
     })
+}
+
+// What opening a subtable's pairs gives, where tuples are refused or not.
+pub fn barred(tupled: bool, opened: Opened) -> Opened
+    ensures { λ r. ⌜ r ≡ barred tupled opened ⌝ }
+{
+    if !tupled {
+        return opened;
+    }
+    match opened {
+        Opened::Ready(_) => Opened::Tupled,
+        Opened::Short => Opened::Short,
+        Opened::Tupled => Opened::Tupled,
+    }
 }
 
 // The number at a place.
@@ -124,11 +150,11 @@ fn ordered_number(bytes: &[u8], first: u16, count: u32, left: u16, right: u16) -
 }
 
 // The number in a row of the array, by the right glyph's class; rows and columns are told in bytes.
-fn number_in_row(bytes: &[u8], columns: u32, row: usize, right: u16) -> Number
+fn number_in_row(bytes: &[u8], columns: u32, reading: Reading, row: usize, right: u16) -> Number
     requires { ⌜ row < 2 ^ 33 ⌝ }
-    ensures { λ r. ⌜ r ≡ numberInRow (now (bytes .entry)) columns row right ⌝ }
+    ensures { λ r. ⌜ r ≡ numberInRow (now (bytes .entry)) columns reading row right ⌝ }
 {
-    let found = lookup::lookup_at(parse::from(bytes, columns as usize), right);
+    let found = units::lookup_by(reading, parse::from(bytes, columns as usize), right);
     match found {
         Found::At(column) => number_at(bytes, row + column as usize),
         Found::Nothing(why) => Number::Nothing(why),
@@ -136,12 +162,28 @@ fn number_in_row(bytes: &[u8], columns: u32, row: usize, right: u16) -> Number
 }
 
 // The number of a pair by its classes: the left glyph's gives the row, the right one's the column.
-fn class_number(bytes: &[u8], rows: u32, columns: u32, array: u32, left: u16, right: u16) -> Number
-    ensures { λ r. ⌜ r ≡ classNumber (now (bytes .entry)) rows columns array left right ⌝ }
+fn class_number(
+    bytes: &[u8],
+    rows: u32,
+    columns: u32,
+    array: u32,
+    reading: Reading,
+    left: u16,
+    right: u16,
+) -> Number
+    ensures { λ r. ⌜ r ≡ classNumber (now (bytes .entry)) rows columns array reading left right ⌝ }
 {
-    let found = lookup::lookup_at(parse::from(bytes, rows as usize), left);
+    let found = units::lookup_by(reading, parse::from(bytes, rows as usize), left);
     match found {
-        Found::At(row) => number_in_row(bytes, columns, array as usize + row as usize, right),
+        Found::At(row) => {
+            number_in_row(
+                bytes,
+                columns,
+                reading,
+                array as usize + row as usize,
+                right,
+            )
+        }
         Found::Nothing(why) => Number::Nothing(why),
     }
 }
@@ -156,7 +198,8 @@ pub fn number_of(bytes: &[u8], pairs: PairTable, left: u16, right: u16) -> Numbe
             rows,
             columns,
             array,
-        } => class_number(bytes, rows, columns, array, left, right),
+            reading,
+        } => class_number(bytes, rows, columns, array, reading, left, right),
     }
 }
 
@@ -164,13 +207,24 @@ pub fn number_of(bytes: &[u8], pairs: PairTable, left: u16, right: u16) -> Numbe
 pub fn reply(bytes: &[u8], opened: Opened, left: u16, right: u16) -> PairReply
     ensures { λ r. ⌜ r ≡ replyOf (now (bytes .entry)) opened left right ⌝ }
 {
-    let Opened::Ready(pairs) = opened else {
-        return PairReply::Refused(Refusal::Head);
-    };
-    let found = number_of(bytes, pairs, left, right);
-    match found {
-        Number::By(number) => PairReply::Number(number),
-        Number::Nothing(why) => PairReply::Nothing(why),
+    match opened {
+        Opened::Ready(pairs) => {
+            let found = number_of(bytes, pairs, left, right);
+            match found {
+                Number::By(number) => {
+                    return PairReply::Number(number);
+                }
+                Number::Nothing(why) => {
+                    return PairReply::Nothing(why);
+                }
+            }
+        }
+        Opened::Short => {
+            return PairReply::Refused(Refusal::Head);
+        }
+        Opened::Tupled => {
+            return PairReply::Refused(Refusal::Tuples);
+        }
     }
 }
 
@@ -291,35 +345,6 @@ fn add_inside(
     }
 }
 
-// A stretch by ordered pairs.
-fn add_ordered(
-    bytes: &[u8],
-    first: u16,
-    count: u32,
-    glyphs: &[u16],
-    before: usize,
-    from: usize,
-    stop: usize,
-    along: &mut [i64],
-)
-    requires { ⌜ (before < from) × (from ≤ stop) × (stop ≤ length (now glyphs)) × (stop ≤ length (now along)) × (stop ≤ roomLimit) × Within (2 ^ 61) (now along) ⌝ }
-    ensures { λ _. ⌜ now (along .exit) ≡ addAll (stretch (pairNumber (now (bytes .entry)) (Ordered first count)) (now (glyphs .entry)) before from (stop - from)) (now (along .entry)) ⌝ }
-{
-    if bytes.len() < records::pair_place(first, count) {
-        add_each(
-            bytes,
-            PairTable::Ordered { first, count },
-            glyphs,
-            before,
-            from,
-            stop,
-            along,
-        );
-        return;
-    }
-    add_inside(bytes, first, count, glyphs, before, from, stop, along);
-}
-
 // The number of a pair by its classes, whose tables are opened; why there is none is not told apart.
 fn opened_number(
     bytes: &[u8],
@@ -343,7 +368,7 @@ fn opened_number(
     number_at(bytes, array as usize + row as usize + column as usize)
 }
 
-// A stretch by classes.
+// A stretch by classes, in tables of elements of two bytes.
 fn add_classes(
     bytes: &[u8],
     rows: u32,
@@ -356,7 +381,7 @@ fn add_classes(
     along: &mut [i64],
 )
     requires { ⌜ (before < from) × (from ≤ stop) × (stop ≤ length (now glyphs)) × (stop ≤ length (now along)) × (stop ≤ roomLimit) × Within (2 ^ 61) (now along) ⌝ }
-    ensures { λ _. ⌜ now (along .exit) ≡ addAll (stretch (pairNumber (now (bytes .entry)) (Classes rows columns array)) (now (glyphs .entry)) before from (stop - from)) (now (along .entry)) ⌝ }
+    ensures { λ _. ⌜ now (along .exit) ≡ addAll (stretch (pairNumber (now (bytes .entry)) (Classes rows columns array Reading.Crate)) (now (glyphs .entry)) before from (stop - from)) (now (along .entry)) ⌝ }
 {
     let lefts = parse::from(bytes, rows as usize);
     let rights = parse::from(bytes, columns as usize);
@@ -381,6 +406,39 @@ fn add_classes(
     }
 }
 
+// Whether rows and columns both have elements of two bytes, by a reading.
+fn in_words(bytes: &[u8], rows: u32, columns: u32, reading: Reading) -> bool
+    ensures { λ r. ⌜ r ≡ inWords (now (bytes .entry)) rows columns reading ⌝ }
+{
+    let lefts = units::units_by(reading, parse::from(bytes, rows as usize));
+    match lefts {
+        Units::Words => {}
+        Units::Bytes { .. } => return false,
+        Units::None(_) => return false,
+    }
+    let rights = units::units_by(reading, parse::from(bytes, columns as usize));
+    match rights {
+        Units::Words => true,
+        Units::Bytes { .. } => false,
+        Units::None(_) => false,
+    }
+}
+
+// Whether the pairs are ordered ones that all lie in the table, or classes in elements of two bytes, each of which have a loop of their own.
+fn is_plain(bytes: &[u8], pairs: PairTable) -> bool
+    ensures { λ r. ⌜ r ≡ isPlain (now (bytes .entry)) pairs ⌝ }
+{
+    match pairs {
+        PairTable::Ordered { first, count } => records::pair_place(first, count) <= bytes.len(),
+        PairTable::Classes {
+            rows,
+            columns,
+            reading,
+            ..
+        } => in_words(bytes, rows, columns, reading),
+    }
+}
+
 // A stretch by whatever pairs.
 fn add_stretch(
     bytes: &[u8],
@@ -394,14 +452,19 @@ fn add_stretch(
     requires { ⌜ (before < from) × (from ≤ stop) × (stop ≤ length (now glyphs)) × (stop ≤ length (now along)) × (stop ≤ roomLimit) × Within (2 ^ 61) (now along) ⌝ }
     ensures { λ _. ⌜ now (along .exit) ≡ addAll (stretch (pairNumber (now (bytes .entry)) pairs) (now (glyphs .entry)) before from (stop - from)) (now (along .entry)) ⌝ }
 {
+    if !is_plain(bytes, pairs) {
+        add_each(bytes, pairs, glyphs, before, from, stop, along);
+        return;
+    }
     match pairs {
         PairTable::Ordered { first, count } => {
-            add_ordered(bytes, first, count, glyphs, before, from, stop, along);
+            add_inside(bytes, first, count, glyphs, before, from, stop, along);
         }
         PairTable::Classes {
             rows,
             columns,
             array,
+            ..
         } => {
             add_classes(
                 bytes,
@@ -453,9 +516,16 @@ pub fn work(
     ensures answer { λ r. ⌜ r ≡ workedBy (now (bytes .entry)) opened (now (glyphs .entry)) used rule .answer ⌝ }
     ensures along { λ _. ⌜ now (along .exit) ≡ addAll (workedBy (now (bytes .entry)) opened (now (glyphs .entry)) used rule .additions) (now (along .entry)) ⌝ }
 {
-    let Opened::Ready(pairs) = opened else {
-        return Answer::Refused(Refusal::Head);
-    };
-    add_pairs(bytes, pairs, glyphs, used, along, rule);
-    Answer::Done
+    match opened {
+        Opened::Ready(pairs) => {
+            add_pairs(bytes, pairs, glyphs, used, along, rule);
+            return Answer::Done;
+        }
+        Opened::Short => {
+            return Answer::Refused(Refusal::Head);
+        }
+        Opened::Tupled => {
+            return Answer::Refused(Refusal::Tuples);
+        }
+    }
 }

@@ -33,7 +33,7 @@ use Rattle.tables.proofs.Reasons.{why-exact, uncovered-exact, lookup-passes-on}
 use Rattle.tables.proofs.Surveys.{survey-sound, survey-complete, survey-bad, survey-exact}
 use Rattle.mend.proofs.Powers.{exponent-exact}
 use Rattle.mend.proofs.Right.{mended-sorted, mended-lookup, mended-numbers, overlap-exact, mend-unchanged}
-use Rattle.state_tables.proofs.Manual.{class-by-lookup, class-drops, class-by-array, entry-as-manual}
+use Rattle.state_tables.proofs.Manual.{class-by-lookup, class-drops, class-by-array, entry-as-manual, readings-class}
 use Rattle.ltag.proofs.Manual.{index-as-manual}
 use Rattle.verbs.proofs.Drawing.{as-drawn}
 use Rattle.verbs.proofs.Laws.{from-place, place-from, placeOf-below, length-rearranged, getD-rearranged}
@@ -46,7 +46,11 @@ use Rattle.chains.proofs.ManualFlags.{features-ended}
 use Rattle.chains.proofs.Manual.{order-as-manual, reverse-as-manual, vertical-as-manual, chain-as-manual, chains-end, feature-as-manual, features-end, subtable-as-manual, subtables-end}
 use Rattle.pairs.proofs.Reasons.{pair-passes-on, absent-uncovered, left-speaks-first, right-speaks-next, number-speaks-last, pass-drops}
 use Rattle.pairs.proofs.Joined.{neighbours-all, joined-pairs, joined-without-deleted}
-use Rattle.kerning.proofs.Choosing.{unnamed-bits}
+use Rattle.kerning.proofs.Choosing.{unnamed-bits, crate-chosen}
+use Rattle.kerning.proofs.Walks.{walks-one}
+use Rattle.tables.proofs.Sizes.{format-ten, other-formats, in-crate}
+use Rattle.promises.proofs.Lists.{kern-list, kerx-list, manual-list}
+use Rattle.promises.proofs.Alike.{manual-pairs}
 use Rattle.kerning_lists.proofs.Families.{by-default, runs-by-default}
 use Rattle.kern.proofs.Cursors as KernCursor
 use Rattle.kern.proofs.Manual.{kern-as-manual, kern-without-list, kern-pair-as-manual}
@@ -89,6 +93,9 @@ lookups =
       search-finds = search-finds;
       search-finds-pair = search-finds-pair;
       lookup-as-manual = lookup-as-manual;
+      format-ten = format-ten;
+      other-formats = other-formats;
+      in-crate = in-crate;
       survey-sound = survey-sound;
       survey-complete = survey-complete;
       survey-bad = survey-bad;
@@ -184,6 +191,10 @@ kerning =
       kerx-pair-as-manual = kerx-pair-as-manual;
       kerx-class-as-manual = kerx-class-as-manual;
       list-as-manual = list-as-manual;
+      walks-one = walks-one;
+      kern-list = kern-list;
+      kerx-list = kerx-list;
+      manual-list = manual-list;
     }
 
 choosing : Choosing
@@ -195,6 +206,9 @@ choosing =
       unnamed-bits = unnamed-bits;
       joined-pairs = joined-pairs;
       joined-without-deleted = joined-without-deleted;
+      manual-default = crate-chosen;
+      manual-pairs = manual-pairs;
+      manual-classes = λ bytes other glyph c m. readings-class bytes glyph other c m;
       known-pairs = known-pairs;
     }
 

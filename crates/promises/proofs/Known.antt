@@ -9,7 +9,7 @@ use Rattle.line.specs.Edits.{widthOf}
 use Rattle.line.specs.Changes.{numbersFrom, windowed, apply, applyAll}
 use Rattle.line.specs.Entries.{freshOf, verbTests, verbMakes, madeBy, answerBy, verbChanges, verbCall}
 use Rattle.parse.specs.Reads.{inside, readU16, readU32}
-use Rattle.state_tables.specs.States.{extendedAt}
+use Rattle.state_tables.specs.States.{extendedBy, extendedAt}
 use Rattle.state_tables.specs.Classes.{classByLookup, classOf, classIn, headTest, classReply, classExtended}
 use Rattle.ligature.specs.Actions.{offsetOf}
 use Rattle.tables.specs.Records.{formatOf}
@@ -28,7 +28,7 @@ use Rattle.kerning_lists.specs.Family.{passed}
 use Rattle.promises.specs.Known.{rows, answerTo, kernedBy, AllKnown, KnownReasons, KnownPairs}
 
 pub known-answers : AllKnown
-unfolding rows answerTo offsetOf extendedAt readU32 classByLookup classOf classIn headTest classReply classExtended tab every groupsOf across moved fromOf rearranged roomLimit lineTest isValid isLegal areHoused isOnceEach isNew freshOf numbersFrom verbTests verbMakes madeBy answerBy verbChanges verbCall widthOf windowed apply applyAll tableLimit refuse tableTest inside readU16 formatOf lookupReply lookupAt inFormat trimmedAt elementAt
+unfolding rows answerTo offsetOf extendedAt extendedBy readU32 classByLookup classOf classIn headTest classReply classExtended tab every groupsOf across moved fromOf rearranged roomLimit lineTest isValid isLegal areHoused isOnceEach isNew freshOf numbersFrom verbTests verbMakes madeBy answerBy verbChanges verbCall widthOf windowed apply applyAll tableLimit refuse tableTest inside readU16 formatOf lookupReply lookupAt inFormat trimmedAt elementAt
 known-answers = refl
 
 pub known-reasons : KnownReasons

@@ -1,2 +1,4 @@
 pub mod Known
+mod Lists
+mod Alike
 pub mod Demands

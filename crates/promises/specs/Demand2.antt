@@ -21,6 +21,9 @@ use Rattle.tables.specs.Survey.{scanned, surveyAt}
 use Rattle.tables.specs.Lookup.{lookupAt, replyOf, lookupReply}
 use Rattle.tables.specs.Order.{InOrder, FirstBad, Says, Holds, TheOne, firstOf, lastOf}
 use Rattle.tables.specs.Reasons.{Because}
+use Rattle.tables.specs.Units.{lookupBy}
+use Rattle.tables.specs.ManualUnits.{FormatTen}
+use Rattle.tables.specs.declared.units.Reading.the-variants.{Crate, Manual}
 use Rattle.tables.specs.ManualLookup as Lookup
 use Rattle.tables.specs.declared.records.Format.the-variants.{Records}
 use Rattle.tables.specs.declared.records.Kind.{Kind}
@@ -35,7 +38,7 @@ use Rattle.mend.specs.Table.{exponentOf}
 use Rattle.mend.specs.Mend.{lotOf, mendCall}
 use Rattle.mend.specs.Looks.{plainLook, newTable, AreBytes, Shared, Renumbered, LargestPower}
 use Rattle.mend.specs.declared.head.Lot.the-variants.{Of}
-use Rattle.state_tables.specs.States.{extendedAt, classicAt}
+use Rattle.state_tables.specs.States.{extendedBy, extendedAt, classicAt}
 use Rattle.state_tables.specs.Classes.{classOf}
 use Rattle.state_tables.specs.Manual as StateTable
 use Rattle.state_tables.specs.Manual.{ClassIs, LookupGives, ArrayGives, classTable, extended, classic}
@@ -82,7 +85,9 @@ use Rattle.pairs.specs.declared.Number.the-variants as Number
 use Rattle.pairs.specs.Manual.{Rising, OrderedValue, ClassValue, Legible, Covered}
 use Rattle.pairs.specs.Manual as Pair
 use Rattle.line.specs.Line.{Line}
-use Rattle.kerning.specs.Choices.{choicesOf, unchosen}
+use Rattle.laws.specs.Bits.{isSet}
+use Rattle.kerning.specs.Choices.{ruleOf, choicesOf, unchosen}
+use Rattle.kerning.specs.declared.choices.PairRule.{PairRule}
 use Rattle.kerning.specs.declared.choices.PairRule.the-variants.{Neighbours, Joined}
 use Rattle.kerning_lists.specs.Manual as List′
 use Rattle.kerning_lists.specs.Manual.{NoneInPart}
@@ -90,7 +95,13 @@ use Rattle.kerning_lists.specs.Family as Family′
 use Rattle.kern.specs.Kern.{kern}
 use Rattle.kern.specs.Manual as Kern
 use Rattle.kern_machine.specs.Manual.{WholeList}
+use Rattle.kerx_machine.specs.Machine.{hasTuples}
+use Rattle.kerning.specs.Lists.{Walk}
+use Rattle.kerning.specs.Walks.{Walks}
+use Rattle.kerning.specs.declared.lists.Number as Number″
+use Rattle.promises.specs.Lists.{KernList, KerxList, ManualList, NoneOfTen}
 use Rattle.kerx.specs.Kerx.{kerx}
+use Rattle.kerx.specs.Kerx as Kerx′
 use Rattle.kerx.specs.Manual as Kerx
 use Rattle.promises.specs.Known.{AllKnown, KnownReasons, KnownPairs}
 
@@ -108,6 +119,11 @@ pub record Lookups : Type 0 where
   -- manual read alike
   pub lookup-as-manual : (layout : Lookup.Layout) (bytes : List ℕ) (glyphs glyph : ℕ) → readU16 bytes 0 ≡ U16.Got (Lookup.formatNumber layout)
       → Lookup.Alike bytes glyphs glyph layout → Lookup.AsManual bytes glyphs glyph layout
+  -- in the manual's reading format 10 is the manual's with elements of one byte and of two, finds nothing with any other unit size, and the other formats
+  -- are as in the crate's
+  pub format-ten : (bytes : List ℕ) (glyphs glyph : ℕ) → readU16 bytes 0 ≡ U16.Got 10 → FormatTen bytes glyphs glyph
+  pub other-formats : (bytes : List ℕ) (glyph : ℕ) → (readU16 bytes 0 ≡ U16.Got 10 → ⊥) → lookupBy Manual bytes glyph ≡ lookupAt bytes glyph
+  pub in-crate : (bytes : List ℕ) (glyph : ℕ) → lookupBy Crate bytes glyph ≡ lookupAt bytes glyph
   -- a table that the survey calls sorted has all its records in order
   pub survey-sound : (bytes : List ℕ) (kind : Kind) (count : ℕ) → scanned bytes kind count ≡ Sorted → InOrder bytes kind count
   -- and it calls every such table so
@@ -142,12 +158,12 @@ pub record Reasons : Type 0 where
       → pairNumber bytes (Ordered first count) left right ≡ Number.Nothing NotCovered
   -- of class pairs the left glyph's lookup speaks first, then the right one's, then the number's read
   pub left-speaks-first : (bytes : List ℕ) (rows columns array left right : ℕ) (why : Why) → lookupAt (drop rows bytes) left ≡ Found.Nothing why
-      → pairNumber bytes (Classes rows columns array) left right ≡ Number.Nothing why
+      → pairNumber bytes (Classes rows columns array Crate) left right ≡ Number.Nothing why
   pub right-speaks-next : (bytes : List ℕ) (rows columns array left right row : ℕ) (why : Why) → lookupAt (drop rows bytes) left ≡ Found.At row
-      → lookupAt (drop columns bytes) right ≡ Found.Nothing why → pairNumber bytes (Classes rows columns array) left right ≡ Number.Nothing why
+      → lookupAt (drop columns bytes) right ≡ Found.Nothing why → pairNumber bytes (Classes rows columns array Crate) left right ≡ Number.Nothing why
   pub number-speaks-last : (bytes : List ℕ) (rows columns array left right row column : ℕ) → lookupAt (drop rows bytes) left ≡ Found.At row
       → lookupAt (drop columns bytes) right ≡ Found.At column
-      → pairNumber bytes (Classes rows columns array) left right ≡ numberAt bytes (array + row + column)
+      → pairNumber bytes (Classes rows columns array Crate) left right ≡ numberAt bytes (array + row + column)
   -- classes drop it: 1, whatever the reason
   pub class-drops : (bytes : List ℕ) (glyph : ℕ) (why : Why) {states : States} → extendedAt bytes ≡ Ready states → (glyph ≡ 65535 → ⊥)
       → lookupAt (drop (classTable extended bytes) bytes) glyph ≡ Found.Nothing why → classOf bytes states glyph ≡ 1
@@ -329,6 +345,13 @@ pub record Kerning : Type 0 where
   -- the empty stack; the step ends exactly when such a number does not lie in the table
   pub list-as-manual : (bytes : List ℕ) (crossed : Bool) (flags : ℕ) (stack : List ℕ) (depth used : ℕ)
       → WholeList bytes crossed flags stack depth used
+  -- one statement about walking a list, with the place of number k and the end rule as parameters, allows one walk; kern's list, kerx's in the crate's
+  -- reading and kerx's in the manual's are its instances
+  pub walks-one : (bytes : List ℕ) (placeOf : ℕ → ℕ) (rule : ℕ → Number″.Number) (stack : List ℕ) (depth used : ℕ) {v w : Walk}
+      → Walks bytes placeOf rule stack depth used v → Walks bytes placeOf rule stack depth used w → v ≡ w
+  pub kern-list : (bytes : List ℕ) (crossed : Bool) (flags : ℕ) (stack : List ℕ) (depth used : ℕ) → KernList bytes crossed flags stack depth used
+  pub kerx-list : (bytes : List ℕ) (values tuples index : ℕ) (stack : List ℕ) (depth used : ℕ) → KerxList bytes values tuples index stack depth used
+  pub manual-list : (bytes : List ℕ) (values index : ℕ) (stack : List ℕ) (depth used : ℕ) → ManualList bytes values index stack depth used
 
 -- What a caller may choose. Demand 2 itself speaks of no choice made: the neighbour rule.
 pub record Choosing : Type 0 where
@@ -341,13 +364,23 @@ pub record Choosing : Type 0 where
   pub neighbours-all : (bytes : List ℕ) (pairs : PairTable) (glyphs : List ℕ) (used : ℕ)
       → workedBy bytes (Opened.Ready pairs) glyphs used (unchosen .pairs) .additions ≡ pairsBelow everyPlace (pairNumber bytes pairs) glyphs used
   -- bits without a name are not looked at
-  pub unnamed-bits : (bits : ℕ) → choicesOf bits ≡ choicesOf (bits % 2)
+  pub unnamed-bits : (bits : ℕ) → choicesOf bits ≡ choicesOf (bits % 4)
   -- joined pairs: the additions are those of the pairs of two glyphs below 0xFFFF with only 0xFFFF between them, each to the first of the two
   pub joined-pairs : (bytes : List ℕ) (pairs : PairTable) (glyphs : List ℕ) (used : ℕ) → ((k : ℕ) → k < used → getD glyphs k 0 ≤ 0xFFFF)
       → AddedBy (JoinedPair glyphs used) (pairNumber bytes pairs) glyphs (workedBy bytes (Opened.Ready pairs) glyphs used Joined .additions)
   -- without 0xFFFF among the used glyphs both rules give the same
   pub joined-without-deleted : (bytes : List ℕ) (opened : Opened) (glyphs : List ℕ) (used : ℕ) → ((k : ℕ) → k < used → getD glyphs k 0 < 0xFFFF)
       → workedBy bytes opened glyphs used Joined ≡ workedBy bytes opened glyphs used Neighbours
+  -- without its bit the manual's reading of kerx is not chosen, and every answer is the crate reading's
+  pub manual-default : (bits : ℕ) → isSet bits 2 ≡ false → choicesOf bits ≡ record { pairs = ruleOf bits; reading = Crate }
+  -- in the manual's reading a subtable of kerx without tuples, without format 10 in its lookups and without a machine does what it does in the crate's
+  pub manual-pairs : (bytes : List ℕ) (version format : ℕ) (glyphs : List ℕ) (used : ℕ) (rule : PairRule) → (format ≡ 1 → ⊥) → hasTuples bytes version ≡ false
+      → NoneOfTen bytes
+      → Kerx′.worked bytes version format glyphs used (record { pairs = rule; reading = Manual })
+      ≡ Kerx′.worked bytes version format glyphs used (record { pairs = rule; reading = Crate })
+  -- and a machine's classes are those of the crate's reading, so that it differs in its lists alone
+  pub manual-classes : (bytes : List ℕ) → (readU16 (drop (u32At bytes 4) bytes) 0 ≡ U16.Got 10 → ⊥) → (glyph : ℕ) {crates manuals : States}
+      → extendedBy Crate bytes ≡ Ready crates → extendedBy Manual bytes ≡ Ready manuals → classOf bytes manuals glyph ≡ classOf bytes crates glyph
   -- known cases by computation
   pub known-pairs : KnownPairs
 

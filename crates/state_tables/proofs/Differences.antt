@@ -4,7 +4,7 @@ use mathlib.Core.Path.{_≡_, refl}
 use mathlib.Core.List.{List, [], _∷_}
 use native.Mathlib.Omega.{arith}
 use Rattle.parse.specs.Reads.{inside, readU8, readU16, readU32}
-use Rattle.state_tables.specs.States.{extendedAt, classicAt}
+use Rattle.state_tables.specs.States.{extendedBy, extendedAt, classicAt}
 use Rattle.state_tables.specs.Entries.{readNarrow, numberIn, entryNumber, entryAt, byRow, resolvedIn, resolved, entryOf}
 use Rattle.state_tables.specs.declared.Made.{Made}
 use Rattle.state_tables.specs.declared.Made.the-variants.{Ready, Short}
@@ -35,7 +35,7 @@ abbrev pub twoClasses : List ℕ
 twoClasses = words (0 ∷ 0x0002 ∷ 0 ∷ 0 ∷ 0 ∷ 0x0010 ∷ 0 ∷ 0x0016 ∷ 0 ∷ 0 ∷ 0x0001 ∷ 0 ∷ 0 ∷ 0 ∷ 0x8000 ∷ [])
 
 pub reads-on : Gives twoClasses (extendedAt twoClasses) 2 (At (record { state = 0; flags = 0x8000; payload = 30 }))
-unfolding entryOf entryNumber numberIn entryAt resolved resolvedIn extendedAt readU32 readU16 inside
+unfolding entryOf entryNumber numberIn entryAt resolved resolvedIn extendedAt extendedBy readU32 readU16 inside
 reads-on = (extendedStates twoClasses, refl, refl)
 
 -- a new state between two rows is the row before it: of rows of two cells from 1 on, at 2

@@ -13,7 +13,9 @@ use Rattle.parse.specs.declared.ReadU16.the-variants as U16
 use Rattle.parse.specs.declared.ReadU32.{ReadU32}
 use Rattle.parse.specs.declared.ReadU32.the-variants as U32
 use Rattle.parse.proofs.Laws.{inside-fits, readU32-got, u16-value, u32-value}
-use Rattle.state_tables.specs.States.{extendedAt, classicAt}
+use Rattle.state_tables.specs.States.{extendedBy, extendedAt, classicAt}
+use Rattle.tables.specs.declared.units.Reading.{Reading}
+use Rattle.tables.specs.declared.units.Reading.the-variants.{Crate}
 use Rattle.state_tables.specs.declared.Edition.the-variants.{Extended, Classic}
 use Rattle.state_tables.specs.declared.States.{States}
 use Rattle.state_tables.specs.declared.Made.{Made}
@@ -36,18 +38,21 @@ passed : (t : Bool) (rest : Made) {states : States} → cond t Short rest ≡ Re
 passed false rest e = e
 passed true rest e = let z : _≡_ {A = ℕ} 0 1 = cc in absurd (omega arith)
 
+abbrev pub extendedStatesBy : Reading → List ℕ → States
+extendedStatesBy reading bytes =
+    record { edition = Extended (u32At bytes 4) reading; classes = u32At bytes 0; array = u32At bytes 8; entries = u32At bytes 12 }
+
 abbrev pub extendedStates : List ℕ → States
-extendedStates bytes =
-    record { edition = Extended (u32At bytes 4); classes = u32At bytes 0; array = u32At bytes 8; entries = u32At bytes 12 }
+extendedStates bytes = extendedStatesBy Crate bytes
 
 -- it is read exactly where there are sixteen bytes
 pub extended-ready : (bytes : List ℕ) → 16 ≤ length bytes → extendedAt bytes ≡ Ready (extendedStates bytes)
-unfolding extendedAt
+unfolding extendedAt extendedBy
 extended-ready bytes h =
     rw (readU32-got bytes 0 (omega arith), readU32-got bytes 4 (omega arith), readU32-got bytes 8 (omega arith), readU32-got bytes 12 h)
 
 pub extended-short : (bytes : List ℕ) → length bytes < 16 → extendedAt bytes ≡ Short
-unfolding extendedAt
+unfolding extendedAt extendedBy
 extended-short bytes h = go (extendedAt bytes) refl
   where
     go : (made : Made) → extendedAt bytes ≡ made → made ≡ Short
@@ -59,14 +64,18 @@ extended-short bytes h = go (extendedAt bytes) refl
         let (entries, s, e₄) = read32 (readU32 bytes 12) _ e₃ in
         absurd (omega (arith, u32-value bytes 12 s .0))
 
-pub extended-is : (bytes : List ℕ) {states : States} → extendedAt bytes ≡ Ready states → states ≡ extendedStates bytes
-unfolding extendedAt
-extended-is bytes e =
+pub extended-by : (reading : Reading) (bytes : List ℕ) {states : States} → extendedBy reading bytes ≡ Ready states → states ≡ extendedStatesBy reading bytes
+unfolding extendedBy
+extended-by reading bytes e =
     let (classes, p, e₁) = read32 (readU32 bytes 0) _ e in
     let (table, q, e₂) = read32 (readU32 bytes 4) _ e₁ in
     let (array, r, e₃) = read32 (readU32 bytes 8) _ e₂ in
     let (entries, s, e₄) = read32 (readU32 bytes 12) _ e₃ in
     cc (u32-value bytes 0 p .1, u32-value bytes 4 q .1, u32-value bytes 8 r .1, u32-value bytes 12 s .1)
+
+pub extended-is : (bytes : List ℕ) {states : States} → extendedAt bytes ≡ Ready states → states ≡ extendedStates bytes
+unfolding extendedAt
+extended-is bytes e = extended-by Crate bytes e
 
 abbrev pub classicStates : List ℕ → States
 classicStates bytes =

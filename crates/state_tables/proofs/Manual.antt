@@ -8,19 +8,23 @@ use native.Mathlib.Omega.{arith}
 use lib.ListN.{length, drop}
 use borrow.Author.Tests.{lt-ltb, le-ltb, eq-eqb, ne-eqb}
 use Rattle.laws.proofs.Numbers.{lt-or-ge, eq-or-ne}
+use Rattle.laws.specs.Choose.{ifEq}
 use Rattle.parse.specs.Reads.{u8At, u16At, u32At, readU8, readU16}
 use Rattle.parse.specs.declared.ReadU8.{ReadU8}
 use Rattle.parse.specs.declared.ReadU8.the-variants as U8
 use Rattle.parse.specs.declared.ReadU16.the-variants as U16
 use Rattle.parse.proofs.Laws.{u8-from, u16-from, u8-read, u8-value, u16-value, readU16-got}
 use Rattle.tables.specs.Lookup.{lookupAt}
+use Rattle.tables.specs.Units.{lookupBy}
 use Rattle.tables.specs.ManualLookup.{formatNumber, Alike}
 use Rattle.tables.specs.ManualLookup as Lookup
 use Rattle.tables.specs.declared.lookup.Why.{Why}
+use Rattle.tables.specs.declared.units.Reading.the-variants.{Crate, Manual}
 use Rattle.tables.specs.declared.lookup.Found.{Found}
 use Rattle.tables.specs.declared.lookup.Found.the-variants as Found′
 use Rattle.tables.proofs.ManualLookup.{lookup-as-manual}
-use Rattle.state_tables.specs.States.{extendedAt, classicAt}
+use Rattle.tables.proofs.Sizes.{in-crate, other-formats}
+use Rattle.state_tables.specs.States.{extendedBy, extendedAt, classicAt}
 use Rattle.state_tables.specs.Classes.{foundClass, classByLookup, classByArray, classIn, classOf}
 use Rattle.state_tables.specs.Entries.{readNarrow, numberIn, entryNumber, byRow, resolvedIn, resolved}
 use Rattle.state_tables.specs.Manual.{ClassIs, deleted, covered, uncovered, Layout, extended, classic, classTable, LookupGives, ArrayGives, classCount, cellPlace, EntryLies, Names, headAt, IsEntry, AsManual}
@@ -28,7 +32,7 @@ use Rattle.state_tables.specs.declared.States.{States}
 use Rattle.state_tables.specs.declared.Made.the-variants.{Ready}
 use Rattle.state_tables.specs.declared.entries.Entry.{Entry}
 use Rattle.state_tables.specs.declared.entries.Entered.the-variants.{At}
-use Rattle.state_tables.proofs.Heads.{extendedStates, classicStates, extended-is, classic-is}
+use Rattle.state_tables.proofs.Heads.{extendedStates, classicStates, extended-by, extended-is, classic-is}
 use Rattle.state_tables.proofs.Readings.{Steps, rawAt, entry-by, entry-steps, by-row}
 
 -- the class in an array, whose bytes lie in the table
@@ -92,14 +96,24 @@ class-by-lookup bytes layout glyphs glyph e format alike =
     (λ (d : glyph ≡ 65535). rw (eq-eqb glyph 65535 d) (deleted d))
     (λ (real : glyph ≡ 65535 → ⊥).
     rw (ne-eqb glyph 65535 real)
-    (in-lookup table layout glyphs glyph real (lookup-as-manual layout table glyphs glyph format (alike real)) (lookupAt table glyph) refl))
+    (in-lookup table layout glyphs glyph real (lookup-as-manual layout table glyphs glyph format (alike real)) (lookupBy Crate table glyph) (sym (in-crate table glyph))))
     (eq-or-ne glyph 65535))
 
 -- a lookup that finds nothing gives class 1, whatever the reason
 pub class-drops : (bytes : List ℕ) (glyph : ℕ) (why : Why) {states : States} → extendedAt bytes ≡ Ready states → (glyph ≡ 65535 → ⊥)
     → lookupAt (drop (classTable extended bytes) bytes) glyph ≡ Found′.Nothing why → classOf bytes states glyph ≡ 1
 unfolding classOf classIn classByLookup
-class-drops bytes glyph why e real f = ap (λ (s : States). classOf bytes s glyph) (extended-is bytes e) ∙ rw (ne-eqb glyph 65535 real, f)
+class-drops bytes glyph why e real f = ap (λ (s : States). classOf bytes s glyph) (extended-is bytes e) ∙ rw (ne-eqb glyph 65535 real, in-crate (drop (classTable extended bytes) bytes) glyph, f)
+
+-- where the class table is not of format 10, both readings give the same classes
+pub readings-class : (bytes : List ℕ) (glyph : ℕ) → (readU16 (drop (u32At bytes 4) bytes) 0 ≡ U16.Got 10 → ⊥) → {crates manuals : States}
+    → extendedBy Crate bytes ≡ Ready crates → extendedBy Manual bytes ≡ Ready manuals → classOf bytes manuals glyph ≡ classOf bytes crates glyph
+unfolding classOf classIn classByLookup
+readings-class bytes glyph other c m =
+    let table = drop (u32At bytes 4) bytes in
+    ap (λ (s : States). classOf bytes s glyph) (extended-by Manual bytes m)
+    ∙ ap (λ (f : Found). ifEq glyph 65535 2 (foundClass f)) (other-formats table glyph other ∙ sym (in-crate table glyph))
+    ∙ sym (ap (λ (s : States). classOf bytes s glyph) (extended-by Crate bytes c))
 
 -- the cell that is read is the manual's
 module _ (bytes : List ℕ) (state class : ℕ) where

@@ -12,17 +12,25 @@ use borrow.Author.Tests.{lt-ltb, le-ltb, ltb-true, ltb-false, eq-eqb, ne-eqb}
 use Rattle.laws.specs.Choose.{ifLt, ifEq}
 use Rattle.laws.proofs.Numbers.{eq-or-ne}
 use Rattle.parse.specs.Reads.{u8At, u16At, readU8}
-use Rattle.parse.proofs.Laws.{u16-from, u8-read, inside-past}
+use Rattle.parse.specs.declared.ReadU8.{ReadU8}
+use Rattle.parse.specs.declared.ReadU8.the-variants as U8
+use Rattle.parse.proofs.Laws.{u8-from, u16-from, u8-read, inside-past}
 use Rattle.tables.specs.Lookup.{lookupAt}
+use Rattle.tables.specs.Units.{unitsBy, byteFound, byteAt, inUnits}
 use Rattle.tables.specs.Opened as Lookup′
 use Rattle.tables.specs.Opened.{mostIn, openedOf, plain, inArray, foundIn}
 use Rattle.tables.specs.declared.lookup.Found.{Found}
 use Rattle.tables.specs.declared.lookup.Found.the-variants as Found′
 use Rattle.tables.specs.declared.opened.Opened.{Opened}
 use Rattle.tables.specs.declared.opened.Opened.the-variants as Opened′
+use Rattle.tables.specs.declared.units.Reading.{Reading}
+use Rattle.tables.specs.declared.units.Reading.the-variants.{Crate}
+use Rattle.tables.specs.declared.units.Units.{Units}
+use Rattle.tables.specs.declared.units.Units.the-variants as Units′
+use Rattle.tables.proofs.Sizes.{by-units, in-words, in-crate}
 use Rattle.tables.proofs.Openings.{opened-same, opened-lies}
 use Rattle.state_tables.specs.Classes.{foundClass, classByLookup, byteClass, classByArray, classIn, classOf}
-use Rattle.state_tables.specs.Opened.{cutBytes, classesFrom, openedClasses, inClasses, wordClass, byteClassIn, classBy, LiesIn, Remembers, noted, nothingFound}
+use Rattle.state_tables.specs.Opened.{cutBytes, classesFrom, openedBytes, classesIn, openedClasses, inClasses, wordClass, byteClassIn, classBy, LiesIn, Remembers, noted, nothingFound}
 use Rattle.state_tables.specs.declared.Edition.{Edition}
 use Rattle.state_tables.specs.declared.Edition.the-variants.{Extended, Classic}
 use Rattle.state_tables.specs.declared.States.{States}
@@ -43,6 +51,10 @@ class-choice a b x y = go (ltb a b)
 
 -- by a lookup table
 module _ (bytes : List ℕ) (table glyph : ℕ) where
+  pub crate-class : {part : List ℕ} {found : Found} → part ≡ drop table bytes → found ≡ lookupAt part glyph → foundClass found ≡ classByLookup bytes table Crate glyph
+  unfolding classByLookup
+  crate-class p f = ap foundClass (f ∙ ap (λ (b : List ℕ). lookupAt b glyph) p ∙ sym (in-crate (drop table bytes) glyph))
+
   lookup-class : Opened → ℕ
   lookup-class opened = ifEq glyph 65535 2 (foundClass (foundIn (drop table bytes) opened glyph))
 
@@ -55,11 +67,11 @@ module _ (bytes : List ℕ) (table glyph : ℕ) where
         u16-from bytes table (base + (glyph - first) * 2),
         (let e : table + (base + (glyph - first) * 2) ≡ table + base + (glyph - first) * 2 = omega arith in e),
       )
-  from-opened Opened′.Other e = rw (class-plain (lookupAt (drop table bytes) glyph))
+  from-opened Opened′.Other e = rw (class-plain (lookupAt (drop table bytes) glyph), in-crate (drop table bytes) glyph)
 
-  pub extended-same : classBy bytes (openedClasses bytes (Extended table)) glyph ≡ ifEq glyph 65535 2 (classByLookup bytes table glyph)
-  unfolding openedClasses classByLookup lookup-class
-  extended-same =
+  words-same : classBy bytes (classesFrom table (openedOf (drop table bytes))) glyph ≡ ifEq glyph 65535 2 (foundClass (lookupAt (drop table bytes) glyph))
+  unfolding lookup-class
+  words-same =
       from-opened (openedOf (drop table bytes)) refl
       ∙ ap (λ (found : Found). ifEq glyph 65535 2 (foundClass found)) (opened-same (drop table bytes) glyph)
       ∙ ap (λ (class : ℕ). ifEq glyph 65535 2 class) (class-plain (lookupAt (drop table bytes) glyph))
@@ -84,9 +96,9 @@ module _ (bytes : List ℕ) (place first count glyph : ℕ) where
       go true e = rw (e, sym (u8-read bytes (place + index) (omega (arith, ltb-true index (length bytes - place) e))))
       go false e = rw (e, inside-past bytes (place + index) 1 (omega (arith, ltb-false index (length bytes - place) e)), readU8)
 
-  classic-same : classBy bytes (openedClasses bytes (Classic place first count)) glyph ≡ ifEq glyph 65535 2 (classByArray bytes place first count glyph)
-  unfolding openedClasses classBy byteClassIn classByArray cutBytes
-  classic-same = rw (byte-read (glyph - first)) (cut (ltb (length bytes - place) count) refl)
+  array-same : classBy bytes (openedBytes bytes place first count) glyph ≡ ifEq glyph 65535 2 (classByArray bytes place first count glyph)
+  unfolding openedBytes classBy byteClassIn classByArray cutBytes
+  array-same = rw (byte-read (glyph - first)) (cut (ltb (length bytes - place) count) refl)
     where
       index : ℕ
       index = glyph - first
@@ -117,6 +129,63 @@ module _ (bytes : List ℕ) (place first count glyph : ℕ) where
           longer true f = rw (f, lt-ltb index most (omega (arith, ltb-false most count e, ltb-true index count f)))
           longer false f = rw f
 
+-- an element of one byte, as a class
+found-byte : (bytes : List ℕ) (place : ℕ) → foundClass (byteAt bytes place) ≡ byteClass (readU8 bytes place)
+unfolding byteAt
+found-byte bytes place = go (readU8 bytes place)
+  where
+    go : (r : ReadU8) → foundClass (byteFound r) ≡ byteClass r
+    go (U8.Got n) = refl
+    go U8.Short = refl
+
+byte-class : (bytes : List ℕ) (table place : ℕ) → foundClass (byteAt (drop table bytes) place) ≡ byteClass (readU8 bytes (table + place))
+unfolding readU8
+byte-class bytes table place = found-byte (drop table bytes) place ∙ go (ltb place (length bytes - table)) refl
+  where
+    go : (b : Bool) → ltb place (length bytes - table) ≡ b → byteClass (readU8 (drop table bytes) place) ≡ byteClass (readU8 bytes (table + place))
+    go true e =
+        let h = ltb-true place (length bytes - table) e in
+        rw (sym (u8-read (drop table bytes) place (omega (arith, h, length-drop table bytes))), sym (u8-read bytes (table + place) (omega (arith, h)))) (u8-from bytes table place)
+    go false e =
+        let h = ltb-false place (length bytes - table) e in
+        rw (inside-past (drop table bytes) place 1 (omega (arith, h, length-drop table bytes)), inside-past bytes (table + place) 1 (omega (arith, h)), readU8)
+
+module _ (bytes : List ℕ) (table glyph : ℕ) where
+  bytes-found : (first count : ℕ) → classByArray bytes (table + 8) first count glyph ≡ foundClass (inUnits (drop table bytes) (Units′.Bytes first count) glyph)
+  unfolding classByArray inUnits
+  bytes-found first count =
+      rw (
+        class-choice glyph first (Found′.Nothing _) _,
+        class-choice (glyph - first) count (byteAt (drop table bytes) (8 + (glyph - first))) _,
+        byte-class bytes table (8 + (glyph - first)),
+        (let e : table + (8 + (glyph - first)) ≡ table + 8 + (glyph - first) = omega arith in e),
+      )
+
+  none-found : classByArray bytes 0 0 0 glyph ≡ 1
+  unfolding classByArray
+  none-found = rw (le-ltb glyph 0 (omega arith), le-ltb (glyph - 0) 0 (omega arith))
+
+module _ (bytes : List ℕ) (table : ℕ) (reading : Reading) (glyph : ℕ) where
+  pub extended-same : classBy bytes (openedClasses bytes (Extended table reading)) glyph ≡ ifEq glyph 65535 2 (classByLookup bytes table reading glyph)
+  unfolding openedClasses classesIn classByLookup inUnits
+  extended-same = go (unitsBy reading (drop table bytes)) refl
+    where
+      goal : Type 0
+      goal = classBy bytes (openedClasses bytes (Extended table reading)) glyph ≡ ifEq glyph 65535 2 (classByLookup bytes table reading glyph)
+
+      found : {units : Units} → unitsBy reading (drop table bytes) ≡ units
+          → ifEq glyph 65535 2 (foundClass (inUnits (drop table bytes) units glyph)) ≡ ifEq glyph 65535 2 (classByLookup bytes table reading glyph)
+      found e = ap (λ (f : Found). ifEq glyph 65535 2 (foundClass f)) (sym (by-units reading (drop table bytes) glyph e))
+
+      go : (units : Units) → unitsBy reading (drop table bytes) ≡ units → goal
+      go Units′.Words e = rw e (words-same bytes table glyph ∙ in-two e)
+        where
+          in-two : unitsBy reading (drop table bytes) ≡ Units′.Words
+              → ifEq glyph 65535 2 (foundClass (lookupAt (drop table bytes) glyph)) ≡ ifEq glyph 65535 2 (classByLookup bytes table reading glyph)
+          in-two f = ap (λ (r : Found). ifEq glyph 65535 2 (foundClass r)) (sym (in-words reading (drop table bytes) glyph f))
+      go (Units′.Bytes first count) e = rw e (array-same bytes (table + 8) first count glyph ∙ ap (λ (n : ℕ). ifEq glyph 65535 2 n) (bytes-found bytes table glyph first count) ∙ found e)
+      go (Units′.None why) e = rw e (array-same bytes 0 0 0 glyph ∙ ap (λ (n : ℕ). ifEq glyph 65535 2 n) (none-found bytes table glyph) ∙ found e)
+
 abbrev words-lie : List ℕ → Classes → Type 0
 words-lie bytes (Words base first count) = count ≤ mostIn bytes base
 words-lie bytes (Bytes base first count) = 0 ≤ count
@@ -127,19 +196,31 @@ bytes-lie bytes (Words base first count) = 0 ≤ count
 bytes-lie bytes (Bytes base first count) = count ≤ length bytes - base
 bytes-lie bytes (Searched table) = 0 ≤ table
 
+array-lies : (bytes : List ℕ) (place first count : ℕ) → LiesIn bytes (openedBytes bytes place first count)
+unfolding openedBytes cutBytes
+array-lies bytes place first count =
+    record {
+      words = λ b f n e. subst (λ (o : Classes). words-lie bytes o) e (omega arith);
+      byte-classes = λ b f n e. subst (λ (o : Classes). bytes-lie bytes o) e (go (ltb (length bytes - place) count) refl);
+    }
+  where
+    go : (b : Bool) → ltb (length bytes - place) count ≡ b → cond b (length bytes - place) count ≤ length bytes - place
+    go true e = omega arith
+    go false e = omega (arith, ltb-false (length bytes - place) count e)
+
 -- the class table of a state table, opened, gives each glyph's class, and its elements lie in the table
 pub classes-same : (bytes : List ℕ) (states : States) (glyph : ℕ) → classBy bytes (openedClasses bytes (states .edition)) glyph ≡ classOf bytes states glyph
-unfolding classOf classIn
+unfolding classOf classIn openedClasses
 classes-same bytes states glyph = go (states .edition) refl
   where
     go : (edition : Edition) → states .edition ≡ edition
         → classBy bytes (openedClasses bytes (states .edition)) glyph ≡ classOf bytes states glyph
-    go (Extended table) e = rw e (extended-same bytes table glyph)
-    go (Classic place first count) e = rw e (classic-same bytes place first count glyph)
+    go (Extended table reading) e = rw e (extended-same bytes table reading glyph)
+    go (Classic place first count) e = rw e (array-same bytes place first count glyph)
 
 pub classes-lie : (bytes : List ℕ) (edition : Edition) → LiesIn bytes (openedClasses bytes edition)
-unfolding openedClasses cutBytes mostIn
-classes-lie bytes (Extended table) = go (openedOf (drop table bytes)) (opened-lies (drop table bytes))
+unfolding openedClasses classesIn mostIn
+classes-lie bytes (Extended table reading) = by-units′ (unitsBy reading (drop table bytes))
   where
     go : (opened : Opened) → Lookup′.LiesIn (drop table bytes) opened → LiesIn bytes (classesFrom table opened)
     go (Opened′.Array base first count) h =
@@ -152,15 +233,12 @@ classes-lie bytes (Extended table) = go (openedOf (drop table bytes)) (opened-li
           words = λ b f n e. subst (λ (o : Classes). words-lie bytes o) e (omega arith);
           byte-classes = λ b f n e. subst (λ (o : Classes). bytes-lie bytes o) e (omega arith);
         }
-classes-lie bytes (Classic place first count) =
-    record {
-      words = λ b f n e. subst (λ (o : Classes). words-lie bytes o) e (omega arith);
-      byte-classes = λ b f n e. subst (λ (o : Classes). bytes-lie bytes o) e (go (ltb (length bytes - place) count) refl);
-    }
-  where
-    go : (b : Bool) → ltb (length bytes - place) count ≡ b → cond b (length bytes - place) count ≤ length bytes - place
-    go true e = omega arith
-    go false e = omega (arith, ltb-false (length bytes - place) count e)
+
+    by-units′ : (units : Units) → LiesIn bytes (classesIn bytes table units)
+    by-units′ Units′.Words = go (openedOf (drop table bytes)) (opened-lies (drop table bytes))
+    by-units′ (Units′.Bytes first count) = array-lies bytes (table + 8) first count
+    by-units′ (Units′.None why) = array-lies bytes 0 0 0
+classes-lie bytes (Classic place first count) = array-lies bytes place first count
 
 -- the class in an array of words
 pub words-class : (bytes : List ℕ) (opened : Classes) (base first count glyph : ℕ) → opened ≡ Words base first count

@@ -88,7 +88,7 @@ unfolding resolved resolvedIn
 resolved-keeps states raw {entry} = go (states .edition)
   where
     go : (edition : Edition) → resolvedIn edition raw (states .array) (states .classes) ≡ At entry → Kept raw entry
-    go (Extended table) e =
+    go (Extended table reading) e =
         let f : entry ≡ raw = cc in
         record { lower = omega (arith, ap (λ (x : Entry). x .state) f); flags = ap (λ (x : Entry). x .flags) f; payload = ap (λ (x : Entry). x .payload) f }
     go (Classic place first count) e =

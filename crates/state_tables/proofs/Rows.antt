@@ -41,30 +41,14 @@ module _ (n divisor : ℕ) where
   pub row-found : (cell : ℕ) → n / divisor ≡ cell / divisor → n % divisor ≡ 0 → n ≡ cell / divisor * divisor
   row-found cell e z = sym (div-add-mod' n divisor) ∙ rw (z, e) (omega arith)
 
--- a class table of bytes is a classic one's
-bytes-in : Classes → Bool
-bytes-in (Words base first count) = false
-bytes-in (Bytes base first count) = true
-bytes-in (Searched table) = false
-
-pub bytes-classic : (bytes : List ℕ) (edition : Edition) {opened : Classes} {base first count : ℕ} → opened ≡ openedClasses bytes edition
-    → opened ≡ Bytes base first count → isClassic edition ≡ true
-unfolding openedClasses bytes-in
-bytes-classic bytes (Classic place first count) e f = refl
-bytes-classic bytes (Extended table) {opened} e f = go (openedOf (drop table bytes)) (sym (ap bytes-in e) ∙ ap bytes-in f)
-  where
-    go : (o : Opened) → bytes-in (classesFrom table o) ≡ true → false ≡ true
-    go (Opened′.Array base first count) g = g
-    go Opened′.Other g = g
-
 numbers : (bytes : List ℕ) (edition : Edition) → isClassic edition ≡ true → (array cell : ℕ) → numberIn bytes edition array cell ≡ readNarrow bytes (array + cell)
 unfolding numberIn
-numbers bytes (Extended table) e array cell = let z : _≡_ {A = ℕ} 0 1 = cc in absurd (omega arith)
+numbers bytes (Extended table reading) e array cell = let z : _≡_ {A = ℕ} 0 1 = cc in absurd (omega arith)
 numbers bytes (Classic place first count) e array cell = refl
 
 rows : (edition : Edition) → isClassic edition ≡ true → (entry : Entry) (array classes : ℕ) → resolvedIn edition entry array classes ≡ byRow entry array classes
 unfolding resolvedIn
-rows (Extended table) e entry array classes = let z : _≡_ {A = ℕ} 0 1 = cc in absurd (omega arith)
+rows (Extended table reading) e entry array classes = let z : _≡_ {A = ℕ} 0 1 = cc in absurd (omega arith)
 rows (Classic place first count) e entry array classes = refl
 
 same-entry : (entry : Entry) (array classes : ℕ) → rowOf entry array classes ≡ reachedBy classes (byRow entry array classes)

@@ -12,9 +12,10 @@ use Rattle.answers.specs.declared.Reply.the-variants.{Value, Nothing}
 use Rattle.parse.specs.Reads.{readU8}
 use Rattle.parse.specs.declared.ReadU8.{ReadU8}
 use Rattle.parse.specs.declared.ReadU8.the-variants as U8
-use Rattle.tables.specs.Lookup.{lookupAt}
+use Rattle.tables.specs.Units.{lookupBy}
 use Rattle.tables.specs.declared.lookup.Found.{Found}
 use Rattle.tables.specs.declared.lookup.Found.the-variants as Found′
+use Rattle.tables.specs.declared.units.Reading.{Reading}
 use Rattle.state_tables.specs.States.{extendedAt, classicAt}
 use Rattle.state_tables.specs.declared.Edition.{Edition}
 use Rattle.state_tables.specs.declared.Edition.the-variants.{Extended, Classic}
@@ -27,8 +28,8 @@ abbrev pub foundClass : Found → ℕ
 foundClass (Found′.At class) = class
 foundClass (Found′.Nothing why) = 1
 
-unfoldable pub classByLookup : List ℕ → ℕ → ℕ → ℕ
-classByLookup bytes table glyph = foundClass (lookupAt (drop table bytes) glyph)
+unfoldable pub classByLookup : List ℕ → ℕ → Reading → ℕ → ℕ
+classByLookup bytes table reading glyph = foundClass (lookupBy reading (drop table bytes) glyph)
 
 -- and so does a glyph outside the array
 abbrev pub byteClass : ReadU8 → ℕ
@@ -40,7 +41,7 @@ classByArray bytes place first count glyph =
     ifLt glyph first 1 (ifLt (glyph - first) count (byteClass (readU8 bytes (place + (glyph - first)))) 1)
 
 unfoldable pub classIn : List ℕ → Edition → ℕ → ℕ
-classIn bytes (Extended table) glyph = classByLookup bytes table glyph
+classIn bytes (Extended table reading) glyph = classByLookup bytes table reading glyph
 classIn bytes (Classic place first count) glyph = classByArray bytes place first count glyph
 
 -- glyph 0xFFFF has class 2 whatever the class table says

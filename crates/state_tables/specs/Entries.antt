@@ -31,7 +31,7 @@ readNarrow bytes at = widened (readU8 bytes at)
 
 -- a cell of the state array holds the number of an entry: 16 bits in an extended table, a byte in a classic one
 unfoldable pub numberIn : List ℕ → Edition → ℕ → ℕ → ReadU16
-numberIn bytes (Extended table) array cell = readU16 bytes (array + cell * 2)
+numberIn bytes (Extended table reading) array cell = readU16 bytes (array + cell * 2)
 numberIn bytes (Classic place first count) array cell = readNarrow bytes (array + cell)
 
 -- a row of cells for each state, one for each class
@@ -54,7 +54,7 @@ byRow entry array classes =
 
 -- the new state of an extended entry is its number
 unfoldable pub resolvedIn : Edition → Entry → ℕ → ℕ → Entered
-resolvedIn (Extended table) entry array classes = At entry
+resolvedIn (Extended table reading) entry array classes = At entry
 resolvedIn (Classic place first count) entry array classes = byRow entry array classes
 
 unfoldable pub resolved : States → Entry → Entered

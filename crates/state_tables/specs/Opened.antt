@@ -7,8 +7,12 @@ use lib.ListN.{length, getD, set, drop, replicate}
 use Rattle.laws.specs.Choose.{ifLt, ifEq}
 use Rattle.parse.specs.Reads.{u8At, u16At}
 use Rattle.tables.specs.Opened.{mostIn, openedOf}
+use Rattle.tables.specs.Units.{unitsBy}
 use Rattle.tables.specs.declared.opened.Opened.{Opened}
 use Rattle.tables.specs.declared.opened.Opened.the-variants as Opened′
+use Rattle.tables.specs.declared.units.Reading.the-variants.{Crate}
+use Rattle.tables.specs.declared.units.Units.{Units}
+use Rattle.tables.specs.declared.units.Units.the-variants as Units′
 use Rattle.state_tables.specs.Classes.{classByLookup}
 use Rattle.state_tables.specs.declared.Edition.{Edition}
 use Rattle.state_tables.specs.declared.Edition.the-variants.{Extended, Classic}
@@ -23,9 +27,18 @@ abbrev pub classesFrom : (table : ℕ) → Opened → Classes
 classesFrom table (Opened′.Array base first count) = Words (table + base) first count
 classesFrom table Opened′.Other = Searched table
 
+unfoldable pub openedBytes : List ℕ → (base first count : ℕ) → Classes
+openedBytes bytes base first count = Bytes base first (cutBytes bytes base count)
+
+-- elements of one byte begin at 8; no elements are an array of none
+unfoldable pub classesIn : List ℕ → (table : ℕ) → Units → Classes
+classesIn bytes table Units′.Words = classesFrom table (openedOf (drop table bytes))
+classesIn bytes table (Units′.Bytes first count) = openedBytes bytes (table + 8) first count
+classesIn bytes table (Units′.None why) = openedBytes bytes 0 0 0
+
 unfoldable pub openedClasses : List ℕ → Edition → Classes
-openedClasses bytes (Extended table) = classesFrom table (openedOf (drop table bytes))
-openedClasses bytes (Classic place first count) = Bytes place first (cutBytes bytes place count)
+openedClasses bytes (Extended table reading) = classesIn bytes table (unitsBy reading (drop table bytes))
+openedClasses bytes (Classic place first count) = openedBytes bytes place first count
 
 -- the class of a glyph in an array of elements: a deleted one has its own
 abbrev pub inClasses : (element : ℕ → ℕ) → (first count glyph : ℕ) → ℕ
@@ -40,7 +53,7 @@ byteClassIn bytes base first count glyph = inClasses (λ index. u8At bytes (base
 unfoldable pub classBy : List ℕ → Classes → (glyph : ℕ) → ℕ
 classBy bytes (Words base first count) glyph = wordClass bytes base first count glyph
 classBy bytes (Bytes base first count) glyph = byteClassIn bytes base first count glyph
-classBy bytes (Searched table) glyph = ifEq glyph 65535 2 (classByLookup bytes table glyph)
+classBy bytes (Searched table) glyph = ifEq glyph 65535 2 (classByLookup bytes table Crate glyph)
 
 -- all elements of an array lie in the table
 pub record LiesIn (bytes : List ℕ) (opened : Classes) : Type 0 where

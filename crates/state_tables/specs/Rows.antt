@@ -16,7 +16,7 @@ use Rattle.state_tables.specs.declared.entries.Reached.{Reached}
 use Rattle.state_tables.specs.declared.entries.Reached.the-variants.{At, Ended}
 
 abbrev pub isClassic : Edition → Bool
-isClassic (Extended table) = false
+isClassic (Extended table reading) = false
 isClassic (Classic place first count) = true
 
 -- the row that an entry leads to, where each row has so many cells

@@ -7,6 +7,8 @@ use answers::Refusal;
 use answers::Reply;
 use tables::lookup;
 use tables::lookup::Found;
+use tables::units;
+use tables::units::Reading;
 ghost use mathlib.Core.Path.{_≡_};
 ghost use Rattle.state_tables.specs.Classes.{classByLookup, classByArray, classOf, classReply, classExtended, classClassic};
 
@@ -18,13 +20,35 @@ pub const DELETED: u16 = 2;
 // The class of a glyph that the class table does not cover.
 pub const OUT_OF_BOUNDS: u16 = 1;
 
+// By a lookup table in the crate's reading.
 pub fn class_by_lookup(bytes: &[u8], table: u32, glyph: u16) -> u16
-    ensures { λ r. ⌜ r ≡ classByLookup (now (bytes .entry)) table glyph ⌝ }
+    ensures { λ r. ⌜ r ≡ classByLookup (now (bytes .entry)) table Reading.Crate glyph ⌝ }
 {
     let Found::At(class) = lookup::lookup_at(parse::from(bytes, table as usize), glyph) else {
         return OUT_OF_BOUNDS;
     };
     class
+}
+
+// In the manual's.
+fn class_by_units(bytes: &[u8], table: u32, glyph: u16) -> u16
+    ensures { λ r. ⌜ r ≡ classByLookup (now (bytes .entry)) table Reading.Manual glyph ⌝ }
+{
+    let part = parse::from(bytes, table as usize);
+    let Found::At(class) = units::lookup_by(Reading::Manual, part, glyph) else {
+        return OUT_OF_BOUNDS;
+    };
+    class
+}
+
+// In either.
+fn class_by(bytes: &[u8], table: u32, reading: Reading, glyph: u16) -> u16
+    ensures { λ r. ⌜ r ≡ classByLookup (now (bytes .entry)) table reading glyph ⌝ }
+{
+    match reading {
+        Reading::Crate => class_by_lookup(bytes, table, glyph),
+        Reading::Manual => class_by_units(bytes, table, glyph),
+    }
 }
 
 fn class_by_array(bytes: &[u8], place: u32, first: u16, count: u16, glyph: u16) -> u16
@@ -52,7 +76,7 @@ pub fn class_of(bytes: &[u8], states: States, glyph: u16) -> u16
     }
     let edition = states.edition;
     match edition {
-        Edition::Extended { table } => class_by_lookup(bytes, table, glyph),
+        Edition::Extended { table, reading } => class_by(bytes, table, reading, glyph),
         Edition::Classic {
             place,
             first,

@@ -7,7 +7,7 @@ ghost use Prim.Native.Nat.{_+_, _*_, _/_, _<_, _≤_, _^_};
 ghost use lib.ListN.{length};
 ghost use Rattle.parse.specs.Reads.{u16At};
 ghost use Rattle.state_tables.specs.Entries.{readNarrow, entryNumber, entryAt, byRow, resolved, entryOf};
-ghost use Rattle.state_tables.specs.Rows.{reachedIn};
+ghost use Rattle.state_tables.specs.Rows.{isClassic, reachedIn};
 
 // An entry: the state that it leads to, its flags, and where its payload begins.
 pub struct Entry {
@@ -158,6 +158,17 @@ fn row_of(cell: u32, classes: u32) -> u32
         row -= row % classes;
     }
     row
+}
+
+// Whether a state table is a classic one.
+pub fn is_classic(states: States) -> bool
+    ensures { λ r. ⌜ r ≡ isClassic (states .edition) ⌝ }
+{
+    let edition = states.edition;
+    match edition {
+        Edition::Extended { .. } => false,
+        Edition::Classic { .. } => true,
+    }
 }
 
 // The entry of a row and a class, in a classic table whose entries have no payload: what `entry_of` gives for the row's state.

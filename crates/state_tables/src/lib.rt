@@ -4,13 +4,14 @@ pub mod classes;
 pub mod entries;
 pub mod opened;
 
+use tables::units::Reading;
 ghost use mathlib.Core.Path.{_≡_};
-ghost use Rattle.state_tables.specs.States.{extendedAt, classicAt};
+ghost use Rattle.state_tables.specs.States.{extendedBy, extendedAt, classicAt};
 
-// The two editions, and where each has the classes of its glyphs: in a lookup table, or in an array of bytes for `count` glyphs
-// from `first` on.
+// The two editions, and where each has the classes of its glyphs: in a lookup table, which is read by a reading, or in an array of bytes
+// for `count` glyphs from `first` on.
 pub enum Edition {
-    Extended { table: u32 },
+    Extended { table: u32, reading: Reading },
     Classic { place: u32, first: u16, count: u16 },
 }
 
@@ -28,9 +29,9 @@ pub enum Made {
     Short,
 }
 
-// The crate's `ExtendedStateTable::new`.
-pub fn extended(bytes: &[u8]) -> Made
-    ensures { λ r. ⌜ r ≡ extendedAt (now (bytes .entry)) ⌝ }
+// The crate's `ExtendedStateTable::new`, with a class table that is read by a reading.
+pub fn extended_by(bytes: &[u8], reading: Reading) -> Made
+    ensures { λ r. ⌜ r ≡ extendedBy reading (now (bytes .entry)) ⌝ }
 {
     let parse::ReadU32::Got(classes) = parse::read_u32(bytes, 0) else {
         return Made::Short;
@@ -45,11 +46,18 @@ pub fn extended(bytes: &[u8]) -> Made
         return Made::Short;
     };
     Made::Ready(States {
-        edition: Edition::Extended { table },
+        edition: Edition::Extended { table, reading },
         classes,
         array,
         entries,
     })
+}
+
+// The same in the crate's reading.
+pub fn extended(bytes: &[u8]) -> Made
+    ensures { λ r. ⌜ r ≡ extendedAt (now (bytes .entry)) ⌝ }
+{
+    extended_by(bytes, Reading::Crate)
 }
 
 // The crate's `StateTable::new`: the class array lies in the table, and the state array does not begin past its end.

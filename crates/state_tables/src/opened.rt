@@ -4,11 +4,13 @@ use crate::States;
 use crate::classes;
 use tables::opened;
 use tables::opened::Opened;
+use tables::units;
+use tables::units::Units;
 ghost use mathlib.Core.Path.{_≡_};
 ghost use Prim.Native.Nat.{_-_, _≤_};
-ghost use lib.ListN.{length};
-ghost use Rattle.tables.specs.Opened.{mostIn};
-ghost use Rattle.state_tables.specs.Opened.{cutBytes, openedClasses, wordClass, byteClassIn, classBy, LiesIn, Remembers, noted, nothingFound};
+ghost use lib.ListN.{length, drop};
+ghost use Rattle.tables.specs.Opened.{mostIn, openedOf};
+ghost use Rattle.state_tables.specs.Opened.{cutBytes, classesFrom, openedBytes, classesIn, openedClasses, wordClass, byteClassIn, classBy, LiesIn, Remembers, noted, nothingFound};
 
 // An array of words or of bytes, of which so many lie in the table, or one that is searched.
 pub enum Classes {
@@ -40,35 +42,66 @@ fn bytes_in(bytes: &[u8], base: usize, count: usize) -> usize
     count
 }
 
+// The lookup table at `table`, of elements of two bytes.
+fn open_words(bytes: &[u8], table: u32) -> Classes
+    ensures { λ r. ⌜ r ≡ classesFrom table (openedOf (drop table (now (bytes .entry)))) ⌝ }
+{
+    let opened = opened::open(parse::from(bytes, table as usize));
+    let Opened::Array { base, first, count } = opened else {
+        return Classes::Searched { table };
+    };
+    Classes::Words {
+        base: table as usize + base as usize,
+        first,
+        count,
+    }
+}
+
+// An array of bytes, as far as it lies in the table.
+fn open_bytes(bytes: &[u8], base: usize, first: u16, count: u16) -> Classes
+    ensures { λ r. ⌜ r ≡ openedBytes (now (bytes .entry)) base first count ⌝ }
+{
+    let most = bytes_in(bytes, base, count as usize);
+    Classes::Bytes {
+        base,
+        first,
+        count: most,
+    }
+}
+
+// The lookup table at `table`, of such elements; without elements it is an array of none.
+fn open_units(bytes: &[u8], table: u32, units: Units) -> Classes
+    ensures { λ r. ⌜ r ≡ classesIn (now (bytes .entry)) table units ⌝ }
+{
+    match units {
+        Units::Words => open_words(bytes, table),
+        Units::Bytes { first, count } => {
+            open_bytes(
+                bytes,
+                table as usize + units::ELEMENTS as usize,
+                first,
+                count,
+            )
+        }
+        Units::None(_) => open_bytes(bytes, 0, 0, 0),
+    }
+}
+
 // The class table of a state table; the bytes are those from the state table on.
 pub fn open(bytes: &[u8], states: States) -> Classes
     ensures { λ r. ⌜ r ≡ openedClasses (now (bytes .entry)) (states .edition) ⌝ }
 {
     let edition = states.edition;
     match edition {
-        Edition::Extended { table } => {
-            let opened = opened::open(parse::from(bytes, table as usize));
-            let Opened::Array { base, first, count } = opened else {
-                return Classes::Searched { table };
-            };
-            Classes::Words {
-                base: table as usize + base as usize,
-                first,
-                count,
-            }
+        Edition::Extended { table, reading } => {
+            let units = units::units_by(reading, parse::from(bytes, table as usize));
+            open_units(bytes, table, units)
         }
         Edition::Classic {
             place,
             first,
             count,
-        } => {
-            let most = bytes_in(bytes, place as usize, count as usize);
-            Classes::Bytes {
-                base: place as usize,
-                first,
-                count: most,
-            }
-        }
+        } => open_bytes(bytes, place as usize, first, count),
     }
 }
 

@@ -6,6 +6,7 @@ pub mod Surveys
 pub mod Finding
 pub mod Found
 pub mod ManualLookup
+pub mod Sizes
 pub mod Reasons
 pub mod Openings
 mod Wholeness

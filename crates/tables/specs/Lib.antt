@@ -2,9 +2,11 @@
 pub mod Records
 pub mod Search
 pub mod Lookup
+pub mod Units
 pub mod Opened
 pub mod Whole
 pub mod Survey
 pub mod Order
 pub mod ManualLookup
+pub mod ManualUnits
 pub mod Reasons

@@ -3,4 +3,5 @@ pub mod lookup;
 pub mod opened;
 pub mod records;
 pub mod survey;
+pub mod units;
 pub mod whole;

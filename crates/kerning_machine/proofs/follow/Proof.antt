@@ -23,13 +23,17 @@ returns-2 c = rw (c .enum-told2 .given .1) (refl, refl)
 enum-known-start : tie.Need-enum-known-start
 enum-known-start c = search needs
 
-enum-known-reading : tie.Need-enum-known-reading
-enum-known-reading c = search needs
+rule-of-requires : tie.Need-rule-of-requires
+rule-of-requires c κs = search needs
+
+stride-of-requires : tie.Need-stride-of-requires
+stride-of-requires c κs = search needs
 
 walk-requires : tie.Need-walk-requires
 walk-requires c κs =
-    let start = c .before .before .before .before .before .before .before .before in
-    (omega arith, start .pre .0, start .pre .1, start .pre .2)
+    let at-stride-of = c .before in
+    let start = at-stride-of .before .before .before .before .before .before in
+    (omega (arith, at-stride-of .stride-of .ensures .1), start .pre .0, start .pre .1, start .pre .2)
 
 same-length : tie.Need-same-length
 same-length c = search needs
@@ -38,33 +42,10 @@ returns-3 : tie.Need-returns-3
 unfolding walkedFrom
 returns-3 c =
     let at-walk = c .before in
-    let at-reading = at-walk .before .before .before in
-    let at-start = at-reading .before .before .before in
-    rw (at-start .start .given .1, at-reading .reading .given .1) (at-walk .walk .ensures .0, at-walk .walk .ensures .1)
-
-enum-known-reading-2 : tie.Need-enum-known-reading-2
-enum-known-reading-2 c = search needs
-
-size-of-requires : tie.Need-size-of-requires
-size-of-requires c κs = search needs
-
-walk-requires-2 : tie.Need-walk-requires-2
-walk-requires-2 c κs =
-    let at-size-of = c .before in
-    let start = at-size-of .before .before .before .before .before .before .before .before in
-    (omega (arith, at-size-of .size-of .ensures .2), start .pre .0, start .pre .1, start .pre .2)
-
-same-length-2 : tie.Need-same-length-2
-same-length-2 c = search needs
-
-returns-4 : tie.Need-returns-4
-unfolding walkedFrom
-returns-4 c =
-    let at-walk2 = c .before in
-    let at-size-of = at-walk2 .before .before in
-    let at-reading2 = at-size-of .before .before in
-    let at-start = at-reading2 .before .before .before in
-    rw (at-start .start .given .1, at-reading2 .reading2 .given .1, ← (at-size-of .size-of .ensures .0)) (at-walk2 .walk2 .ensures .0, at-walk2 .walk2 .ensures .1)
+    let at-stride-of = at-walk .before .before in
+    let at-rule-of = at-stride-of .before in
+    let at-start = at-rule-of .before .before in
+    rw (at-start .start .given .1, ← (at-stride-of .stride-of .ensures .0), ← (at-rule-of .rule-of .ensures)) (at-walk .walk .ensures .0, at-walk .walk .ensures .1)
 
 pub follow-spec : {M : Type 1} → statement M
 follow-spec =
@@ -75,12 +56,8 @@ follow-spec =
     enum-told-2
     returns-2
     enum-known-start
-    enum-known-reading
+    rule-of-requires
+    stride-of-requires
     walk-requires
     same-length
-    returns-3
-    enum-known-reading-2
-    size-of-requires
-    walk-requires-2
-    same-length-2
-    returns-4)
+    returns-3)

@@ -3,23 +3,15 @@ use borrow.Author.Needs.{needs}
 use Rattle.kerning_machine.proofs.kerx_orders.Statement.{statement}
 use Rattle.kerning_machine.proofs.kerx_orders.Tie as tie
 
-is-set-requires : tie.Need-is-set-requires
-is-set-requires c κs = search needs
-
 kerx-start-requires : tie.Need-kerx-start-requires
 kerx-start-requires c κs = search needs
 
-is-set-requires-2 : tie.Need-is-set-requires-2
-is-set-requires-2 c κs = search needs
-
-is-set-requires-3 : tie.Need-is-set-requires-3
-is-set-requires-3 c κs = search needs
+indexed-orders-requires : tie.Need-indexed-orders-requires
+indexed-orders-requires c κs = search needs
 
 returns : tie.Need-returns
 unfolding kerxOrders
-returns c = rw (c .before .before .before .is-set .ensures, c .before .before .kerx-start .ensures, c .before .is-set2 .ensures, c .is-set3 .ensures, kerxOrders)
+returns c = rw (c .indexed-orders .ensures, c .before .kerx-start .ensures, kerxOrders)
 
 pub kerx-orders-spec : {M : Type 1} → statement M
-kerx-orders-spec =
-    tie.close
-    (tie.spec is-set-requires kerx-start-requires is-set-requires-2 is-set-requires-3 returns)
+kerx-orders-spec = tie.close (tie.spec kerx-start-requires indexed-orders-requires returns)

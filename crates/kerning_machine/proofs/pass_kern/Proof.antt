@@ -78,8 +78,8 @@ returns c =
 kern-orders-requires : tie.Need-kern-orders-requires Inv-loop2 μ-loop2 Inv-loop μ-loop
 kern-orders-requires c κs = search needs
 
-act-requires : tie.Need-act-requires Inv-loop2 μ-loop2 Inv-loop μ-loop
-act-requires c κs =
+act-kern-requires : tie.Need-act-kern-requires Inv-loop2 μ-loop2 Inv-loop μ-loop
+act-kern-requires c κs =
     let at-loop2 = c .before .before .before .before .before .before .before .before in
     let at-loop = at-loop2 .before .before .before .before in
     let r = at-loop2 .loop2 .inv _ (at-loop .loop .inv) in
@@ -88,16 +88,16 @@ act-requires c κs =
 
 same-length-2 : tie.Need-same-length-2 Inv-loop2 μ-loop2 Inv-loop μ-loop
 same-length-2 c =
-    let at-act = c .before .before in
-    let at-loop2 = at-act .before .before .before .before .before .before .before .before .before in
+    let at-act-kern = c .before .before in
+    let at-loop2 = at-act-kern .before .before .before .before .before .before .before .before .before in
     let at-loop = at-loop2 .before .before .before .before in
     let r = at-loop2 .loop2 .inv _ (at-loop .loop .inv) in
-    omega (arith, going-long _ _ _ _ _ (r .going), at-act .act .kept .1 .1 .1 .1 .1 .1 .1 .0)
+    omega (arith, going-long _ _ _ _ _ (r .going), at-act-kern .act-kern .kept .1 .1 .1 .1 .1 .1 .1 .0)
 
 returns-2 : tie.Need-returns-2 Inv-loop2 μ-loop2 Inv-loop μ-loop
 returns-2 c =
-    let at-act = c .before .before in
-    let at-kern-orders = at-act .before .before .before in
+    let at-act-kern = c .before .before in
+    let at-kern-orders = at-act-kern .before .before .before in
     let at-next = at-kern-orders .before .before in
     let at-reach = at-next .before .before in
     let at-loop2-test = at-reach .before in
@@ -108,7 +108,7 @@ returns-2 c =
     let start = at-loop .before .before .before in
     let r = at-loop2 .loop2 .inv _ (at-loop .loop .inv) in
     let x = reached-entry _ _ _ _ (r .state) (start .pre .0) (at-reach .reach .ensures) (r .at) (at-next .next .given .1) in
-    let e = place-over _ _ _ _ _ (at-loop .loop .place) (r .going) (at-loop2-test .loop2-test .taken) (at-loop-test .loop-test .taken) (at-class-in-bytes .class-in-bytes .ensures) _ _ (x .1) (kern-says _ _ _ (at-kern-orders .kern-orders .ensures) (x .3)) (at-act .act .ensures .0) (at-act .act .ensures .1) (c .if1 .taken) in
+    let e = place-over _ _ _ _ _ (at-loop .loop .place) (r .going) (at-loop2-test .loop2-test .taken) (at-loop-test .loop-test .taken) (at-class-in-bytes .class-in-bytes .ensures) _ _ (x .1) (kern-says _ _ _ (at-kern-orders .kern-orders .ensures) (x .3)) (at-act-kern .act-kern .ensures .0) (at-act-kern .act-kern .ensures .1) (c .if1 .taken) in
     (e .answers, e .leaves)
 
 stall-requires : tie.Need-stall-requires Inv-loop2 μ-loop2 Inv-loop μ-loop
@@ -118,8 +118,8 @@ loop2-less : tie.Need-loop2-less Inv-loop2 μ-loop2 Inv-loop μ-loop
 loop2-less c =
     let at-stall = c .before in
     let at-if1 = at-stall .before in
-    let at-act = at-if1 .before .before in
-    let at-kern-orders = at-act .before .before .before in
+    let at-act-kern = at-if1 .before .before in
+    let at-kern-orders = at-act-kern .before .before .before in
     let at-next = at-kern-orders .before .before in
     let at-reach = at-next .before .before in
     let at-loop2-test = at-reach .before in
@@ -130,14 +130,14 @@ loop2-less c =
     let start = at-loop .before .before .before in
     let r = at-loop2 .loop2 .inv _ (at-loop .loop .inv) in
     let x = reached-entry _ _ _ _ (r .state) (start .pre .0) (at-reach .reach .ensures) (r .at) (at-next .next .given .1) in
-    place-falls _ _ _ _ _ (at-loop .loop .place) (r .going) (at-loop2-test .loop2-test .taken) (at-loop-test .loop-test .taken) (at-class-in-bytes .class-in-bytes .ensures) _ _ (x .1) (kern-says _ _ _ (at-kern-orders .kern-orders .ensures) (x .3)) (at-act .act .ensures .0) (at-act .act .ensures .1) (at-if1 .if1 .left) (at-stall .stall .ensures) (kern-keeps _ _ (at-kern-orders .kern-orders .ensures))
+    place-falls _ _ _ _ _ (at-loop .loop .place) (r .going) (at-loop2-test .loop2-test .taken) (at-loop-test .loop-test .taken) (at-class-in-bytes .class-in-bytes .ensures) _ _ (x .1) (kern-says _ _ _ (at-kern-orders .kern-orders .ensures) (x .3)) (at-act-kern .act-kern .ensures .0) (at-act-kern .act-kern .ensures .1) (at-if1 .if1 .left) (at-stall .stall .ensures) (kern-keeps _ _ (at-kern-orders .kern-orders .ensures))
 
 loop2-again : tie.Need-loop2-again Inv-loop2 μ-loop2 Inv-loop μ-loop
 loop2-again c =
     let at-stall = c .before in
     let at-if1 = at-stall .before in
-    let at-act = at-if1 .before .before in
-    let at-kern-orders = at-act .before .before .before in
+    let at-act-kern = at-if1 .before .before in
+    let at-kern-orders = at-act-kern .before .before .before in
     let at-next = at-kern-orders .before .before in
     let at-reach = at-next .before .before in
     let at-loop2-test = at-reach .before in
@@ -152,7 +152,7 @@ loop2-again c =
     record {
       state = x .0 .state;
       at = x .2;
-      going = place-goes _ _ _ _ _ (at-loop .loop .place) (r .going) (at-loop2-test .loop2-test .taken) (at-loop-test .loop-test .taken) (at-class-in-bytes .class-in-bytes .ensures) _ _ (x .1) (kern-says _ _ _ (at-kern-orders .kern-orders .ensures) (x .3)) (at-act .act .ensures .0) (at-act .act .ensures .1) (at-if1 .if1 .left) (at-stall .stall .ensures) (kern-keeps _ _ (at-kern-orders .kern-orders .ensures));
+      going = place-goes _ _ _ _ _ (at-loop .loop .place) (r .going) (at-loop2-test .loop2-test .taken) (at-loop-test .loop-test .taken) (at-class-in-bytes .class-in-bytes .ensures) _ _ (x .1) (kern-says _ _ _ (at-kern-orders .kern-orders .ensures) (x .3)) (at-act-kern .act-kern .ensures .0) (at-act-kern .act-kern .ensures .1) (at-if1 .if1 .left) (at-stall .stall .ensures) (kern-keeps _ _ (at-kern-orders .kern-orders .ensures));
     }
 
 add-place : tie.Need-add-place Inv-loop2 μ-loop2 Inv-loop μ-loop
@@ -199,7 +199,7 @@ pass-kern-spec =
     same-length
     returns
     kern-orders-requires
-    act-requires
+    act-kern-requires
     same-length-2
     returns-2
     stall-requires

@@ -8,13 +8,14 @@ use Rattle.kerning.proofs.Adding.{within-more}
 use Rattle.line.proofs.Room.{room-small}
 use Rattle.pairs.specs.Work.{Sized}
 use Rattle.pairs.specs.Pairs.{pairNumber}
+use Rattle.tables.specs.declared.units.Reading.the-variants.{Crate}
 use Rattle.pairs.specs.declared.PairTable.the-variants.{Classes}
 use Rattle.pairs.proofs.Passes.{sized, sized-opened, opened-adds, Stretching, stretching-start, stretching-next, stretching-done}
 use Rattle.pairs.proofs.add_classes.Statement.{statement}
 use Rattle.pairs.proofs.add_classes.Tie as tie
 
 abbrev Inv-loop : tie.InvT-loop
-Inv-loop bytes rows columns array glyphs before from stop along₀ lefts rights left-rows right-columns left₀ place₀ along left place = Stretching (pairNumber bytes (Classes rows columns array)) glyphs (sized bytes (Classes rows columns array)) before from stop (2 ^ 61) along₀ along left place
+Inv-loop bytes rows columns array glyphs before from stop along₀ lefts rights left-rows right-columns left₀ place₀ along left place = Stretching (pairNumber bytes (Classes rows columns array Crate)) glyphs (sized bytes (Classes rows columns array Crate)) before from stop (2 ^ 61) along₀ along left place
 
 abbrev μ-loop : tie.MeasureT-loop
 μ-loop bytes rows columns array glyphs before from stop along₀ lefts rights left-rows right-columns left₀ place₀ along left place = stop - place

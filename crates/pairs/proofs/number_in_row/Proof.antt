@@ -6,8 +6,8 @@ use Rattle.pairs.proofs.number_in_row.Tie as tie
 from-requires : tie.Need-from-requires
 from-requires c κs = search needs
 
-lookup-at-requires : tie.Need-lookup-at-requires
-lookup-at-requires c κs = search needs
+lookup-by-requires : tie.Need-lookup-by-requires
+lookup-by-requires c κs = search needs
 
 enum-known-found : tie.Need-enum-known-found
 enum-known-found c = search needs
@@ -35,7 +35,7 @@ number-in-row-spec =
     tie.close
     (tie.spec
     from-requires
-    lookup-at-requires
+    lookup-by-requires
     enum-known-found
     cast-number-at
     add-number-at

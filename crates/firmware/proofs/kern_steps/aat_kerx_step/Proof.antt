@@ -1,3 +1,5 @@
+use mathlib.Core.Path.{refl}
+use Rattle.kerning.specs.Choices.{unchosen}
 use Rattle.firmware.proofs.KernSteps.{answer-is, state-is, advance-is, kerx-is, kerx-added}
 use borrow.Author.Needs.{needs}
 use Rattle.firmware.proofs.kern_steps.aat_kerx_step.Statement.{statement}
@@ -22,8 +24,8 @@ returns : tie.Need-returns
 returns c =
     let at-step = c .before .before .before .before in
     let at-kerning-from = at-step .before .before in
-    let e = kerx-is _ _ _ _ _ _ _ _ (at-kerning-from .kerning-from .ensures) (at-step .step .ensures .0) in
-    (answer-is e (c .put-step .ensures .0), (state-is e _ (c .put-step .ensures .1 .0), (kerx-added _ _ _ _ _ _ _ _ (at-kerning-from .kerning-from .ensures) (at-step .step .ensures .1), advance-is e _ (c .put-step .ensures .1 .1))))
+    let e = kerx-is _ _ _ _ _ _ _ _ (at-kerning-from .kerning-from .ensures) unchosen refl (at-step .step .ensures .0) in
+    (answer-is e (c .put-step .ensures .0), (state-is e _ (c .put-step .ensures .1 .0), (kerx-added _ _ _ _ _ _ _ _ (at-kerning-from .kerning-from .ensures) unchosen refl (at-step .step .ensures .1), advance-is e _ (c .put-step .ensures .1 .1))))
 
 pub aat-kerx-step-spec : {M : Type 1} → statement M
 aat-kerx-step-spec =

@@ -6,9 +6,12 @@ use Rattle.kerning.proofs.choices.choices_of.Tie as tie
 rule-of-requires : tie.Need-rule-of-requires
 rule-of-requires c κs = search needs
 
+reading-of-requires : tie.Need-reading-of-requires
+reading-of-requires c κs = search needs
+
 returns : tie.Need-returns
 unfolding choicesOf
-returns c = rw (c .rule-of .ensures)
+returns c = rw (c .before .rule-of .ensures, c .reading-of .ensures)
 
 pub choices-of-spec : {M : Type 1} → statement M
-choices-of-spec = tie.close (tie.spec rule-of-requires returns)
+choices-of-spec = tie.close (tie.spec rule-of-requires reading-of-requires returns)

@@ -1,5 +1,6 @@
-use mathlib.Core.Path.{sym, _∙_}
-use Rattle.state_tables.specs.Classes.{classByLookup}
+use Rattle.state_tables.specs.Classes.{foundClass}
+use Rattle.state_tables.proofs.Openings.{crate-class}
+use mathlib.Core.Path.{sym, _∙_, ap}
 use borrow.Author.Needs.{needs}
 use Rattle.state_tables.proofs.classes.class_by_lookup.Statement.{statement}
 use Rattle.state_tables.proofs.classes.class_by_lookup.Tie as tie
@@ -17,12 +18,14 @@ enum-told : tie.Need-enum-told
 enum-told c = search needs
 
 returns : tie.Need-returns
-unfolding classByLookup
-returns c = rw (← (c .before .before .before .from .ensures), sym (c .before .before .lookup-at .ensures) ∙ c .enum-told .given .1, classByLookup)
+returns c =
+    ap foundClass (sym (c .enum-told .given .1))
+    ∙ crate-class _ _ _ (c .before .before .before .from .ensures) (c .before .before .lookup-at .ensures)
 
 returns-2 : tie.Need-returns-2
-unfolding classByLookup
-returns-2 c = rw (← (c .before .before .before .before .from .ensures), sym (c .before .before .before .lookup-at .ensures) ∙ c .before .class .given .1, classByLookup)
+returns-2 c =
+    ap foundClass (sym (c .before .class .given .1))
+    ∙ crate-class _ _ _ (c .before .before .before .before .from .ensures) (c .before .before .before .lookup-at .ensures)
 
 pub class-by-lookup-spec : {M : Type 1} → statement M
 class-by-lookup-spec =

@@ -11,8 +11,8 @@ returns c = rw (eq-eqb _ _ (c .if1 .taken), classOf)
 enum-known-edition : tie.Need-enum-known-edition
 enum-known-edition c = search needs
 
-class-by-lookup-requires : tie.Need-class-by-lookup-requires
-class-by-lookup-requires c κs = search needs
+class-by-requires : tie.Need-class-by-requires
+class-by-requires c κs = search needs
 
 enum-known-edition-2 : tie.Need-enum-known-edition-2
 enum-known-edition-2 c = search needs
@@ -22,7 +22,7 @@ class-by-array-requires c κs = search needs
 
 returns-2 : tie.Need-returns-2
 unfolding classOf classIn
-returns-2 c = rw (ne-eqb _ _ (c .before .before .before .before .if1 .left), c .class-by-lookup .ensures, c .before .before .edition .given .1, classOf, classIn)
+returns-2 c = rw (ne-eqb _ _ (c .before .before .before .before .if1 .left), c .class-by .ensures, c .before .before .edition .given .1, classOf, classIn)
 
 returns-3 : tie.Need-returns-3
 unfolding classOf classIn
@@ -34,7 +34,7 @@ class-of-spec =
     (tie.spec
     returns
     enum-known-edition
-    class-by-lookup-requires
+    class-by-requires
     enum-known-edition-2
     class-by-array-requires
     returns-2

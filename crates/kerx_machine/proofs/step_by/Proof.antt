@@ -1,7 +1,7 @@
 use Rattle.kerx_machine.specs.Machine.{stepCall}
 use borrow.Author.Needs.{needs}
-use Rattle.kerx_machine.proofs.step.Statement.{statement}
-use Rattle.kerx_machine.proofs.step.Tie as tie
+use Rattle.kerx_machine.proofs.step_by.Statement.{statement}
+use Rattle.kerx_machine.proofs.step_by.Tie as tie
 
 from-requires : tie.Need-from-requires
 from-requires c κs = search needs
@@ -27,7 +27,7 @@ returns c =
     let at-from = at-open .before in
     rw (← (at-from .from .ensures), ← (at-open .«open» .ensures), ← (at-from2 .from2 .ensures)) (at-step .step .ensures .0, at-step .step .ensures .1)
 
-pub step-spec : {M : Type 1} → statement M
-step-spec =
+pub step-by-spec : {M : Type 1} → statement M
+step-by-spec =
     tie.close
     (tie.spec from-requires open-requires from-requires-2 step-requires same-length returns)

@@ -1,0 +1,309 @@
+//! kerx in both of its readings: the crate's, of which demand 2 speaks, and the manual's, which document 02 asks for (W-206).
+//! Written from the documents alone, with a step, a pass and a run of its own, since the crate has no such reading; in the
+//! crate's reading it has to give what the crate gives. The readings part in `lookup`, `place`, `ends` and `leaves_out`.
+
+use crate::reference::kerning::{add_at, make_steps, Kerned};
+use crate::reference::kerning_by_copy::{DEEPEST, STATE};
+use crate::reference::kerning_choices::Choices;
+use crate::reference::line::DELETED;
+use crate::reference::oracle::{aat, Answer, Bytes, Fault};
+use crate::reference::pass::stepped;
+use crate::reference::run::MOST_HEADS;
+
+/// How lists and lookups are read.
+#[derive(Clone, Copy, PartialEq)]
+pub enum Reading {
+    Crate,
+    Manual,
+}
+
+impl Reading {
+    /// What is right: what this model says, which has to be what the crate says in the crate's reading.
+    pub fn right<T: PartialEq>(self, by_model: T, by_crate: impl FnOnce() -> Result<T, Fault>) -> Result<T, Fault> {
+        if self == Reading::Crate && by_crate()? != by_model {
+            return Err(Fault::Disputed);
+        }
+        Ok(by_model)
+    }
+}
+
+/// The number of so many bytes at a place, where all of them are there.
+fn number(data: &[u8], at: u64, bytes: u64) -> Option<u64> {
+    let data = data.get(usize::try_from(at).ok()?..usize::try_from(at.checked_add(bytes)?).ok()?)?;
+    Some(data.iter().fold(0, |number, byte| number << 8 | u64::from(*byte)))
+}
+
+impl Reading {
+    /// The element of a glyph in the lookup table at a place.
+    fn lookup(self, data: &[u8], at: u64, glyph: u16) -> Option<u64> {
+        if self == Reading::Manual && number(data, at, 2)? == 10 {
+            trimmed(data, at, glyph)
+        } else {
+            aat::lookup::<u16>(&Bytes::new(data), at as usize, glyph).map(u64::from)
+        }
+    }
+
+    /// Whether subtables with this tuple count are passed over in a run, and refused in a lone pass or step.
+    fn leaves_out(self, tuples: u64) -> bool {
+        self == Reading::Manual && tuples != 0
+    }
+}
+
+/// The element of a glyph in format 10, by the manual: of as many bytes as the unit size says, which is 1 or 2.
+fn trimmed(data: &[u8], at: u64, glyph: u16) -> Option<u64> {
+    let [size, first, count] = [number(data, at + 2, 2)?, number(data, at + 4, 2)?, number(data, at + 6, 2)?];
+    let index = u64::from(glyph).checked_sub(first)?;
+    let has_element = index < count && (size == 1 || size == 2);
+    has_element.then(|| number(data, at + 8 + size * index, size))?
+}
+
+/// A subtable of a list of this version: its bytes and all behind them.
+pub struct Kerx<'a> {
+    pub reading: Reading,
+    pub version: u16,
+    pub data: &'a [u8],
+}
+
+/// What a subtable's head says.
+struct Head {
+    size: u64,
+    coverage: u64,
+    tuples: u64,
+}
+
+/// A subtable that can be read, and is of a format that is not left out.
+enum Opened<'a> {
+    Pairs { count: u64 },
+    Classes { rows: u64, columns: u64, array: u64 },
+    Machine(Machine<'a>),
+}
+
+impl<'a> Kerx<'a> {
+    fn head(&self) -> Option<Head> {
+        let [size, coverage] = [number(self.data, 0, 4)?, number(self.data, 4, 4)?];
+        let tuples = if self.version >= 4 { number(self.data, 8, 4)? } else { 0 };
+        Some(Head { size, coverage, tuples })
+    }
+
+    fn opened(&self) -> Option<(Head, Opened<'a>)> {
+        let head = self.head()?;
+        let long = |at| number(self.data, at, 4);
+        let opened = match head.coverage & 0xFF {
+            0 => Opened::Pairs { count: long(12)? },
+            1 => Opened::Machine(Machine::open(self.reading, self.data.get(12..)?, head.tuples)?),
+            2 => Opened::Classes { rows: long(16)?, columns: long(20)?, array: long(24)? },
+            _ => return None,
+        };
+        Some((head, opened))
+    }
+
+    /// The pass over these glyphs, which adds to as many adjustments.
+    pub fn pass(&self, choices: Choices, glyphs: &[u16], along: &mut [i64]) -> Answer<()> {
+        let opened = match self.opened() {
+            None => return Answer::Head,
+            Some((head, _)) if self.reading.leaves_out(head.tuples) => return Answer::Tuples,
+            Some((_, opened)) => opened,
+        };
+        if let Opened::Machine(machine) = opened {
+            let mut state = [0; STATE];
+            return make_steps(glyphs, |place, glyph| machine.step(&mut state, place, glyph, along));
+        }
+        for (first, second) in choices.pairs(glyphs) {
+            if let Some(number) = self.number_of(&opened, glyphs[first], glyphs[second]) {
+                add_at(along, first, number);
+            }
+        }
+        Answer::Done(())
+    }
+
+    /// A lone step, which changes the state and adds to the adjustments of the line.
+    pub fn step(&self, state: &mut [u64; STATE], index: usize, glyph: u16, along: &mut [i64]) -> Answer<usize> {
+        match self.opened() {
+            Some((head, Opened::Machine(machine))) => {
+                if self.reading.leaves_out(head.tuples) {
+                    return Answer::Tuples;
+                }
+                stepped(machine.step(state, index, glyph, along))
+            }
+            _ => Answer::Head,
+        }
+    }
+
+    /// What two glyphs add.
+    fn number_of(&self, opened: &Opened, left: u16, right: u16) -> Option<i16> {
+        match *opened {
+            Opened::Pairs { count } => self.number_in_list(count, left, right),
+            Opened::Classes { rows, columns, array } => {
+                let row = self.reading.lookup(self.data, rows, left)?;
+                let column = self.reading.lookup(self.data, columns, right)?;
+                Some(number(self.data, array + row + column, 2)? as i16)
+            }
+            Opened::Machine(_) => None,
+        }
+    }
+
+    /// The search by halves for a pair.
+    fn number_in_list(&self, count: u64, left: u16, right: u16) -> Option<i16> {
+        let pair = u64::from(left) << 16 | u64::from(right);
+        let (mut least, mut most) = (0, count);
+        while least < most {
+            let middle = (least + most) / 2;
+            let record = 28 + 6 * middle;
+            match number(self.data, record, 4)? {
+                found if found < pair => least = middle + 1,
+                found if found > pair => most = middle,
+                _ => return Some(number(self.data, record + 4, 2)? as i16),
+            }
+        }
+        None
+    }
+}
+
+const PUSH: u64 = 0x8000;
+const STAY: u64 = 0x4000;
+const RESET: u64 = 0x2000;
+
+/// No list.
+const NONE: u64 = 0xFFFF;
+
+/// The most steps in a row that do not advance.
+const MOST_CYCLES: u64 = 17;
+
+/// A machine of format 1.
+struct Machine<'a> {
+    reading: Reading,
+    /// From the state table's start on, from which all places are counted.
+    data: &'a [u8],
+    classes: u64,
+    class_table: u64,
+    states: u64,
+    entries: u64,
+    values: u64,
+    tuples: u64,
+}
+
+impl<'a> Machine<'a> {
+    fn open(reading: Reading, data: &'a [u8], tuples: u64) -> Option<Self> {
+        let long = |at| number(data, at, 4);
+        let [classes, class_table, states, entries, values] = [long(0)?, long(4)?, long(8)?, long(12)?, long(16)?];
+        Some(Machine { reading, data, classes, class_table, states, entries, values, tuples })
+    }
+
+    /// Where number k of the list of this index lies; None where the crate's sums do not fit 64 bits.
+    fn place(&self, index: u64, k: u64) -> Option<u64> {
+        match self.reading {
+            Reading::Crate => {
+                let size = 2 * self.tuples.max(1);
+                (self.values + index).checked_mul(size)?.checked_add(k * size)
+            }
+            Reading::Manual => Some(self.values + 2 * index + 2 * k),
+        }
+    }
+
+    /// Whether a number ends its list, with nothing popped for it.
+    fn ends(&self, number: u64) -> bool {
+        self.reading == Reading::Manual && number == 0xFFFF
+    }
+
+    fn class(&self, glyph: u16) -> u64 {
+        if glyph == DELETED {
+            return 2;
+        }
+        self.reading.lookup(self.data, self.class_table, glyph).unwrap_or(1)
+    }
+
+    /// One step from a state: the state table's number, the depth of the stack, the steps in a row that did not advance, and the
+    /// stack. What it goes on by; None where it ends.
+    fn step(&self, state: &mut [u64; STATE], index: usize, glyph: u16, along: &mut [i64]) -> Option<usize> {
+        let cell = self.states + 2 * (state[0] * self.classes + self.class(glyph));
+        let entry = self.entries + 6 * number(self.data, cell, 2)?;
+        let list = number(self.data, entry + 4, 2)?;
+        let flags = number(self.data, entry + 2, 2)?;
+        state[0] = number(self.data, entry, 2)?;
+        if flags & PUSH != 0 {
+            if state[1] == DEEPEST as u64 {
+                return None;
+            }
+            state[3 + state[1] as usize] = index as u64;
+            state[1] += 1;
+        }
+        if list != NONE {
+            self.take_list(list, state, along)?;
+        }
+        if flags & RESET != 0 {
+            state[1] = 0;
+        }
+        let advances = flags & STAY == 0 || state[2] == MOST_CYCLES;
+        state[2] = if advances { 0 } else { state[2] + 1 };
+        Some(usize::from(advances))
+    }
+
+    /// Goes through a list as long as there is a place on the stack: each number that does not end it is added at the place that
+    /// it pops.
+    fn take_list(&self, index: u64, state: &mut [u64; STATE], along: &mut [i64]) -> Option<()> {
+        self.place(index, 0)?;
+        for k in 0..state[1] {
+            let number = number(self.data, self.place(index, k)?, 2)?;
+            if self.ends(number) {
+                break;
+            }
+            state[1] -= 1;
+            add_at(along, state[3 + state[1] as usize] as usize, number as i16);
+        }
+        Some(())
+    }
+}
+
+/// A whole run of the table whose list begins at a start: the answer, and the heads that were counted.
+pub fn run(
+    reading: Reading,
+    table: &[u8],
+    start: u64,
+    right_to_left: bool,
+    choices: Choices,
+    lent: &mut Kerned,
+) -> (Answer<()>, u32) {
+    lent.used().1.fill(0);
+    let list = if start == 0 { &[] } else { &table[start as usize..] };
+    let [version, count] = [(0, 2), (4, 4)].map(|(at, bytes)| number(list, at, bytes).unwrap_or(0));
+    let (mut at, mut heads) = (8, 0);
+    for _ in 0..count {
+        let data = match list.get(at as usize..) {
+            Some(data) => data,
+            None => break,
+        };
+        let subtable = Kerx { reading, version: version as u16, data };
+        let head = match subtable.head() {
+            Some(head) => head,
+            None => break,
+        };
+        if heads == MOST_HEADS {
+            return (Answer::Limit, heads);
+        }
+        heads += 1;
+        if !head.is_passed_over() && !reading.leaves_out(head.tuples) {
+            let is_turned = head.is_reversed() != right_to_left;
+            if is_turned {
+                lent.reverse();
+            }
+            let (glyphs, along) = lent.used();
+            subtable.pass(choices, glyphs, along);
+            if is_turned {
+                lent.reverse();
+            }
+        }
+        at += head.size;
+    }
+    (Answer::Done(()), heads)
+}
+
+impl Head {
+    /// Whether it is for vertical text, across the line or for variations.
+    fn is_passed_over(&self) -> bool {
+        self.coverage & 0xE000_0000 != 0
+    }
+
+    fn is_reversed(&self) -> bool {
+        self.coverage & 0x1000_0000 != 0
+    }
+}
