@@ -1,0 +1,8 @@
+-- Laws of the machine of anchored marks.
+pub mod Writing
+pub mod Acting
+pub mod Passes
+pub mod Turns
+pub mod Exactly
+pub mod Calls
+mod Steps

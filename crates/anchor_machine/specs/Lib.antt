@@ -1,0 +1,5 @@
+-- The machine of anchored marks.
+pub mod Writes
+pub mod Machine
+pub mod Exact
+pub mod Small

@@ -1,0 +1,2 @@
+-- Laws of anchor points.
+pub mod Lying

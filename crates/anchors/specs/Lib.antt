@@ -1,0 +1,2 @@
+-- Anchor points.
+pub mod Anchors
