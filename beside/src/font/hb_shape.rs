@@ -34,16 +34,20 @@ impl HbShape {
         if glyphs.is_empty() {
             return Ok(Reading { glyphs: Vec::new(), along: Some(Vec::new()) });
         }
-        let characters: Vec<String> =
-            typed_characters(glyphs).iter().map(|character| format!("U+{:X}", character)).collect();
+        let characters: Option<String> = typed_characters(glyphs).into_iter().map(char::from_u32).collect();
+        let characters = characters.ok_or("hb-shape: a glyph has no character")?;
         let font = typed_font(tables.glyphs.unwrap_or(u16::MAX), tables.named());
         // Scripts have a way of their own, into which HarfBuzz turns the line before it works.
         let way =
             if right_to_left { ["--direction=rtl", "--script=Hebr"] } else { ["--direction=ltr", "--script=Latn"] };
         let words = ["--font-file=/dev/stdin", "--language=en", "--no-glyph-names", "--no-clusters"];
+        // A file, as the longest lines are too long for an argument.
+        let text = std::env::temp_dir().join(format!("hb-shape-line-{}", std::process::id()));
         let mut command = Command::new("hb-shape");
-        command.args(words).args(way).arg(format!("--unicodes={}", characters.join(",")));
-        let said = run(command, &font).map_err(|error| format!("hb-shape: {}", error))?;
+        command.args(words).args(way).arg(format!("--text-file={}", text.display()));
+        let said = std::fs::write(&text, characters).and_then(|()| run(command, &font));
+        let _ = std::fs::remove_file(&text);
+        let said = said.map_err(|error| format!("hb-shape: {}", error))?;
         // Of a line whose glyphs are all deleted it says nothing.
         let read = said.trim().trim_start_matches('[').trim_end_matches(']');
         let places: Option<Vec<Place>> = read.split('|').filter(|place| !place.is_empty()).map(Place::of).collect();
