@@ -77,7 +77,7 @@ is_stale() { # FILE SOURCE..
 # Copies the crate with the fields of the states, of what a step hands over, of morx's lists and of class pairs made public, and with every read
 # that fails noted.
 open_crate() {
-    local opened='RearrangementState|ContextualState|LigatureState|InsertionState|Format1State|Rearrange|Array' file
+    local opened='RearrangementState|ContextualState|LigatureState|InsertionState|Format1State|Format4State|Rearrange|Array' file
     opened+='|Chains|Chain|Features|Subtables|Subtable|Format2'
     for file in aat.rs parse.rs; do
         sed -E "/^ *pub struct ($opened)\\b/,/\}/ s/^( *)([a-z_]+:)/\\1pub \\2/" "$top/docs/src/$file" >"$built/$file"

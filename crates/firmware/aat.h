@@ -11,8 +11,8 @@
      subtable (its head included), state table or list of glyphs begins. Longer than AAT_LONGEST_TABLE is AAT_TABLE. Where a
      whole kern or kerx table is asked for, start 0 is no table, which has no subtables; elsewhere it is a start as any other.
    - glyph 0xFFFF is a deleted glyph. Flags told as uint32_t are set where they are not 0.
-   - The refusals are tested in this order, and where several apply, the answer is the first: AAT_TABLE, AAT_REQUEST,
-     AAT_RECORD_VERSION, AAT_RECORD, AAT_LINE, AAT_PLACE, AAT_STATE, AAT_HEAD, AAT_TUPLES, AAT_OVERLAP, AAT_SPACE.
+   - The refusals are tested in this order, and where several apply, the answer is the first: AAT_TABLE, AAT_ANCHOR,
+     AAT_REQUEST, AAT_RECORD_VERSION, AAT_RECORD, AAT_LINE, AAT_PLACE, AAT_STATE, AAT_HEAD, AAT_TUPLES, AAT_OVERLAP, AAT_SPACE.
 
    The most work of a call, for a watchdog. A turn is one entry of a state table that is looked at.
    - A lookup, class or pair looks at 16 records at most, a pair of kerx at 32; aat_survey at 65,535; aat_mend at as many, with
@@ -27,9 +27,9 @@
      feature that lies in the table with each of them: 1,398,099 features of a chain that is visited again and again, and
      AAT_MOST_REQUESTS, make some 6 x 10^12 looks.
    - A turn is a class and an entry. Besides, at most: rearrangement moves the glyphs and tags of the line; contextual
-     substitution makes two lookups; kerning adds 8 numbers; insertion puts in 62 glyphs and moves the line, as long as there
-     is room. The 18 turns of a ligature's step share 34 actions; each has 31 components at most, for each of which all homes
-     are looked at. */
+     substitution makes two lookups; kerning adds 8 numbers; anchored marks make two lookups; insertion puts in 62 glyphs and
+     moves the line, as long as there is room. The 18 turns of a ligature's step share 34 actions; each has 31 components at
+     most, for each of which all homes are looked at. */
 
 #ifndef AAT_H
 #define AAT_H
@@ -49,7 +49,7 @@ typedef __SIZE_TYPE__ size_t;
 #endif
 
 /* Rises with every entry or value that is added; what is there stays. */
-#define AAT_VERSION 10
+#define AAT_VERSION 11
 
 #ifdef __cplusplus
 extern "C" {
@@ -71,6 +71,7 @@ enum aat_answer {
     AAT_RECORD = 11, /* the bytes are no record of a line */
     AAT_RECORD_VERSION = 12, /* they begin as a record, of another version */
     AAT_TUPLES = 13, /* the kerx subtable has tuples, and the manual's reading of it is chosen */
+    AAT_ANCHOR = 16, /* the ankr table is longer than AAT_LONGEST_TABLE */
     AAT_OVERLAP = 17, /* two records that a mended table would keep share a glyph */
     AAT_SPACE = 18,  /* what is to be written does not fit where it is lent */
 };
@@ -111,6 +112,7 @@ enum aat_sizes {
     AAT_INSERTION_STATE = 3,
     AAT_EDITS = 7,
     AAT_KERNING_STATE = 11,
+    AAT_ANCHOR_STATE = 4,
 };
 
 /* of a cursor; the version is kern's and kerx's alone */
@@ -136,6 +138,7 @@ enum aat_contextual { AAT_CONTEXTUAL_MARKED = 1, AAT_CONTEXTUAL_MARK = 2, AAT_CO
 enum aat_ligature { AAT_LIGATURE_DEPTH = 1, AAT_LIGATURE_PLACES = 2, AAT_LIGATURE_GLYPHS = 34 }; /* 32 of each */
 enum aat_insertion { AAT_INSERTION_MARK = 1, AAT_INSERTION_CYCLES = 2 };
 enum aat_kerning { AAT_KERNING_DEPTH = 1, AAT_KERNING_CYCLES = 2, AAT_KERNING_PLACES = 3 }; /* 8 of them */
+enum aat_anchor { AAT_ANCHOR_MARK = 1, AAT_ANCHOR_MARK_GLYPH = 2, AAT_ANCHOR_CYCLES = 3 };
 
 /* of what a step hands over to be made */
 enum aat_window { AAT_WINDOW_FIRST = 0, AAT_WINDOW_LAST = 1, AAT_WINDOW_VERB = 2 };
@@ -407,6 +410,28 @@ uint32_t aat_kerx_run_by(const uint8_t *table, size_t table_len, size_t start, u
                          size_t glyphs_len, uint16_t *tags, size_t tags_len, const uint16_t *homes, size_t homes_len,
                          size_t used, int64_t *along, size_t along_len, uint32_t *heads, uint32_t choices);
 
+/* The pass and the run of kerx by choices, with marks that an ankr table anchors: format 4, action type 1, besides formats 0, 1
+   and 2. The other entries leave format 4 out. ankr is a table of its own, from its start on; ankr_len 0 is no ankr table.
+   The adjustment of a place is four numbers, each in a slice as long as the room: along; x and y, the marked glyph's anchor
+   point less the current glyph's, from -65,535 to 65,535; and back, how many places back, in the order of work, the marked one
+   is, which is 0 for none, and for a mark on the glyph itself. Where several are written the last stands; a distance of 255 and
+   more, and a point that is not there, write nothing. Format 4 writes x, y and back, and leaves along; the other formats leave
+   these three. In the manual's reading format 10 of the ankr table's lookup goes by its unit size, too.
+   Answers: those of aat_kerx_pass_by, where format 4 is not AAT_HEAD, and of aat_kerx_run_by; AAT_ANCHOR, behind AAT_TABLE;
+   AAT_LINE also where x_len, y_len or back_len is not glyphs_len.
+   Writes: along, x, y and back, below used; a run sets them to 0 first, and turns them with the line, where a distance stays
+   what it is; heads. A run's along and heads are those of aat_kerx_run_by, whatever ankr holds. */
+uint32_t aat_kerx_pass_anchored(const uint8_t *table, size_t table_len, size_t start, uint16_t version, uint32_t choices,
+                                const uint8_t *ankr, size_t ankr_len, const uint16_t *glyphs, size_t glyphs_len,
+                                const uint16_t *tags, size_t tags_len, const uint16_t *homes, size_t homes_len, size_t used,
+                                int64_t *along, size_t along_len, int32_t *x, size_t x_len, int32_t *y, size_t y_len,
+                                uint16_t *back, size_t back_len);
+uint32_t aat_kerx_run_anchored(const uint8_t *table, size_t table_len, size_t start, uint32_t right_to_left, uint32_t choices,
+                               const uint8_t *ankr, size_t ankr_len, uint16_t *glyphs, size_t glyphs_len, uint16_t *tags,
+                               size_t tags_len, const uint16_t *homes, size_t homes_len, size_t used, int64_t *along,
+                               size_t along_len, int32_t *x, size_t x_len, int32_t *y, size_t y_len, uint16_t *back,
+                               size_t back_len, uint32_t *heads);
+
 /* The list of a kern or kerx table's subtables
 
    A cursor is the byte of the table where the list's next subtable begins, how many subtables its count still gives, and its
@@ -478,6 +503,16 @@ uint32_t aat_kerx_step(uint64_t state[AAT_KERNING_STATE], const uint8_t *table, 
 uint32_t aat_kerx_step_by(uint64_t state[AAT_KERNING_STATE], const uint8_t *table, size_t table_len, size_t start,
                           uint16_t version, size_t used, size_t index, uint16_t glyph, int64_t *along, size_t along_len,
                           size_t *advance, uint32_t choices);
+
+/* Anchored marks by format 4 of kerx, by choices, of which a step looks at AAT_MANUAL_LISTS; it has no end of text. Other
+   answers: AAT_ANCHOR, behind AAT_TABLE; AAT_TUPLES. AAT_LINE is as with aat_kerx_step, and for an x_len, y_len or back_len
+   other than along_len; AAT_STATE is for a marked place above index, and for more than 17 steps that did not advance; AAT_HEAD is
+   for every format but 4. state: the state table's, the marked place, its glyph, and the steps in a row that did not advance.
+   Writes, too: x, y and back at index; where index is used nothing, though state and mark move. along stays as it was. */
+uint32_t aat_anchor_step(uint64_t state[AAT_ANCHOR_STATE], const uint8_t *table, size_t table_len, size_t start,
+                         uint16_t version, uint32_t choices, const uint8_t *ankr, size_t ankr_len, size_t used, size_t index,
+                         uint16_t glyph, int64_t *along, size_t along_len, int32_t *x, size_t x_len, int32_t *y, size_t y_len,
+                         uint16_t *back, size_t back_len, size_t *advance);
 
 #ifdef __cplusplus
 }

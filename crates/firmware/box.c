@@ -68,10 +68,20 @@
                                characters 8
       48 morx_run_with         as 14, then requests              as 14
       49 kerx_step_by          as 26, then choices 4             as 25
+      50 kerx_pass_anchored    as 8, then along, ankr, x, y,     answer 4, glyphs, tags, homes, along, x, y, back
+                               back, version 2, choices 4
+      51 kerx_run_anchored     as 8, then along, ankr, x, y,     as 50, then heads 4
+                               back, heads 4, direction 4,
+                               choices 4
+      52 anchor_step           state 4 x 8, along, ankr, x, y,   answer 4, along, x, y, back, state, advance 8
+                               back, length 8, version 2,
+                               start 8, index 8, glyph 2,
+                               advance 8, choices 4
 
    A name or a buffer is its length 4 and the bytes. Glyphs, tags, homes and new numbers of records are each a count 4 and so many
-   numbers 2, the adjustments along the line a count 4 and so many numbers 8; a reply has the bytes or numbers alone. Requests
-   are a count 4 and so many numbers 4. The record that is read is the table.
+   numbers 2, and so are distances back; the adjustments along the line are a count 4 and so many numbers 8, x and y each a count
+   4 and so many numbers 4; a reply has the bytes or numbers alone. Requests are a count 4 and so many numbers 4. An ankr table is
+   its length 4, then a count 4 and so many bytes, which it begins with; the others are 0. The record that is read is the table.
 
    Replies are sent when the input runs dry. Exit status 0 when it ends between calls, 1 for anything out of this form. */
 
@@ -101,6 +111,13 @@ static size_t used;
 /* The adjustments along a line, as many as a slice has numbers. */
 static int64_t along[AAT_LARGEST_ROOM + 64];
 static size_t along_len;
+
+/* What is lent for anchored marks, and an ankr table longer than is taken. */
+static int32_t x[AAT_LARGEST_ROOM + 64], y[AAT_LARGEST_ROOM + 64];
+static size_t x_len, y_len;
+static struct slice back;
+static uint8_t ankr[AAT_LONGEST_TABLE + 4096];
+static size_t ankr_len, ankr_told; /* all bytes behind those told are 0 */
 
 /* Bytes that an entry may write: longer than a table, so that it can be seen that no length is refused. */
 static uint8_t buffer[AAT_LONGEST_TABLE + 4096];
@@ -187,6 +204,34 @@ static void take_along(void) {
 
 static void put_along(void) {
     for (size_t i = 0; i < along_len; i++) put((uint64_t)along[i], 8);
+}
+
+static size_t take_longs(int32_t *numbers, size_t most) {
+    size_t len = take(4);
+    if (len > most) exit(1);
+    for (size_t i = 0; i < len; i++) numbers[i] = (int32_t)take(4);
+    return len;
+}
+
+static void put_longs(const int32_t *numbers, size_t len) {
+    for (size_t i = 0; i < len; i++) put((uint32_t)numbers[i], 4);
+}
+
+static void take_marks(void) {
+    ankr_len = take(4);
+    if (ankr_len > sizeof ankr) exit(1);
+    size_t told = take_bytes(ankr, ankr_len);
+    for (size_t i = told; i < ankr_told; i++) ankr[i] = 0;
+    ankr_told = told;
+    x_len = take_longs(x, sizeof x / sizeof x[0]);
+    y_len = take_longs(y, sizeof y / sizeof y[0]);
+    take_slice(&back);
+}
+
+static void put_marks(void) {
+    put_longs(x, x_len);
+    put_longs(y, y_len);
+    put_slice(&back);
 }
 
 static void take_line(void) {
@@ -507,6 +552,55 @@ static void kerx_one_by(void) {
                                       choices));
 }
 
+/* What is lent for marks, as an entry's arguments. */
+#define MARKS x, x_len, y, y_len, back.numbers, back.len
+
+static void put_anchored(uint32_t answered) {
+    put_kerning(answered);
+    put_marks();
+}
+
+static void kerx_pass_anchored(void) {
+    take_kerning();
+    take_marks();
+    version = (uint16_t)take(2);
+    uint32_t choices = (uint32_t)take(4);
+    put_anchored(aat_kerx_pass_anchored(table, table_len, start, version, choices, ankr, ankr_len, glyphs.numbers, glyphs.len,
+                                        tags.numbers, tags.len, homes.numbers, homes.len, used, along, along_len, MARKS));
+}
+
+static void kerx_run_anchored(void) {
+    take_kerning();
+    take_marks();
+    uint32_t heads = (uint32_t)take(4);
+    uint32_t right_to_left = (uint32_t)take(4);
+    uint32_t choices = (uint32_t)take(4);
+    put_anchored(aat_kerx_run_anchored(table, table_len, start, right_to_left, choices, ankr, ankr_len, glyphs.numbers,
+                                       glyphs.len, tags.numbers, tags.len, homes.numbers, homes.len, used, along, along_len,
+                                       MARKS, &heads));
+    put(heads, 4);
+}
+
+static void anchor_step(void) {
+    take_numbers(state, 4);
+    take_along();
+    take_marks();
+    used = take(8);
+    version = (uint16_t)take(2);
+    start = take(8);
+    index = take(8);
+    glyph = (uint16_t)take(2);
+    advance = take(8);
+    uint32_t choices = (uint32_t)take(4);
+    put(aat_anchor_step(state, table, table_len, start, version, choices, ankr, ankr_len, used, index, glyph, along, along_len,
+                        MARKS, &advance),
+        4);
+    put_along();
+    put_marks();
+    put_numbers(state, 4);
+    put(advance, 8);
+}
+
 typedef uint32_t start_of_list(const uint8_t *, size_t, size_t, uint64_t *);
 
 /* The cursor at a list, of so many numbers. */
@@ -622,6 +716,9 @@ static void answer(uint8_t call) {
     case 47: read_line(); break;
     case 48: morx_run_with(); break;
     case 49: kerx_one_by(); break;
+    case 50: kerx_pass_anchored(); break;
+    case 51: kerx_run_anchored(); break;
+    case 52: anchor_step(); break;
     default: exit(1);
     }
 }

@@ -1,6 +1,6 @@
 /* Shapes a line and kerns it: the glyphs 3, 5 and 6 by a morx table, then by a kern table, which sets a 9 closer to the 7 before it.
    Stores the shaped line as a record, and reads it back. Then puts glyphs behind the 3 by an insertion subtable, once by single
-   steps and once by the pass, which leave the same line.
+   steps and once by the pass, which leave the same line. Last it mends a lookup table, and anchors a mark by a kerx and an ankr table.
 
    The tables lie in one block, as in a font file, and each entry is told where its table begins. */
 
@@ -10,7 +10,8 @@
 
 #include "aat.h"
 
-enum { ROOM = 16, CHARACTERS = 3, MORX = 4, KERN = 52, INSERTION = 76, LONGEST_RECORD = 9 + 4 * ROOM + 2 * CHARACTERS };
+enum { ROOM = 16, CHARACTERS = 3, LONGEST_RECORD = 9 + 4 * ROOM + 2 * CHARACTERS };
+enum { MORX = 4, KERN = 52, INSERTION = 76, KERX = 146, ANKR = 230 };
 
 static const uint8_t font[] = {
     0x00, 0x00, 0x00, 0x00,
@@ -35,6 +36,24 @@ static const uint8_t font[] = {
     0x00, 0x00, 0x00, 0x00, 0xFF, 0xFF, 0xFF, 0xFF,
     0x00, 0x00, 0x00, 0x40, 0x00, 0x00, 0xFF, 0xFF,
     0x00, 0x1E, 0x00, 0x1F,
+    /* KERX: version 2, one subtable of 76 bytes in format 4; 6 classes, where its class table, states and entries begin, and action
+       type 1 with where its records begin */
+    0x00, 0x02, 0x00, 0x00, 0x00, 0x00, 0x00, 0x01,
+    0x00, 0x00, 0x00, 0x4C, 0x00, 0x00, 0x00, 0x04, 0x00, 0x00, 0x00, 0x00,
+    0x00, 0x00, 0x00, 0x06, 0x00, 0x00, 0x00, 0x14, 0x00, 0x00, 0x00, 0x1E, 0x00, 0x00, 0x00, 0x2A, 0x40, 0x00, 0x00, 0x3C,
+    /* the glyph 5 has class 4, whose entry 1 sets the mark, and 6 has class 5, whose entry 2 has the record with index 0 */
+    0x00, 0x08, 0x00, 0x05, 0x00, 0x02, 0x00, 0x04, 0x00, 0x05,
+    0x00, 0x00, 0x00, 0x00, 0x00, 0x00, 0x00, 0x00, 0x00, 0x01, 0x00, 0x02,
+    0x00, 0x00, 0x00, 0x00, 0xFF, 0xFF,
+    0x00, 0x00, 0x80, 0x00, 0xFF, 0xFF,
+    0x00, 0x00, 0x00, 0x00, 0x00, 0x00,
+    /* that record: point 0 of the marked glyph, point 1 of the current one */
+    0x00, 0x00, 0x00, 0x01,
+    /* ANKR: where its lookup begins, and where the points do; then 5 has the point (100, 200), and 6 has (0, 0) and (-5, 300) */
+    0x00, 0x00, 0x00, 0x00, 0x00, 0x00, 0x00, 0x0C, 0x00, 0x00, 0x00, 0x16,
+    0x00, 0x08, 0x00, 0x05, 0x00, 0x02, 0x00, 0x00, 0x00, 0x08,
+    0x00, 0x00, 0x00, 0x01, 0x00, 0x64, 0x00, 0xC8,
+    0x00, 0x00, 0x00, 0x02, 0x00, 0x00, 0x00, 0x00, 0xFF, 0xFB, 0x01, 0x2C,
 };
 
 struct line {
@@ -135,6 +154,24 @@ static void mend_lookup(void)
         printf(" record %u is now %u%s", (unsigned)record, numbers[record], record == 0 ? "," : "\n");
 }
 
+/* The glyphs 5 and 6, of which the second is a mark that the tables anchor to the first. */
+static void anchor_mark(void)
+{
+    struct line line = {{5, 6}, {0}, {0}, 0};
+    int64_t along[ROOM];
+    int32_t x[ROOM], y[ROOM];
+    uint16_t back[ROOM];
+    uint32_t heads = 0;
+    size_t place;
+
+    expect_done(aat_fresh(line.glyphs, ROOM, line.tags, ROOM, line.homes, 2, &line.used), "fresh line");
+    expect_done(aat_kerx_run_anchored(font, sizeof font, KERX, 0, 0, font + ANKR, sizeof font - ANKR, line.glyphs, ROOM, line.tags, ROOM,
+                                      line.homes, 2, line.used, along, ROOM, x, ROOM, y, ROOM, back, ROOM, &heads),
+                "kerx");
+    for (place = 0; place < line.used; place++)
+        printf("glyph %u is anchored %u back, at %d, %d\n", line.glyphs[place], back[place], (int)x[place], (int)y[place]);
+}
+
 int main(void)
 {
     struct line line = {{3, 5, 6}, {0}, {0}, 0};
@@ -162,5 +199,6 @@ int main(void)
     store_and_read(&line);
     insert_both_ways();
     mend_lookup();
+    anchor_mark();
     return EXIT_SUCCESS;
 }

@@ -1,6 +1,7 @@
 //! The calls of both sides, for their times.
 
 use crate::bench::timing::Worked;
+use crate::reference::anchored::Anchored;
 use crate::reference::kerning::Kerned;
 use crate::reference::line::Line;
 use crate::tables::random::Random;
@@ -45,6 +46,19 @@ impl Worked for Kerned {
     }
 }
 
+impl Worked for Anchored {
+    fn places(&self) -> usize {
+        self.kerned.places()
+    }
+
+    fn glance(&self) -> u64 {
+        let mark =
+            |place: usize| [self.marks.x[place] as u64, self.marks.y[place] as u64, self.marks.back[place].into()];
+        let add = |seen: u64, number: u64| seen.wrapping_mul(31).wrapping_add(number);
+        some_places(&self.kerned.line).into_iter().flat_map(mark).fold(self.kerned.glance(), add)
+    }
+}
+
 /// The tables that a line is shaped and kerned by; kerx's begins behind a few bytes, as the crate takes none at 0.
 pub struct Tables {
     pub morx: Vec<u8>,
@@ -53,7 +67,8 @@ pub struct Tables {
 
 /// The proved entries.
 pub mod ours {
-    use super::{Kerned, Line, Tables};
+    use super::{Anchored, Kerned, Line, Tables};
+    use crate::reference::anchored::Marks;
     use crate::reference::kerning::{Kerning, ALONE_AT};
     use crate::reference::kerning_choices::JOINED_PAIRS;
     use crate::wire::entries::Entry;
@@ -160,6 +175,10 @@ pub mod ours {
         aat_kerx_pass(u16; usize, *mut i64, usize);
         aat_kern_pass_by(u16; usize, *mut i64, usize, u32);
         aat_kerx_pass_by(u16; usize, *mut i64, usize, u32);
+        aat_kerx_pass_anchored(
+            u16, u32, *const u8, usize;
+            usize, *mut i64, usize, *mut i32, usize, *mut i32, usize, *mut u16, usize
+        );
         aat_kern_run(; usize, *mut i64, usize, *mut u32);
         aat_kerx_run(u32; usize, *mut i64, usize, *mut u32);
     }
@@ -309,6 +328,23 @@ pub mod ours {
         }
     }
 
+    /// The pass of marks by the subtable that the table begins with.
+    #[inline(always)]
+    pub fn anchored_pass(version: u16, anchored: &mut Anchored, table: &[u8], ankr: &[u8]) {
+        let Anchored { kerned: Kerned { line, along }, marks: Marks { x, y, back } } = anchored;
+        let (length, room, along) = (line.length(), along.len(), along.as_mut_ptr());
+        let (x, y, back, points, count) =
+            (x.as_mut_ptr(), y.as_mut_ptr(), back.as_mut_ptr(), ankr.as_ptr(), ankr.len());
+        call!(
+            aat_kerx_pass_anchored,
+            table,
+            0,
+            [version, 0, points, count],
+            line,
+            [length, along, room, x, room, y, room, back, room]
+        );
+    }
+
     /// A run of the kern or kerx table that begins at a start, from left to right.
     #[inline(always)]
     pub fn kerning_run(kerning: Kerning, kerned: &mut Kerned, table: &[u8], start: usize) {
@@ -335,8 +371,8 @@ pub mod ours {
 
 /// The crate, each call a call as ours are, so that no part of it leaves the loop.
 pub mod theirs {
-    use super::{Kerned, Line, Tables};
-    use crate::reference::kerning::{Kerning, Subtable, ALONE_AT};
+    use super::{Anchored, Kerned, Line, Tables};
+    use crate::reference::kerning::{make_steps, Kerning, Subtable, ALONE_AT};
     use crate::reference::kerning_choices::add_joined_pairs;
     use crate::reference::oracle::aat::{self, kern, kerx, morx, ExtendedStateTable, StateTable};
     use crate::reference::oracle::Bytes;
@@ -429,6 +465,26 @@ pub mod theirs {
         let subtable = Subtable::first(kerning, table).expect("a subtable");
         let (glyphs, along) = kerned.used();
         add_joined_pairs(&subtable, glyphs, along);
+    }
+
+    /// The pass of marks by the subtable of a table of one, behind which the ankr table lies.
+    #[inline(never)]
+    pub fn anchored_pass(anchored: &mut Anchored, font: &[u8], ankr: usize) {
+        let subtable = kerx::subtables(font, ALONE_AT as u32, ankr as u32).next().and_then(|subtable| subtable.kind());
+        let machine = match subtable {
+            Some(kerx::SubtableKind::Format4(machine)) => machine,
+            _ => panic!("no marks"),
+        };
+        let Anchored { kerned, marks } = anchored;
+        let (glyphs, _) = kerned.used();
+        let mut state = kerx::Format4State::new();
+        let answer = make_steps(glyphs, |place, glyph| {
+            machine.next(&mut state, place, glyph, |place, distance, x, y| {
+                marks.write(glyphs.len(), place, (x as i32, y as i32, distance as u16));
+                Some(())
+            })
+        });
+        assert_eq!(answer.number(), 0, "a pass of marks over a line");
     }
 
     /// A run of the kern or kerx table that begins at a start, from left to right.

@@ -3,8 +3,10 @@
 use crate::bench::sides::{ours, theirs};
 use crate::bench::timing::Subject;
 use crate::bench::{calls_on, grouped, LENGTHS};
+use crate::reference::anchored::{Anchored, Marks};
 use crate::reference::kerning::{Kerned, Kerning, ALONE_AT};
 use crate::reference::line::{Line, DELETED, LARGEST_ROOM};
+use crate::tables::anchored::{act, ankr, one_state, Act, Point, BY_POINTS, MARK};
 use crate::tables::kerning::{classes, Edition, Entry, Pair, Parts, NONE, PUSH, RESET};
 use crate::tables::lookup::with_values;
 use crate::tables::random::Random;
@@ -36,7 +38,41 @@ pub fn subjects(random: &mut Random) -> Vec<Subject> {
         }
     }
     subjects.extend(joined_passes(&mut Random::new(2)));
+    subjects.extend(anchored_passes(&mut Random::new(3)));
     subjects
+}
+
+/// Passes of marks over lines of every length, by points that are found at once and by such that are searched.
+fn anchored_passes(random: &mut Random) -> Vec<Subject> {
+    let mut subjects = Vec::new();
+    for format in [8, 6] {
+        let (subtable, points) = marks(random, format);
+        for length in LENGTHS {
+            let name = format!("kerx pass, anchored marks, points by format {}, {} places", format, grouped(length));
+            subjects.push(anchored_pass(random, name, &subtable, &points, length));
+        }
+    }
+    subjects
+}
+
+/// Of the glyphs one of four is marked, and two others are written, by one point or another; each glyph has two.
+fn marks(random: &mut Random, format: u16) -> (Vec<u8>, Vec<u8>) {
+    let kinds = [act(MARK, NONE), act(0, NONE), act(0, 0), act(0, 1)];
+    let acts: Vec<Act> = (0..GLYPHS).map(|_| random.among(&kinds)).collect();
+    let mut any_point = || -> Point { (random.below(2_000) as i16 - 1_000, random.below(2_000) as i16 - 1_000) };
+    let points: Vec<Vec<Point>> = (0..GLYPHS).map(|_| vec![any_point(), any_point()]).collect();
+    (KERX.subtable(KERX.plain(), 4, &one_state(BY_POINTS, 0, &acts, 2)), ankr(format, 0, &points))
+}
+
+fn anchored_pass(random: &mut Random, name: String, subtable: &[u8], points: &[u8], length: usize) -> Subject {
+    let Edition { kerning, version, .. } = KERX;
+    let their_table = kerning.alone(version, subtable);
+    let (behind, font) = (their_table.len(), [&their_table, points].concat());
+    let (our_table, ankr) = (subtable.to_vec(), points.to_vec());
+    let ours = move |anchored: &mut Anchored| ours::anchored_pass(version, anchored, &our_table, &ankr);
+    let theirs = move |anchored: &mut Anchored| theirs::anchored_pass(anchored, &font, behind);
+    let line = Anchored { kerned: any_kerned(random, length), marks: Marks::none(length) };
+    Subject::of_work(name, calls_on(length), line, false, ours, theirs)
 }
 
 /// Passes by joined pairs over lines that fill the largest room, none of their glyphs deleted, and all but the first and the last.

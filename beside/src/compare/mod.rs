@@ -15,13 +15,14 @@ use crate::compare::entries_sample::EntriesSample;
 use crate::compare::limit::Limited;
 use crate::compare::progress::Progress;
 use crate::compare::sample::Sample;
-use crate::questions::{kerning_choices, lookup, not_asked_for, reasons, Ask, PARTS};
+use crate::questions::{anchored_calls, kerning_choices, lookup, not_asked_for, reasons, Ask, PARTS};
 use crate::reference::oracle;
 use crate::tables::random::Random;
 use crate::wire::pipe::TheBox;
 use std::process::ExitCode;
 
-const USAGE: &str = "usage: beside compare|trace CASES SEED SECONDS BOX-COMMAND.. | beside shape CASES SEED SECONDS \
+const USAGE: &str =
+    "usage: beside compare|trace PART CASES SEED SECONDS BOX-COMMAND.. | beside shape CASES SEED SECONDS \
                      PROGRAM-COMMAND.. | beside sample FILE | beside entries FILE";
 
 /// The program of `beside/run`.
@@ -29,10 +30,15 @@ pub fn main() -> ExitCode {
     oracle::quiet_crate();
     let words: Vec<String> = std::env::args().skip(1).collect();
     match words.iter().map(String::as_str).collect::<Vec<_>>()[..] {
-        [mode @ ("compare" | "trace" | "shape"), cases, seed, seconds, _, ..] => {
+        ["shape", cases, seed, seconds, _, ..] => match (cases.parse(), seed.parse(), seconds.parse()) {
+            (Ok(cases), Ok(seed), Ok(seconds)) => shape(cases, seed, seconds, &words[4..]),
+            _ => failed(USAGE),
+        },
+        [mode @ ("compare" | "trace"), part, cases, seed, seconds, _, ..] => {
             match (cases.parse(), seed.parse(), seconds.parse()) {
-                (Ok(cases), Ok(seed), Ok(seconds)) if mode == "shape" => shape(cases, seed, seconds, &words[4..]),
-                (Ok(cases), Ok(seed), Ok(seconds)) => compare(mode == "trace", cases, seed, seconds, &words[4..]),
+                (Ok(cases), Ok(seed), Ok(seconds)) => {
+                    compare(mode == "trace", part, &Amount { cases, seed, seconds }, &words[5..])
+                }
                 _ => failed(USAGE),
             }
         }
@@ -42,34 +48,44 @@ pub fn main() -> ExitCode {
     }
 }
 
-/// Every question of every part, with so many random cases, and fewer where they take longer; how many were left out when a
-/// part's seconds were over.
-fn ask_all(asked: &mut dyn Ask, cases: u64, seed: u64, seconds: u64) -> u64 {
-    let random = &mut Random::new(seed);
-    let asked = &mut Limited::new(asked, seconds);
-    for part in PARTS {
-        part.ask(asked.part(), random, cases / part.every());
+/// How much is asked: so many random cases of this seed, and fewer where they take longer, in at most so many seconds for a part, 0 for
+/// as many as it takes.
+struct Amount {
+    cases: u64,
+    seed: u64,
+    seconds: u64,
+}
+
+/// Every question of the parts of this name, or of all for no name; how many were left out when a part's seconds were over.
+fn ask_all(asked: &mut dyn Ask, name: &str, amount: &Amount) -> u64 {
+    let random = &mut Random::new(amount.seed);
+    let asked = &mut Limited::new(asked, amount.seconds);
+    for part in PARTS.iter().filter(|part| name.is_empty() || part.name() == name) {
+        part.ask(asked.part(), random, amount.cases / part.every());
     }
     asked.left_out
 }
 
 /// Compares the box with the crate; where it `traces`, shows the steps of cases that differ.
-fn compare(traces: bool, cases: u64, seed: u64, seconds: u64, command: &[String]) -> ExitCode {
+fn compare(traces: bool, part: &str, amount: &Amount, command: &[String]) -> ExitCode {
     let unknown = not_asked_for();
     if !unknown.is_empty() {
         return failed(format!("aat.h declares what nobody asks for: {}", unknown.join(", ")));
     }
     let mut count = Count::default();
-    ask_all(&mut count, cases, seed, 0);
+    ask_all(&mut count, part, &Amount { seconds: 0, ..*amount });
+    if count.0 == 0 {
+        return failed(format!("there is no part {}", part));
+    }
     let the_box = match TheBox::start(command) {
         Ok(the_box) => the_box,
         Err(error) => return failed(error),
     };
     let mut comparison = Comparison::new(the_box, Progress::new(count.0), traces);
-    let left_out = ask_all(&mut comparison, cases, seed, seconds);
+    let left_out = ask_all(&mut comparison, part, amount);
     let totals = comparison.finish();
     if left_out > 0 {
-        println!("{} cases were left out when their part's {} seconds were over", left_out, seconds);
+        println!("{} cases were left out when their part's {} seconds were over", left_out, amount.seconds);
     }
     if totals.panics > 0 {
         println!("the crate panicked in {} cases", totals.panics);
@@ -80,8 +96,9 @@ fn compare(traces: bool, cases: u64, seed: u64, seconds: u64, command: &[String]
         "panics taken for None: {} in check_range, {} at action 65,535, {} at class count 0",
         checks, actions, classes
     );
-    reasons::counted().iter().chain(&kerning_choices::counted()).for_each(|line| println!("{}", line));
-    println!("{} cases, {} differences (seed {})", totals.cases, totals.differences, seed);
+    let counted = [reasons::counted(), kerning_choices::counted(), anchored_calls::counted()];
+    counted.concat().iter().for_each(|line| println!("{}", line));
+    println!("{} cases, {} differences (seed {})", totals.cases, totals.differences, amount.seed);
     ExitCode::from(u8::from(totals.differences > 0))
 }
 
@@ -112,7 +129,7 @@ const SAMPLED_CASES: u64 = 20_000;
 
 fn sample_entries(file: &str) -> ExitCode {
     let mut sample = EntriesSample::new(Random::new(SAMPLE_SEED));
-    ask_all(&mut sample, SAMPLED_CASES, SAMPLE_SEED, 0);
+    ask_all(&mut sample, "", &Amount { cases: SAMPLED_CASES, seed: SAMPLE_SEED, seconds: 0 });
     let (bytes, cases) = sample.finish();
     write_sample(file, &bytes, cases as u64)
 }

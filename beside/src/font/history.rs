@@ -2,9 +2,12 @@
 
 use crate::font::met::{Rows, Subtable};
 use crate::font::show::{more, Look};
+use crate::reference::anchored::{Mark, Marks};
+use crate::reference::anchored_by_copy as anchored;
 use crate::reference::kerning::{self, Kerned};
 use crate::reference::kerning_by_copy::{machines, Machine};
 use crate::reference::line::Line;
+use crate::reference::opened::aat::kerx::Format4;
 use crate::reference::opened::aat::morx::{
     ContextualState, InsertionState, LigatureState, RearrangementState, SubtableKind,
 };
@@ -14,7 +17,7 @@ use crate::reference::run::{Run, Visit};
 use crate::reference::steps_by_copy::verb_of;
 use crate::reference::{kerning_run, line};
 
-/// An edit of a line, the glyph that a write puts over another, or the number that kerning adds.
+/// An edit of a line, the glyph that a write puts over another, the number that kerning adds, or a mark that is anchored.
 enum Edit {
     Window { first: usize, last: usize, verb: u16 },
     Reversal,
@@ -22,6 +25,7 @@ enum Edit {
     Ligature { place: usize, glyph: u16, components: Vec<usize> },
     Write { place: usize, before: u16, glyph: u16 },
     Addition { place: usize, number: i64 },
+    Mark { place: usize, mark: Mark },
 }
 
 impl Edit {
@@ -43,6 +47,7 @@ impl Edit {
                 format!("write at {}: {} over {}", place, named(&[*glyph]), named(&[*before]))
             }
             Edit::Addition { place, number } => format!("addition at {}: {}", place, number),
+            Edit::Mark { place, mark: (x, y, back) } => format!("mark at {}: {} {}, {} back", place, x, y, back),
         }
     }
 }
@@ -257,14 +262,28 @@ fn pass(subtable: &SubtableKind, line: &mut Line, at: &mut usize, see: &mut dyn 
 }
 
 /// Tells the run of a kern or kerx table.
-pub fn tell_kerning(run: &kerning_run::Run, lent: &mut Kerned, look: &Look, rows: &Rows) -> Result<(), Fault> {
+pub fn tell_kerning(
+    run: &kerning_run::Run,
+    ankr: &[u8],
+    lent: &mut Kerned,
+    look: &Look,
+    rows: &Rows,
+) -> Result<(), Fault> {
     let mut teller = Teller { look, rows, told: 0 };
     let mut fault = None;
     let mut copies = machines(run.kerning, run.table, run.start as u32);
+    let is_marked = run.kerning == kerning::Kerning::Kerx && !ankr.is_empty();
+    let mut anchors = is_marked.then(|| anchored::machines(run.table, run.start as u32, ankr));
     let mut number = 0;
     let show = &mut |visit: &kerning_run::Visit, lent: &Kerned| {
         let subtable = Subtable::of_list(run.kerning.name(), number);
-        match tell_kerning_visit(subtable, visit, copies.next().flatten(), lent) {
+        let machine = copies.next().flatten();
+        let anchor = anchors.as_mut().and_then(|anchors| anchors.next().flatten());
+        let told = match anchor {
+            Some(anchor) if visit.passed_over.is_none() => tell_marks(subtable, visit, &anchor, lent),
+            _ => tell_kerning_visit(subtable, visit, machine, lent),
+        };
+        match told {
             Ok(told) => teller.tell(&told),
             Err(other) => fault = Some(other),
         }
@@ -309,6 +328,35 @@ fn tell_kerning_visit(
         }
     }
     Ok(told)
+}
+
+/// What each step of a machine of format 4 writes.
+fn tell_marks(subtable: Subtable, visit: &kerning_run::Visit, machine: &Format4, lent: &Kerned) -> Result<Told, Fault> {
+    let turned = if visit.is_turned { ", turned" } else { "" };
+    let mut told = Told { subtable, about: format!("anchored marks: chosen{}", turned), edits: Vec::new(), end: None };
+    let mut lent = lent.clone();
+    if visit.is_turned {
+        lent.reverse();
+        told.edits.push((0, Edit::Reversal));
+    }
+    let (glyphs, _) = lent.used();
+    let (mut state, mut at) = ([0; 4], 0);
+    let mut fault = None;
+    let answer = kerning::make_steps(glyphs, |place, glyph| {
+        // Whatever it is now, a mark that is written can be told from it.
+        let mut marks = Marks { back: vec![u16::MAX; glyphs.len()], ..Marks::none(glyphs.len()) };
+        at = place;
+        let answer = anchored::step(machine, &mut state, place, glyph, glyphs.len(), &mut marks);
+        if marks.back[place] != u16::MAX {
+            told.edits.push((place, Edit::Mark { place, mark: marks.of_places(glyphs.len())[place] }));
+        }
+        answer.map_err(|other| fault = Some(other)).ok()?.done()
+    });
+    if visit.is_turned {
+        told.edits.push((0, Edit::Reversal));
+    }
+    told.end = end(answer, at, glyphs.len());
+    fault.map_or(Ok(told), Err)
 }
 
 /// What each step of a machine adds.

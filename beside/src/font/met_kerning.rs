@@ -3,6 +3,8 @@
 use crate::font::kerning_heads::{subtables, Listed};
 use crate::font::met::{self, Entry, Met, Spot, DELETED, MOST_CYCLES, NONE};
 use crate::font::sfnt::{long, word};
+use crate::reference::anchored::Marks;
+use crate::reference::anchored_by_copy as anchored;
 use crate::reference::kerning::{make_steps, Kerned, Kerning, Subtable};
 use crate::reference::kerning_by_copy::{open, DEEPEST, STATE};
 use crate::reference::kerning_run::Run;
@@ -14,14 +16,15 @@ struct Watched<'a> {
     kerning: Kerning,
     start: usize,
     right_to_left: bool,
+    ankr: &'a [u8],
     glyphs: &'a [u16],
 }
 
-/// Watches the run on a line.
-pub fn watch(met: &mut Met, run: &Run, line: &Line) {
+/// Watches the run on a line, with an ankr table where that is not empty.
+pub fn watch(met: &mut Met, run: &Run, ankr: &[u8], line: &Line) {
     let Run { kerning, start, right_to_left, .. } = *run;
     let glyphs = &line.glyphs[..line.length()];
-    Watched { kerning, start: start as usize, right_to_left, glyphs }.watch(met);
+    Watched { kerning, start: start as usize, right_to_left, ankr, glyphs }.watch(met);
     // A fault is shown where the sides are compared.
     let mut lent = Kerned { line: line.clone(), along: vec![0; line.glyphs.len()] };
     let made = run.make(&mut lent);
@@ -29,8 +32,12 @@ pub fn watch(met: &mut Met, run: &Run, line: &Line) {
     met.row(50, matches!(made, Ok((Answer::Limit, _))));
 }
 
+/// The flag of entries that push, and of those that mark.
 const PUSH: u16 = 0x8000;
 const RESET: u16 = 0x2000;
+
+/// The format of anchored marks.
+const ANCHORS: u32 = 4;
 
 impl Watched<'_> {
     /// Watches each subtable.
@@ -61,6 +68,9 @@ impl Watched<'_> {
             glyphs.reverse();
         }
         let is_kern = self.kerning == Kerning::Kern;
+        if !is_kern && subtable.format == ANCHORS && !self.ankr.is_empty() {
+            return self.watch_marks(met, subtable, &alone, &glyphs);
+        }
         met.row(47, if is_kern { matches!(subtable.format, 2 | 3) } else { subtable.format == 6 });
         match Subtable::alone(self.kerning, &alone) {
             Ok(Some(Subtable::KernMachine(_) | Subtable::KerxMachine(_))) => {
@@ -106,6 +116,64 @@ impl Watched<'_> {
             met.spot.place = Some(glyphs.len());
             self.watch_end(met, subtable, &state);
         }
+    }
+
+    /// Watches a machine of format 4.
+    fn watch_marks(&self, met: &mut Met, subtable: &Listed, alone: &[u8], glyphs: &[u16]) {
+        let machine = match anchored::open(alone, self.ankr) {
+            Some(machine) => machine,
+            None => return,
+        };
+        let (mut state, mut is_marked) = ([0; 4], false);
+        let mut marks = Marks::none(glyphs.len());
+        make_steps(glyphs, |place, glyph| {
+            met.spot.place = Some(place);
+            self.watch_mark(met, subtable, &state, glyph, &mut is_marked);
+            anchored::step(&machine, &mut state, place, glyph, glyphs.len(), &mut marks).ok()?.done()
+        });
+    }
+
+    fn watch_mark(
+        &self,
+        met: &mut Met,
+        subtable: &Listed,
+        state: &[u64; 4],
+        glyph: u16,
+        is_marked: &mut bool,
+    ) -> Option<()> {
+        let class = met.class(subtable.body, glyph)?;
+        let entry = met.entry(subtable.body, 2, state[0] as u16, class)?;
+        let marks = entry.flags & PUSH != 0;
+        met.row(15, entry.stays() && state[3] == MOST_CYCLES);
+        let index = word(met.table, entry.payload)?;
+        let flags = long(met.table, subtable.body + 16)?;
+        if index != NONE {
+            met.row(58, matches!(flags >> 30, 0 | 2));
+        }
+        if index != NONE && flags >> 30 == 1 {
+            met.row(55, index != 0);
+            met.row(56, marks);
+            met.row(57, !marks && !*is_marked);
+            let record = subtable.body + (flags & 0xFF_FFFF) as usize + 2 * usize::from(index);
+            let of_marked = if marks { glyph } else { state[2] as u16 };
+            for (at, glyph) in [(record, of_marked), (record + 2, glyph)] {
+                let point = word(met.table, at);
+                self.watch_point(met, glyph, point);
+            }
+        }
+        *is_marked |= marks;
+        Some(())
+    }
+
+    /// Watches the lookup of a glyph's points, and whether it has one of this number.
+    fn watch_point(&self, met: &mut Met, glyph: u16, point: Option<u16>) -> Option<()> {
+        let mut of_ankr = Met::new(self.ankr, None);
+        let found = of_ankr.lookup(long(self.ankr, 4)? as usize, glyph);
+        of_ankr.rows.into_keys().for_each(|row| met.row(row, true));
+        let at = long(self.ankr, 8)? as usize + usize::from(found?);
+        let (count, point) = (long(self.ankr, at)?, u32::from(point?));
+        met.row(54, point >= count && long(self.ankr, at + 4 + 4 * point as usize).is_some());
+        Some(())
     }
 
     fn entry(&self, met: &mut Met, subtable: &Listed, state: u64, class: u16) -> Option<Entry> {
@@ -224,5 +292,7 @@ fn is_class_array_empty(table: &[u8], body: usize) -> Option<bool> {
 }
 
 /// The rows that are looked at in these runs, with those of their lookups and state tables.
-pub const ROWS: [u32; 30] =
-    [1, 2, 3, 4, 5, 6, 7, 8, 9, 15, 25, 26, 27, 28, 29, 30, 31, 32, 33, 34, 35, 36, 37, 43, 44, 47, 48, 50, 52, 53];
+pub const ROWS: [u32; 35] = [
+    1, 2, 3, 4, 5, 6, 7, 8, 9, 15, 25, 26, 27, 28, 29, 30, 31, 32, 33, 34, 35, 36, 37, 43, 44, 47, 48, 50, 52, 53, 54,
+    55, 56, 57, 58,
+];

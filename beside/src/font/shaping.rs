@@ -5,6 +5,8 @@ use crate::font::met::{Met, Rows, Spot};
 use crate::font::sfnt::Font;
 use crate::font::show::Look;
 use crate::font::{met_kerning, met_language, met_morx};
+use crate::reference::anchored::{self, Anchored, Marks};
+use crate::reference::anchored_by_copy;
 use crate::reference::kerning::{Kerned, Kerning, ALONE_AT};
 use crate::reference::kerning_choices::Choices;
 use crate::reference::kerx_readings::{self, Reading};
@@ -27,6 +29,8 @@ pub struct Tables {
     kerx: Option<Vec<u8>>,
     kern: Option<Vec<u8>>,
     ltag: Option<Vec<u8>>,
+    /// The points that marks of kerx are anchored by; empty where there are none.
+    ankr: Vec<u8>,
     /// The features that runs of morx are asked for.
     pub requests: Vec<u32>,
 }
@@ -41,6 +45,8 @@ pub struct Shaped {
     pub runs: Vec<(&'static str, u32, u32)>,
     /// The adjustments by each table of kerning.
     pub along: Vec<(&'static str, Vec<i64>)>,
+    /// The marks by kerx, where the font has points to anchor them by.
+    pub marks: Option<Marks>,
 }
 
 /// The answers by their numbers.
@@ -48,6 +54,11 @@ pub const ANSWERS: [&str; 11] =
     ["DONE", "NOTHING", "TABLE", "LINE", "PLACE", "STATE", "HEAD", "FULL", "ENDED", "LIMIT", "REQUEST"];
 
 impl Shaped {
+    /// A line that nothing was done to.
+    fn of(line: Line) -> Self {
+        Shaped { line, runs: Vec::new(), along: Vec::new(), marks: None }
+    }
+
     /// The characters that belong to a tag.
     pub fn characters(&self, tag: u16) -> impl Iterator<Item = usize> + '_ {
         self.line.homes.iter().enumerate().filter(move |home| *home.1 == tag).map(|home| home.0)
@@ -68,7 +79,9 @@ impl Tables {
         if [&morx, &kerx, &kern, &ltag].iter().all(|table| table.is_none()) {
             return Err("it has none of the tables morx, kerx, kern and ltag".into());
         }
-        Ok(Tables { glyphs: font.glyphs(), morx, kerx, kern, ltag, requests: Vec::new() })
+        // It is lent as a slice of its own.
+        let ankr = table(b"ankr")?.map_or(Vec::new(), |table| table[ALONE_AT..].to_vec());
+        Ok(Tables { glyphs: font.glyphs(), morx, kerx, kern, ltag, ankr, requests: Vec::new() })
     }
 
     fn all(&self) -> [(&'static str, &Option<Vec<u8>>); 4] {
@@ -85,7 +98,11 @@ impl Tables {
         let size = |table: &Option<Vec<u8>>| {
             table.as_ref().map_or("none".into(), |table| format!("{} bytes", table.len() - ALONE_AT))
         };
-        let sizes: Vec<String> = self.all().iter().map(|(name, table)| format!("{} {}", name, size(table))).collect();
+        let mut sizes: Vec<String> =
+            self.all().iter().map(|(name, table)| format!("{} {}", name, size(table))).collect();
+        if !self.ankr.is_empty() {
+            sizes.push(format!("ankr {} bytes", self.ankr.len()));
+        }
         let glyphs = self.glyphs.map_or("no glyph count".into(), |count| format!("{} glyphs", count));
         format!("{}; {}", glyphs, sizes.join(", "))
     }
@@ -104,7 +121,7 @@ impl Tables {
 
     /// The line by the crate: first morx, then each table of kerning on what it left; kerx in the manual's reading by its model.
     pub fn by_crate(&self, glyphs: &[u16], right_to_left: bool, choices: Choices) -> Result<Shaped, Fault> {
-        let mut shaped = Shaped { line: lent_line(glyphs), runs: Vec::new(), along: Vec::new() };
+        let mut shaped = Shaped::of(lent_line(glyphs));
         if let Some(table) = &self.morx {
             let run = run::Run { table, start: START, right_to_left, requests: &self.requests };
             let (answer, heads) = match run.refusal(&shaped.line) {
@@ -114,8 +131,12 @@ impl Tables {
             shaped.runs.push(("morx", answer.number(), heads));
         }
         for (kerning, table) in self.kernings() {
-            let mut lent = unkerned(&shaped.line);
             let run = kerning_run::Run { kerning, table, start: START, right_to_left, choices };
+            if self.anchors_marks(kerning) {
+                self.mark_by_crate(&run, &mut shaped)?;
+                continue;
+            }
+            let mut lent = unkerned(&shaped.line);
             let (answer, heads) = match (run.refusal(&lent), choices.reading(kerning)) {
                 (Some(refusal), _) => (refusal, 0),
                 (None, Reading::Crate) => run.make(&mut lent)?,
@@ -127,7 +148,49 @@ impl Tables {
         Ok(shaped)
     }
 
+    /// Whether the font has points that marks are anchored by.
+    pub fn has_points(&self) -> bool {
+        !self.ankr.is_empty()
+    }
+
+    /// Whether marks of this table are anchored by points that the font has.
+    fn anchors_marks(&self, kerning: Kerning) -> bool {
+        kerning == Kerning::Kerx && self.has_points()
+    }
+
+    fn mark_by_crate(&self, run: &kerning_run::Run, shaped: &mut Shaped) -> Result<(), Fault> {
+        let kerning_run::Run { table, start, right_to_left, choices, .. } = *run;
+        let mut lent = unmarked(&shaped.line);
+        let (answer, heads) = match (lent.refuses_run(table, &self.ankr, start), choices.reading(Kerning::Kerx)) {
+            (Some(refusal), _) => (refusal, 0),
+            (None, Reading::Crate) => anchored_by_copy::run(run, &self.ankr, &mut lent)?,
+            (None, reading) => anchored::run(reading, table, start, right_to_left, choices, &self.ankr, &mut lent),
+        };
+        shaped.runs.push(("kerx", answer.number(), heads));
+        shaped.along.push(("kerx", lent.kerned.along));
+        shaped.marks = Some(lent.marks);
+        Ok(())
+    }
+
     /// The same by the box.
+    fn mark_by_box(&self, run: &kerning_run::Run, shaped: &mut Shaped, the_box: &mut TheBox) -> io::Result<()> {
+        let lent = unmarked(&shaped.line);
+        let mut call = call_of(run.table, Entry::KerxRunAnchored);
+        lent.lend(run.start, &self.ankr, &mut call);
+        call.extend([0, run.right_to_left.into(), run.choices.0].into_iter().flat_map(u32::to_le_bytes));
+        let (kerned, marks) = (8 * lent.kerned.along.len(), lent.marks.bytes());
+        let reply = the_box.exchange(&call, line_bytes(&shaped.line) + kerned + marks + 4)?;
+        let (line, rest) = reply.split_at(line_bytes(&shaped.line));
+        let (along, rest) = rest.split_at(kerned);
+        let (marks, heads) = rest.split_at(marks);
+        read_line(&mut shaped.line, line);
+        shaped.runs.push(("kerx", number(&line[..4]) as u32, number(heads) as u32));
+        shaped.along.push(("kerx", along_of(along)));
+        shaped.marks = Some(lent.marks.of_reply(marks));
+        Ok(())
+    }
+
+    /// The line by the box.
     pub fn by_box(
         &self,
         glyphs: &[u16],
@@ -135,7 +198,7 @@ impl Tables {
         choices: Choices,
         the_box: &mut TheBox,
     ) -> io::Result<Shaped> {
-        let mut shaped = Shaped { line: lent_line(glyphs), runs: Vec::new(), along: Vec::new() };
+        let mut shaped = Shaped::of(lent_line(glyphs));
         let direction = u32::from(right_to_left).to_le_bytes();
         if let Some(table) = &self.morx {
             let is_plain = self.requests.is_empty();
@@ -153,6 +216,11 @@ impl Tables {
             shaped.runs.push(("morx", number(&line[..4]) as u32, number(&rest[..4]) as u32));
         }
         for (kerning, table) in self.kernings() {
+            if self.anchors_marks(kerning) {
+                let run = kerning_run::Run { kerning, table, start: START, right_to_left, choices };
+                self.mark_by_box(&run, &mut shaped, the_box)?;
+                continue;
+            }
             let lent = unkerned(&shaped.line);
             let is_read_as_ever = choices.reading(kerning) == Reading::Crate;
             let mut call = call_of(
@@ -222,6 +290,7 @@ impl Tables {
             met_kerning::watch(
                 &mut met,
                 &kerning_run::Run { kerning, table, start: START, right_to_left, choices: Choices::NONE },
+                &self.ankr,
                 &line,
             );
             add(met);
@@ -247,7 +316,7 @@ impl Tables {
         }
         for (kerning, table) in self.kernings() {
             let run = kerning_run::Run { kerning, table, start: START, right_to_left, choices: Choices::NONE };
-            tell_kerning(&run, &mut unkerned(&line), look, rows).map_err(in_words)?;
+            tell_kerning(&run, &self.ankr, &mut unkerned(&line), look, rows).map_err(in_words)?;
         }
         Ok(())
     }
@@ -269,6 +338,10 @@ fn lent_line(glyphs: &[u16]) -> Line {
 
 fn unkerned(line: &Line) -> Kerned {
     Kerned { line: line.clone(), along: vec![0; line.glyphs.len()] }
+}
+
+fn unmarked(line: &Line) -> Anchored {
+    Anchored { kerned: unkerned(line), marks: Marks::none(line.glyphs.len()) }
 }
 
 fn call_of(table: &[u8], entry: Entry) -> Vec<u8> {

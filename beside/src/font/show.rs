@@ -85,17 +85,22 @@ pub struct Column {
 }
 
 impl Column {
-    /// That of a shaped line: of each place its glyph, its tag, its adjustments, and the characters that belong to it.
+    /// That of a shaped line: of each place its glyph, its tag, its adjustments, its mark, and the characters that belong to it.
     pub fn of(shaped: &Shaped, look: &Look) -> Self {
         let answer = |run: &(&str, u32, u32)| format!("{}: {}, heads {}", run.0, ANSWERS[run.1 as usize], run.2);
         let mut above: Vec<String> = shaped.runs.iter().map(answer).collect();
         let tables: String = shaped.along.iter().map(|(table, _)| format!("{:>8}", table)).collect();
-        above.push(format!("place {}    tag{}  characters", look.above(), tables));
+        let of_marks = |words: [&str; 3]| format!("{:>8}{:>8}{:>6}", words[0], words[1], words[2]);
+        let marks = shaped.marks.as_ref().map_or(String::new(), |_| of_marks(["x", "y", "back"]));
+        above.push(format!("place {}    tag{}{}  characters", look.above(), tables, marks));
         let place = |place: usize| {
             let along: String = shaped.along.iter().map(|(_, along)| format!("{:>8}", along[place])).collect();
+            let mark = shaped.marks.as_ref().map(|marks| (marks.x[place], marks.y[place], marks.back[place]));
+            let mark = mark
+                .map_or(String::new(), |(x, y, back)| of_marks([&x.to_string(), &y.to_string(), &back.to_string()]));
             let (glyph, tag) = (shaped.line.glyphs[place], shaped.line.tags[place]);
             let characters: Vec<String> = shaped.characters(tag).map(|character| character.to_string()).collect();
-            format!("{:>5} {} {:>6}{}  {}", place, look.in_column(glyph), tag, along, characters.join(" "))
+            format!("{:>5} {} {:>6}{}{}  {}", place, look.in_column(glyph), tag, along, mark, characters.join(" "))
         };
         Column { above, places: (0..shaped.line.length()).map(place).collect() }
     }

@@ -34,17 +34,22 @@ impl<'a> Tried<'a> {
 
     fn of(line: &'a str) -> Result<Self, String> {
         let parts: Vec<&str> = line.split("; ").collect();
-        let (named, name, told, table, language) = match parts[..] {
+        let (named, name, told, table, more) = match parts[..] {
             [named, name, told, table] => (named, name, told, table, None),
-            [named, name, told, table, language] => (named, name, told, table, Some(language.trim_matches('"'))),
+            [named, name, told, table, more] => (named, name, told, table, Some(more)),
             _ => return Err(format!("no table to try: {}", line)),
         };
-        let bytes = hex::parse(table).ok_or_else(|| format!("no hex: {}", table))?;
+        let bytes = |table| hex::parse(table).ok_or_else(|| format!("no hex: {}", table));
+        let mut tables = vec![(tag(name)?, bytes(table)?), (*b"maxp", vec![0, 1, 0, 0, 0, 100])];
+        let language = more.filter(|_| name == "ltag").map(|language| language.trim_matches('"'));
+        if let Some(ankr) = more.filter(|_| name == "kerx") {
+            tables.push((*b"ankr", bytes(ankr)?));
+        }
         Ok(Tried {
             named: named.split(' ').filter_map(|row| row.parse().ok()).collect(),
             name,
             told,
-            file: wrap(&[(tag(name)?, bytes), (*b"maxp", vec![0, 1, 0, 0, 0, 100])]),
+            file: wrap(&tables),
             glyphs: glyphs_of(&told.trim_start_matches('<').split_whitespace().collect::<Vec<_>>())?,
             right_to_left: told.starts_with('<'),
             language,
@@ -90,7 +95,8 @@ impl<'a> Tried<'a> {
     fn by_harfbuzz(&self, hb_shape: &HbShape) -> Result<String, String> {
         let font = Font::open(&self.file, None)?;
         let tables = Tables::of(&font)?;
-        if self.language.is_some() {
+        // Of languages and of where marks are anchored hb-shape tells nothing that could stand in a cell.
+        if self.language.is_some() || tables.has_points() {
             return Ok(NOT_RUN.into());
         }
         let Reading { glyphs, along } = hb_shape.shape(&tables, &self.glyphs, self.right_to_left)?;
@@ -102,14 +108,17 @@ impl<'a> Tried<'a> {
 }
 
 /// The rows on tables that are out of order, which the survey has to name.
-const SURVEYED: [u32; 14] = [1, 2, 3, 5, 6, 7, 8, 9, 11, 12, 24, 44, 47, 48];
+const SURVEYED: [u32; 15] = [1, 2, 3, 5, 6, 7, 8, 9, 11, 12, 24, 44, 47, 48, 58];
 
-/// The glyphs of a line, or its adjustments where it was kerned; and the answer where it is not DONE.
+/// The glyphs of a line, or its adjustments where it was kerned, or its marks where the font has points for them; and the answer where it is not DONE.
 fn left_of(shaped: &Shaped) -> String {
     let length = shaped.line.length();
-    let left = match shaped.along.first() {
-        Some((_, along)) => joined(&along[..length]),
-        None => joined(&shaped.line.glyphs[..length]).replace(&DELETED.to_string(), "FFFF"),
+    let left = match (shaped.along.first(), &shaped.marks) {
+        (_, Some(marks)) => joined(
+            &marks.of_places(length).iter().map(|(x, y, back)| format!("{},{},{}", x, y, back)).collect::<Vec<_>>(),
+        ),
+        (Some((_, along)), None) => joined(&along[..length]),
+        (None, None) => joined(&shaped.line.glyphs[..length]).replace(&DELETED.to_string(), "FFFF"),
     };
     match shaped.runs.iter().map(|run| run.1).find(|answer| *answer != 0) {
         Some(answer) => format!("{}, {}", left, ANSWERS[answer as usize]),

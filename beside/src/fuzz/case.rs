@@ -67,7 +67,7 @@ impl Case {
                 })
             }
             Entry::KernRun | Entry::KernRunBy => kern::subtables(table, start).take(MOST_HEADS).count() == MOST_HEADS,
-            Entry::KerxRun | Entry::KerxRunBy => {
+            Entry::KerxRun | Entry::KerxRunBy | Entry::KerxRunAnchored => {
                 kerx::subtables(table, start, 0).take(MOST_HEADS).count() == MOST_HEADS
             }
             _ => false,

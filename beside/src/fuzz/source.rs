@@ -12,6 +12,9 @@ pub const LONGEST: u8 = 40;
 /// The most bytes of a name, and one more.
 pub const LONGEST_NAME: u8 = 24;
 
+/// The most bytes of a second table, and one more.
+const LONGEST_PART: u16 = 2_000;
+
 impl<'a> Source<'a> {
     /// The next byte.
     pub fn byte(&mut self) -> u8 {
@@ -51,6 +54,14 @@ impl<'a> Source<'a> {
         let (name, rest) = self.0.split_at(length.min(self.0.len()));
         self.0 = rest;
         name
+    }
+
+    /// Bytes behind their count, of 16 bits.
+    pub fn part(&mut self) -> &'a [u8] {
+        let length = usize::from(self.word() % LONGEST_PART);
+        let (part, rest) = self.0.split_at(length.min(self.0.len()));
+        self.0 = rest;
+        part
     }
 
     /// A line with its adjustments: its length, the room behind it, its glyphs, tags turned by some places, and some

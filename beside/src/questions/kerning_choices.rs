@@ -31,7 +31,7 @@ const PASSES_BY: [Entry; 2] = [Entry::KernPassBy, Entry::KerxPassBy];
 const RUNS_BY: [Entry; 2] = [Entry::KernRunBy, Entry::KerxRunBy];
 
 /// The choices that an entry looks at.
-const LOOKED_AT: [(Entry, u32); 7] = [
+const LOOKED_AT: [(Entry, u32); 12] = [
     (Entry::KernPassBy, JOINED_PAIRS),
     (Entry::KerxPassBy, JOINED_PAIRS),
     (Entry::KernRunBy, JOINED_PAIRS),
@@ -39,6 +39,11 @@ const LOOKED_AT: [(Entry, u32); 7] = [
     (Entry::KerxPassBy, MANUAL_LISTS),
     (Entry::KerxRunBy, MANUAL_LISTS),
     (Entry::KerxStepBy, MANUAL_LISTS),
+    (Entry::KerxPassAnchored, JOINED_PAIRS),
+    (Entry::KerxRunAnchored, JOINED_PAIRS),
+    (Entry::KerxPassAnchored, MANUAL_LISTS),
+    (Entry::KerxRunAnchored, MANUAL_LISTS),
+    (Entry::AnchorStep, MANUAL_LISTS),
 ];
 
 thread_local! {

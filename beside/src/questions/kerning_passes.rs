@@ -3,8 +3,10 @@
 use crate::fuzz::case::Chosen;
 use crate::fuzz::seeds::{self, Seed};
 use crate::fuzz::source::Source;
+use crate::questions::anchored_calls::AnchoredPass;
 use crate::questions::kerning_choices::{count, describe_choices};
 use crate::questions::{Ask, Part, Question};
+use crate::reference::anchored::{Anchored, Marks};
 use crate::reference::kerning::{Kerned, Kerning, Subtable, LARGEST_ADJUSTMENT};
 use crate::reference::kerning_by_copy::open;
 use crate::reference::kerning_choices::Choices;
@@ -128,6 +130,12 @@ impl Question for Pass {
 
     fn with_choices(&self, choices: Choices) -> Option<Box<dyn Question>> {
         Some(Box::new(Pass { choices: Some(choices), written: None, ..self.clone() }))
+    }
+
+    fn with_marks(&self, choices: Choices, ankr: Rc<[u8]>) -> Option<Box<dyn Question>> {
+        let Pass { edition: Edition { version, .. }, start, .. } = *self;
+        let lent = Anchored { kerned: self.lent.clone(), marks: Marks::of(self.lent.line.glyphs.len()) };
+        Some(Box::new(AnchoredPass { version, choices, ankr, lent, start, written: None }))
     }
 
     fn trace(&self, table: &[u8]) -> Vec<String> {

@@ -3,9 +3,11 @@
 use crate::fuzz::case::Chosen;
 use crate::fuzz::seeds::{self, Seed};
 use crate::fuzz::source::Source;
+use crate::questions::anchored_calls::AnchoredRun;
 use crate::questions::kerning_choices::{count, describe_choices};
 use crate::questions::passes::for_each_table;
 use crate::questions::{Ask, Part, Question};
+use crate::reference::anchored::{Anchored, Marks};
 use crate::reference::kerning::{Kerned, Kerning, ALONE_AT};
 use crate::reference::kerning_choices::Choices;
 use crate::reference::kerning_run::Run;
@@ -118,6 +120,12 @@ impl Question for KerningRun {
 
     fn with_choices(&self, choices: Choices) -> Option<Box<dyn Question>> {
         Some(Box::new(KerningRun { choices: Some(choices), written: None, ..self.clone() }))
+    }
+
+    fn with_marks(&self, choices: Choices, ankr: Rc<[u8]>) -> Option<Box<dyn Question>> {
+        let KerningRun { start, right_to_left, .. } = *self;
+        let lent = Anchored { kerned: self.lent.clone(), marks: Marks::of(self.lent.line.glyphs.len()) };
+        Some(Box::new(AnchoredRun { choices, ankr, lent, start, right_to_left, written: None }))
     }
 
     fn trace(&self, table: &[u8]) -> Vec<String> {
@@ -254,7 +262,10 @@ fn refused_lines(asked: &mut dyn Ask, kerning: Kerning) {
             let start = random.among(&[0, BEFORE, BEFORE, usize::MAX]);
             let right_to_left = random.below(2) as u32;
             let start = start as u64;
-            asked.ask(&table, Box::new(KerningRun { kerning, choices: None, lent, start, right_to_left, written: None }));
+            asked.ask(
+                &table,
+                Box::new(KerningRun { kerning, choices: None, lent, start, right_to_left, written: None }),
+            );
         }
     });
 }

@@ -1,5 +1,11 @@
 //! The questions that are put to both sides, one file for the entries of a part.
 
+pub mod anchored;
+pub mod anchored_answers;
+pub mod anchored_calls;
+pub mod anchored_made;
+pub mod anchored_refusals;
+pub mod anchored_tables;
 pub mod classes;
 pub mod features;
 pub mod kerning_choices;
@@ -59,6 +65,10 @@ pub trait Question {
     }
     /// The same question to the entry that is told these choices, where there is one.
     fn with_choices(&self, _choices: Choices) -> Option<Box<dyn Question>> {
+        None
+    }
+    /// The same question to the entry that also takes an ankr table, by these choices, where there is one.
+    fn with_marks(&self, _choices: Choices, _ankr: Rc<[u8]>) -> Option<Box<dyn Question>> {
         None
     }
     /// The same question to the entry that is told what features are asked for, where there is one: some of the table's, or none.
@@ -138,6 +148,7 @@ pub static PARTS: &[&dyn Part] = &[
     &stored::StoredLines,
     &features::Features,
     &kerx_manual::Manual,
+    &anchored::AnchoredMarks,
 ];
 
 /// The part that an entry belongs to.

@@ -28,14 +28,14 @@ impl Reading {
 }
 
 /// The number of so many bytes at a place, where all of them are there.
-fn number(data: &[u8], at: u64, bytes: u64) -> Option<u64> {
+pub fn number(data: &[u8], at: u64, bytes: u64) -> Option<u64> {
     let data = data.get(usize::try_from(at).ok()?..usize::try_from(at.checked_add(bytes)?).ok()?)?;
     Some(data.iter().fold(0, |number, byte| number << 8 | u64::from(*byte)))
 }
 
 impl Reading {
     /// The element of a glyph in the lookup table at a place.
-    fn lookup(self, data: &[u8], at: u64, glyph: u16) -> Option<u64> {
+    pub fn lookup(self, data: &[u8], at: u64, glyph: u16) -> Option<u64> {
         if self == Reading::Manual && number(data, at, 2)? == 10 {
             trimmed(data, at, glyph)
         } else {
@@ -44,7 +44,7 @@ impl Reading {
     }
 
     /// Whether subtables with this tuple count are passed over in a run, and refused in a lone pass or step.
-    fn leaves_out(self, tuples: u64) -> bool {
+    pub fn leaves_out(self, tuples: u64) -> bool {
         self == Reading::Manual && tuples != 0
     }
 }
@@ -65,10 +65,10 @@ pub struct Kerx<'a> {
 }
 
 /// What a subtable's head says.
-struct Head {
+pub struct Head {
     size: u64,
     coverage: u64,
-    tuples: u64,
+    pub tuples: u64,
 }
 
 /// A subtable that can be read, and is of a format that is not left out.
@@ -79,7 +79,8 @@ enum Opened<'a> {
 }
 
 impl<'a> Kerx<'a> {
-    fn head(&self) -> Option<Head> {
+    /// What its head says, where it can be read.
+    pub fn head(&self) -> Option<Head> {
         let [size, coverage] = [number(self.data, 0, 4)?, number(self.data, 4, 4)?];
         let tuples = if self.version >= 4 { number(self.data, 8, 4)? } else { 0 };
         Some(Head { size, coverage, tuples })
@@ -88,7 +89,7 @@ impl<'a> Kerx<'a> {
     fn opened(&self) -> Option<(Head, Opened<'a>)> {
         let head = self.head()?;
         let long = |at| number(self.data, at, 4);
-        let opened = match head.coverage & 0xFF {
+        let opened = match head.format() {
             0 => Opened::Pairs { count: long(12)? },
             1 => Opened::Machine(Machine::open(self.reading, self.data.get(12..)?, head.tuples)?),
             2 => Opened::Classes { rows: long(16)?, columns: long(20)?, array: long(24)? },
@@ -169,24 +170,59 @@ const NONE: u64 = 0xFFFF;
 /// The most steps in a row that do not advance.
 const MOST_CYCLES: u64 = 17;
 
-/// A machine of format 1.
-struct Machine<'a> {
+/// An extended state table.
+pub struct States<'a> {
     reading: Reading,
-    /// From the state table's start on, from which all places are counted.
-    data: &'a [u8],
+    /// From its start on, from which all places are counted.
+    pub data: &'a [u8],
     classes: u64,
     class_table: u64,
     states: u64,
     entries: u64,
+}
+
+impl<'a> States<'a> {
+    /// The one whose head begins here, where that can be read.
+    pub fn open(reading: Reading, data: &'a [u8]) -> Option<Self> {
+        let long = |at| number(data, at, 4);
+        let [classes, class_table, states, entries] = [long(0)?, long(4)?, long(8)?, long(12)?];
+        Some(States { reading, data, classes, class_table, states, entries })
+    }
+
+    fn class(&self, glyph: u16) -> u64 {
+        if glyph == DELETED {
+            return 2;
+        }
+        self.reading.lookup(self.data, self.class_table, glyph).unwrap_or(1)
+    }
+
+    /// The entry for a state and a glyph: the new state, the flags, and what its machine has behind them, of two bytes.
+    pub fn entry(&self, state: u64, glyph: u16) -> Option<[u64; 3]> {
+        let cell = self.states + 2 * (state * self.classes + self.class(glyph));
+        let entry = self.entries + 6 * number(self.data, cell, 2)?;
+        let word = |at| number(self.data, entry + at, 2);
+        Some([word(0)?, word(2)?, word(4)?])
+    }
+}
+
+/// What a step with these flags goes on by, and the steps in a row that did not advance, which are counted.
+pub fn advance(flags: u64, cycles: &mut u64) -> usize {
+    let advances = flags & STAY == 0 || *cycles == MOST_CYCLES;
+    *cycles = if advances { 0 } else { *cycles + 1 };
+    usize::from(advances)
+}
+
+/// A machine of format 1.
+struct Machine<'a> {
+    reading: Reading,
+    table: States<'a>,
     values: u64,
     tuples: u64,
 }
 
 impl<'a> Machine<'a> {
     fn open(reading: Reading, data: &'a [u8], tuples: u64) -> Option<Self> {
-        let long = |at| number(data, at, 4);
-        let [classes, class_table, states, entries, values] = [long(0)?, long(4)?, long(8)?, long(12)?, long(16)?];
-        Some(Machine { reading, data, classes, class_table, states, entries, values, tuples })
+        Some(Machine { reading, table: States::open(reading, data)?, values: number(data, 16, 4)?, tuples })
     }
 
     /// Where number k of the list of this index lies; None where the crate's sums do not fit 64 bits.
@@ -205,21 +241,11 @@ impl<'a> Machine<'a> {
         self.reading == Reading::Manual && number == 0xFFFF
     }
 
-    fn class(&self, glyph: u16) -> u64 {
-        if glyph == DELETED {
-            return 2;
-        }
-        self.reading.lookup(self.data, self.class_table, glyph).unwrap_or(1)
-    }
-
     /// One step from a state: the state table's number, the depth of the stack, the steps in a row that did not advance, and the
     /// stack. What it goes on by; None where it ends.
     fn step(&self, state: &mut [u64; STATE], index: usize, glyph: u16, along: &mut [i64]) -> Option<usize> {
-        let cell = self.states + 2 * (state[0] * self.classes + self.class(glyph));
-        let entry = self.entries + 6 * number(self.data, cell, 2)?;
-        let list = number(self.data, entry + 4, 2)?;
-        let flags = number(self.data, entry + 2, 2)?;
-        state[0] = number(self.data, entry, 2)?;
+        let [next, flags, list] = self.table.entry(state[0], glyph)?;
+        state[0] = next;
         if flags & PUSH != 0 {
             if state[1] == DEEPEST as u64 {
                 return None;
@@ -233,9 +259,7 @@ impl<'a> Machine<'a> {
         if flags & RESET != 0 {
             state[1] = 0;
         }
-        let advances = flags & STAY == 0 || state[2] == MOST_CYCLES;
-        state[2] = if advances { 0 } else { state[2] + 1 };
-        Some(usize::from(advances))
+        Some(advance(flags, &mut state[2]))
     }
 
     /// Goes through a list as long as there is a place on the stack: each number that does not end it is added at the place that
@@ -243,7 +267,7 @@ impl<'a> Machine<'a> {
     fn take_list(&self, index: u64, state: &mut [u64; STATE], along: &mut [i64]) -> Option<()> {
         self.place(index, 0)?;
         for k in 0..state[1] {
-            let number = number(self.data, self.place(index, k)?, 2)?;
+            let number = number(self.table.data, self.place(index, k)?, 2)?;
             if self.ends(number) {
                 break;
             }
@@ -264,6 +288,27 @@ pub fn run(
     lent: &mut Kerned,
 ) -> (Answer<()>, u32) {
     lent.used().1.fill(0);
+    visit_all(reading, table, start, right_to_left, |subtable, is_turned| {
+        if is_turned {
+            lent.reverse();
+        }
+        let (glyphs, along) = lent.used();
+        subtable.pass(choices, glyphs, along);
+        if is_turned {
+            lent.reverse();
+        }
+    })
+}
+
+/// The way of a run: each subtable that is not passed over, and whether the line is turned round for it; then the answer, and the
+/// heads that were counted.
+pub fn visit_all(
+    reading: Reading,
+    table: &[u8],
+    start: u64,
+    right_to_left: bool,
+    mut visit: impl FnMut(&Kerx, bool),
+) -> (Answer<()>, u32) {
     let list = if start == 0 { &[] } else { &table[start as usize..] };
     let [version, count] = [(0, 2), (4, 4)].map(|(at, bytes)| number(list, at, bytes).unwrap_or(0));
     let (mut at, mut heads) = (8, 0);
@@ -282,15 +327,7 @@ pub fn run(
         }
         heads += 1;
         if !head.is_passed_over() && !reading.leaves_out(head.tuples) {
-            let is_turned = head.is_reversed() != right_to_left;
-            if is_turned {
-                lent.reverse();
-            }
-            let (glyphs, along) = lent.used();
-            subtable.pass(choices, glyphs, along);
-            if is_turned {
-                lent.reverse();
-            }
+            visit(&subtable, head.is_reversed() != right_to_left);
         }
         at += head.size;
     }
@@ -298,6 +335,11 @@ pub fn run(
 }
 
 impl Head {
+    /// The subtable's format.
+    pub fn format(&self) -> u64 {
+        self.coverage & 0xFF
+    }
+
     /// Whether it is for vertical text, across the line or for variations.
     fn is_passed_over(&self) -> bool {
         self.coverage & 0xE000_0000 != 0

@@ -1,5 +1,7 @@
 //! The crate, unchanged and opened, and what document 01 puts around it: lines, passes, runs, the survey, the shaper.
 
+pub mod anchored;
+pub mod anchored_by_copy;
 pub mod kerning;
 pub mod kerning_by_copy;
 pub mod kerning_choices;

@@ -42,6 +42,7 @@ pub enum Answer<T> {
     Record,
     Version,
     Tuples,
+    Anchor,
     Overlap,
     Space,
 }
@@ -69,6 +70,7 @@ impl<T: Copy> Answer<T> {
             Answer::Record => 11,
             Answer::Version => 12,
             Answer::Tuples => 13,
+            Answer::Anchor => 16,
             Answer::Overlap => 17,
             Answer::Space => 18,
         }
@@ -91,6 +93,7 @@ impl<T: Copy> Answer<T> {
             Answer::Record => Answer::Record,
             Answer::Version => Answer::Version,
             Answer::Tuples => Answer::Tuples,
+            Answer::Anchor => Answer::Anchor,
             Answer::Overlap => Answer::Overlap,
             Answer::Space => Answer::Space,
         }

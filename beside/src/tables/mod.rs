@@ -1,5 +1,6 @@
 //! Tables, subtables, glyphs and names as bytes: those of the documents, all small ones, and any from a seed.
 
+pub mod anchored;
 pub mod contextual;
 pub mod insertion;
 pub mod kerning;

@@ -65,4 +65,7 @@ entries! {
     ReadLine "aat_read_line",
     MorxRunWith "aat_morx_run_with",
     KerxStepBy "aat_kerx_step_by",
+    KerxPassAnchored "aat_kerx_pass_anchored",
+    KerxRunAnchored "aat_kerx_run_anchored",
+    AnchorStep "aat_anchor_step",
 }

@@ -4,5 +4,6 @@ pub mod along;
 pub mod entries;
 pub mod hex;
 pub mod line;
+pub mod marks;
 pub mod pipe;
 pub mod reply;

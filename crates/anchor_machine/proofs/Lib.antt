@@ -5,4 +5,5 @@ pub mod Passes
 pub mod Turns
 pub mod Exactly
 pub mod Calls
+pub mod Manual
 mod Steps

@@ -3,3 +3,4 @@ pub mod Writes
 pub mod Machine
 pub mod Exact
 pub mod Small
+pub mod Manual

@@ -1,5 +1,4 @@
--- For the code alone; no entry and no promise rests on it, and nobody has to believe it. The machine of kerx format
--- 4, as the crate's `next`, over the bytes from its state table on.
+-- The machine of kerx format 4, as the crate's `next`, over the bytes from its state table on.
 use Prim.Native.Nat.{ℕ, zero, suc, _+_, _-_, _*_, _/_, _%_}
 use mathlib.Core.Bool.{Bool, true, false, not, cond}
 use mathlib.Core.List.{List, [], _∷_}

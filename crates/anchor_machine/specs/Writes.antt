@@ -1,5 +1,4 @@
--- For the code alone; no entry and no promise rests on it, and nobody has to believe it. Anchoring is writes: x, y and
--- the distance back of a place, each in a slice of its own that has one for each place of the room.
+-- Anchoring is writes: x, y and the distance back of a place, each in a slice of its own that has one for each place of the room.
 use Prim.Native.Nat.{ℕ}
 use mathlib.Core.Bool.{Bool}
 use mathlib.Core.List.{List, [], _∷_, _++_}

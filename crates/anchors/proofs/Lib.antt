@@ -1,2 +1,3 @@
 -- Laws of anchor points.
 pub mod Lying
+pub mod Manual

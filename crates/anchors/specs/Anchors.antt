@@ -1,5 +1,4 @@
--- For the code alone; no entry and no promise rests on it, and nobody has to believe it. The anchor points of glyphs, as the crate reads an
--- ankr table, over its bytes.
+-- The anchor points of glyphs, as the crate reads an ankr table, over its bytes.
 use Prim.Native.Nat.{ℕ, _+_, _*_}
 use mathlib.Core.List.{List}
 use lib.Dec.{ltb}

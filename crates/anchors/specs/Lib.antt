@@ -1,2 +1,3 @@
 -- Anchor points.
 pub mod Anchors
+pub mod Manual

@@ -5,3 +5,4 @@ mod Lists
 mod KernLists
 mod KernPairs
 mod KernSteps
+mod Anchoring

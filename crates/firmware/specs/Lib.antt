@@ -8,3 +8,4 @@ pub mod Cursors
 pub mod KernCursors
 pub mod KernSteps
 pub mod Small
+pub mod Anchored

@@ -21,6 +21,7 @@ ghost use Rattle.insertion.specs.Lone.{insertCall, insertLeaves};
 ghost use Rattle.ligature.specs.Calls.{ligature};
 ghost use Rattle.firmware.specs.Survey.{surveyAnswer, verdictOf, badRecord};
 
+mod anchored;
 mod choices;
 mod cursors;
 mod features;

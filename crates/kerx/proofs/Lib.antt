@@ -4,3 +4,10 @@ mod Works
 mod Goes
 pub mod Cursors
 pub mod Manual
+mod Written
+mod Anchoring
+mod Marking
+mod Called
+pub mod Plain
+pub mod ManualMarks
+pub mod Marked

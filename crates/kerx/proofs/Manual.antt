@@ -121,7 +121,7 @@ kerx-without-list rtl bytes h = rw (readU32-short bytes 4 (omega (arith, h)), he
 
 -- the answer for a pair
 module _ (bytes : List ℕ) (version left right : ℕ) where
-  head-is : 12 ≤ length bytes → headIn false version 0 bytes ≡ At (readAt false bytes 0)
+  pub head-is : 12 ≤ length bytes → headIn false version 0 bytes ≡ At (readAt false bytes 0)
   head-is h = head-reads false bytes version 0 (go (ltb version 4) refl)
     where
       go : (t : Bool) → ltb version 4 ≡ t → 0 + fewOf version ≤ length bytes

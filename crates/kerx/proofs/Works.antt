@@ -13,10 +13,10 @@ use Rattle.answers.specs.declared.Answer.{Answer}
 use Rattle.answers.specs.declared.Answer.the-variants as Answer′
 use Rattle.answers.specs.declared.Refusal.the-variants as Refusal′
 use Rattle.tables.specs.declared.units.Reading.the-variants.{Crate}
-use Rattle.kerning.specs.Additions.{addAll, nothingAdded}
+use Rattle.kerning.specs.Additions.{Addition, addAll, nothingAdded}
 use Rattle.kerning.specs.Bounds.{Within}
 use Rattle.kerning.specs.declared.choices.Choices.{Choices}
-use Rattle.kerning.proofs.Adding.{addAll-none, within-more}
+use Rattle.kerning.proofs.Adding.{addAll-none, length-addAll, within-more}
 use Rattle.pairs.specs.Pairs.{orderedKerx, classesKerx, barred}
 use Rattle.pairs.specs.Reply.{replyOf}
 use Rattle.pairs.specs.Pass as Pairs′
@@ -123,3 +123,18 @@ turned-ready used glyphs along {turned} {once} g a h k r w =
     let m : length turned ≡ length glyphs = ap length g ∙ length-backward 0 used glyphs h in
     let n : length once ≡ length along = ap length a ∙ length-backward (pos 0) used along k in
     (omega arith, omega arith, r, subst (Within (2 ^ 60)) (sym a) (within-backward used along k w))
+
+-- they are as long as before
+pub line-fits : (used : ℕ) (glyphs tags : List ℕ) {once beside : List ℕ} → once ≡ backward used glyphs → beside ≡ backward used tags → used ≤ length glyphs
+    → used ≤ length tags → (used ≤ length once) × (used ≤ length beside)
+line-fits used glyphs tags {once} {beside} g t h k =
+    let m : length once ≡ length glyphs = ap length g ∙ length-backward 0 used glyphs h in
+    let n : length beside ≡ length tags = ap length t ∙ length-backward 0 used tags k in
+    (omega arith, omega arith)
+
+pub along-fits : (used : ℕ) (along : List ℤ) (additions : List Addition) {once after : List ℤ} → once ≡ backward used along → after ≡ addAll additions once
+    → used ≤ length along → used ≤ length after
+along-fits used along additions {once} {after} a e h =
+    let n : length once ≡ length along = ap length a ∙ length-backward (pos 0) used along h in
+    let m : length after ≡ length once = ap length e ∙ length-addAll additions once in
+    omega arith

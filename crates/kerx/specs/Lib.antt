@@ -1,4 +1,7 @@
 -- The kerx table.
 pub mod Heads
 pub mod Kerx
+pub mod Anchored
+pub mod Lent
+pub mod Range
 pub mod Manual

@@ -1,4 +1,9 @@
 // The kerx table: the list of subtables, the pass by one of them, and the whole run.
+mod marks;
+
+use anchor_machine::AnchorState;
+use anchor_machine::AnchorStep;
+use anchor_machine::Opened;
 use answers::Answer;
 use answers::Check;
 use answers::Refusal;
@@ -18,6 +23,7 @@ ghost use mathlib.Core.Bool.{false};
 ghost use Prim.Native.Nat.{_<_, _≤_, _^_};
 ghost use lib.ListN.{length};
 ghost use Rattle.answers.specs.Limits.{roomLimit};
+ghost use Rattle.answers.specs.Refuse.{refuse};
 ghost use Rattle.laws.specs.Backward.{backward};
 ghost use Rattle.line.specs.Line.{lineOf};
 ghost use Rattle.kerning.specs.Additions.{addAll};
@@ -25,7 +31,11 @@ ghost use Rattle.kerning.specs.Bounds.{Within};
 ghost use Rattle.kerning.specs.Choices.{unchosen};
 ghost use Rattle.kerning_lists.specs.Family.{headAt, walkOf, passed, passCall, pairIn, pairCall, adds, runCall, listFrom, listCall, subtableCall};
 ghost use Rattle.kerning_lists.specs.Walk.{walkAnswer, visited, headsFrom};
-ghost use Rattle.kerning_lists.specs.Run.{turnedBack, contribution, contributions, usedPart};
+ghost use Rattle.kerning_lists.specs.Run.{zeros, turnedBack, contribution, contributions, usedPart};
+ghost use Rattle.anchor_machine.specs.Writes.{writeX, writeY, writeBack};
+ghost use Rattle.kerx.specs.Anchored as Anchored;
+ghost use Rattle.kerx.specs.Anchored.{anchorsOf, workedWith, passedWith, machineOf, turnedMarks, marks, marking, runMarks, nones, takesPass, takesRun};
+ghost use Rattle.kerx.specs.Lent.{Lent, visitedBy, listMarks};
 ghost use Rattle.kerx.specs.Heads.{shouldReverse, subtableOf, headIn, listOf};
 ghost use Rattle.kerx.specs.Kerx.{worked, pairBy, kerx};
 
@@ -230,8 +240,87 @@ pub fn pair(table: &[u8], start: usize, version: u16, left: u16, right: u16) -> 
     pair_in(parse::from(table, start), version, left, right)
 }
 
+// The machine of format 4 of the subtable that begins with `bytes`.
+fn anchors_of(bytes: &[u8], version: u16, reading: Reading) -> Opened
+    ensures { λ r. ⌜ r ≡ anchorsOf (now (bytes .entry)) version reading ⌝ }
+{
+    let tupled = kerx_machine::is_tupled(bytes, version, reading);
+    let machine = anchor_machine::open(reading, parse::from(bytes, kerx_machine::BODY));
+    anchor_machine::barred(tupled, machine)
+}
+
+// The pass by the subtable that begins with `bytes`, of a format, format 4 included.
+fn work_with(
+    ankr: &[u8],
+    bytes: &[u8],
+    version: u16,
+    format: u32,
+    glyphs: &[u16],
+    used: usize,
+    along: &mut [i64],
+    x: &mut [i32],
+    y: &mut [i32],
+    back: &mut [u16],
+    choices: Choices,
+) -> Answer
+    requires { ⌜ (used ≤ length (now glyphs)) × (used ≤ length (now along)) × (used ≤ roomLimit) × Within (2 ^ 60) (now along) × (used ≤ length (now x)) × (used ≤ length (now y)) × (used ≤ length (now back)) ⌝ }
+    ensures answer { λ r. ⌜ r ≡ workedWith (now (ankr .entry)) (now (bytes .entry)) version format (now (glyphs .entry)) used choices .answer ⌝ }
+    ensures along { λ _. ⌜ now (along .exit) ≡ addAll (workedWith (now (ankr .entry)) (now (bytes .entry)) version format (now (glyphs .entry)) used choices .additions) (now (along .entry)) ⌝ }
+    ensures x { λ _. ⌜ now (x .exit) ≡ writeX (workedWith (now (ankr .entry)) (now (bytes .entry)) version format (now (glyphs .entry)) used choices .writes) (now (x .entry)) ⌝ }
+    ensures y { λ _. ⌜ now (y .exit) ≡ writeY (workedWith (now (ankr .entry)) (now (bytes .entry)) version format (now (glyphs .entry)) used choices .writes) (now (y .entry)) ⌝ }
+    ensures back { λ _. ⌜ now (back .exit) ≡ writeBack (workedWith (now (ankr .entry)) (now (bytes .entry)) version format (now (glyphs .entry)) used choices .writes) (now (back .entry)) ⌝ }
+{
+    if format == AnchorState::FORMAT {
+        let reading = choices.reading;
+        let machine = anchors_of(bytes, version, reading);
+        let body = parse::from(bytes, kerx_machine::BODY);
+        return anchor_machine::work(ankr, body, machine, glyphs, used, x, y, back);
+    }
+    work(bytes, version, format, glyphs, used, along, choices)
+}
+
+// What a subtable of a run does, by its bytes: without slices for what format 4 writes, that is left out.
+fn work_in_run(
+    ankr: &[u8],
+    part: &[u8],
+    version: u16,
+    format: u32,
+    glyphs: &[u16],
+    used: usize,
+    along: &mut [i64],
+    x: &mut [i32],
+    y: &mut [i32],
+    back: &mut [u16],
+    choices: Choices,
+)
+    requires { ⌜ (used ≤ length (now glyphs)) × (used ≤ length (now along)) × (used ≤ roomLimit) × Within (2 ^ 60) (now along) × Lent used (now x) (now y) (now back) ⌝ }
+    ensures along { λ _. ⌜ now (along .exit) ≡ addAll (worked (now (part .entry)) version format (now (glyphs .entry)) used choices .additions) (now (along .entry)) ⌝ }
+    ensures x { λ _. ⌜ now (x .exit) ≡ writeX (workedWith (now (ankr .entry)) (now (part .entry)) version format (now (glyphs .entry)) used choices .writes) (now (x .entry)) ⌝ }
+    ensures y { λ _. ⌜ now (y .exit) ≡ writeY (workedWith (now (ankr .entry)) (now (part .entry)) version format (now (glyphs .entry)) used choices .writes) (now (y .entry)) ⌝ }
+    ensures back { λ _. ⌜ now (back .exit) ≡ writeBack (workedWith (now (ankr .entry)) (now (part .entry)) version format (now (glyphs .entry)) used choices .writes) (now (back .entry)) ⌝ }
+{
+    if x.len() < used {
+        let _ = work(part, version, format, glyphs, used, along, choices);
+        return;
+    }
+    let _ = work_with(
+        ankr,
+        part,
+        version,
+        format,
+        glyphs,
+        used,
+        along,
+        x,
+        y,
+        back,
+        choices,
+    );
+}
+
 // The pass over the line turned round, which is then turned back, its adjustments with it.
 fn work_turned(
+    ankr: &[u8],
     part: &[u8],
     version: u16,
     format: u32,
@@ -239,22 +328,43 @@ fn work_turned(
     tags: &mut [u16],
     used: usize,
     along: &mut [i64],
+    x: &mut [i32],
+    y: &mut [i32],
+    back: &mut [u16],
     choices: Choices,
 )
-    requires { ⌜ (used ≤ length (now glyphs)) × (used ≤ length (now tags)) × (used ≤ length (now along)) × (used ≤ roomLimit) × Within (2 ^ 60) (now along) ⌝ }
+    requires { ⌜ (used ≤ length (now glyphs)) × (used ≤ length (now tags)) × (used ≤ length (now along)) × (used ≤ roomLimit) × Within (2 ^ 60) (now along) × Lent used (now x) (now y) (now back) ⌝ }
     ensures glyphs { λ _. ⌜ now (glyphs .exit) ≡ now (glyphs .entry) ⌝ }
     ensures tags { λ _. ⌜ now (tags .exit) ≡ now (tags .entry) ⌝ }
     ensures along { λ _. ⌜ now (along .exit) ≡ addAll (turnedBack used (worked (now (part .entry)) version format (backward used (now (glyphs .entry))) used choices .additions)) (now (along .entry)) ⌝ }
+    ensures x { λ _. ⌜ now (x .exit) ≡ writeX (turnedMarks used (workedWith (now (ankr .entry)) (now (part .entry)) version format (backward used (now (glyphs .entry))) used choices .writes)) (now (x .entry)) ⌝ }
+    ensures y { λ _. ⌜ now (y .exit) ≡ writeY (turnedMarks used (workedWith (now (ankr .entry)) (now (part .entry)) version format (backward used (now (glyphs .entry))) used choices .writes)) (now (y .entry)) ⌝ }
+    ensures back { λ _. ⌜ now (back .exit) ≡ writeBack (turnedMarks used (workedWith (now (ankr .entry)) (now (part .entry)) version format (backward used (now (glyphs .entry))) used choices .writes)) (now (back .entry)) ⌝ }
 {
     line::edits::reverse(glyphs, tags, used);
     kerning_lists::turn(along, used);
-    let _ = work(part, version, format, glyphs, used, along, choices);
+    marks::turn(x, y, back);
+    work_in_run(
+        ankr,
+        part,
+        version,
+        format,
+        glyphs,
+        used,
+        along,
+        x,
+        y,
+        back,
+        choices,
+    );
     line::edits::reverse(glyphs, tags, used);
     kerning_lists::turn(along, used); // the adjustments too
+    marks::turn(x, y, back); // and what stands beside them
 }
 
 // A subtable of the list adds its own, unless the run passes over it.
 fn visit(
+    ankr: &[u8],
     bytes: &[u8],
     version: u16,
     subtable: Subtable,
@@ -262,12 +372,18 @@ fn visit(
     tags: &mut [u16],
     used: usize,
     along: &mut [i64],
+    x: &mut [i32],
+    y: &mut [i32],
+    back: &mut [u16],
     choices: Choices,
 )
-    requires { ⌜ (used ≤ length (now glyphs)) × (used ≤ length (now tags)) × (used ≤ length (now along)) × (used ≤ roomLimit) × Within (2 ^ 60) (now along) ⌝ }
+    requires { ⌜ (used ≤ length (now glyphs)) × (used ≤ length (now tags)) × (used ≤ length (now along)) × (used ≤ roomLimit) × Within (2 ^ 60) (now along) × Lent used (now x) (now y) (now back) ⌝ }
     ensures glyphs { λ _. ⌜ now (glyphs .exit) ≡ now (glyphs .entry) ⌝ }
     ensures tags { λ _. ⌜ now (tags .exit) ≡ now (tags .entry) ⌝ }
     ensures along { λ _. ⌜ now (along .exit) ≡ addAll (contribution (adds kerx (now (bytes .entry)) version used choices) (now (glyphs .entry)) used subtable) (now (along .entry)) ⌝ }
+    ensures x { λ _. ⌜ now (x .exit) ≡ writeX (marking (marks (now (ankr .entry)) (now (bytes .entry)) version used choices) (now (glyphs .entry)) used subtable) (now (x .entry)) ⌝ }
+    ensures y { λ _. ⌜ now (y .exit) ≡ writeY (marking (marks (now (ankr .entry)) (now (bytes .entry)) version used choices) (now (glyphs .entry)) used subtable) (now (y .entry)) ⌝ }
+    ensures back { λ _. ⌜ now (back .exit) ≡ writeBack (marking (marks (now (ankr .entry)) (now (bytes .entry)) version used choices) (now (glyphs .entry)) used subtable) (now (back .entry)) ⌝ }
 {
     if subtable.passed_over {
         return;
@@ -275,6 +391,7 @@ fn visit(
     let part = parse::from(bytes, subtable.body);
     if subtable.turned {
         work_turned(
+            ankr,
             part,
             version,
             subtable.format,
@@ -282,15 +399,31 @@ fn visit(
             tags,
             used,
             along,
+            x,
+            y,
+            back,
             choices,
         );
         return;
     }
-    let _ = work(part, version, subtable.format, glyphs, used, along, choices);
+    work_in_run(
+        ankr,
+        part,
+        version,
+        subtable.format,
+        glyphs,
+        used,
+        along,
+        x,
+        y,
+        back,
+        choices,
+    );
 }
 
 // The subtables one after the other, from the first on.
 fn run_list(
+    ankr: &[u8],
     bytes: &[u8],
     list: ListHead,
     rtl: bool,
@@ -298,14 +431,20 @@ fn run_list(
     tags: &mut [u16],
     used: usize,
     along: &mut [i64],
+    x: &mut [i32],
+    y: &mut [i32],
+    back: &mut [u16],
     choices: Choices,
 ) -> Run
-    requires { ⌜ (used ≤ length (now glyphs)) × (used ≤ length (now tags)) × (used ≤ length (now along)) × (used ≤ roomLimit) × Within 0 (now along) ⌝ }
+    requires { ⌜ (used ≤ length (now glyphs)) × (used ≤ length (now tags)) × (used ≤ length (now along)) × (used ≤ roomLimit) × Within 0 (now along) × Lent used (now x) (now y) (now back) ⌝ }
     ensures answer { λ r. ⌜ r .answer ≡ walkAnswer (headsFrom (headAt kerx rtl (now (bytes .entry)) (list .version)) (list .count) (list .first)) ⌝ }
-    ensures heads { λ r. ⌜ r .heads ≡ length (visited (headsFrom (headAt kerx rtl (now (bytes .entry)) (list .version)) (list .count) (list .first))) ⌝ }
+    ensures heads { λ r. ⌜ r .heads ≡ length (visitedBy rtl (now (bytes .entry)) list) ⌝ }
     ensures glyphs { λ _. ⌜ now (glyphs .exit) ≡ now (glyphs .entry) ⌝ }
     ensures tags { λ _. ⌜ now (tags .exit) ≡ now (tags .entry) ⌝ }
-    ensures along { λ _. ⌜ now (along .exit) ≡ addAll (contributions (adds kerx (now (bytes .entry)) (list .version) used choices) (now (glyphs .entry)) used (visited (headsFrom (headAt kerx rtl (now (bytes .entry)) (list .version)) (list .count) (list .first)))) (now (along .entry)) ⌝ }
+    ensures along { λ _. ⌜ now (along .exit) ≡ addAll (contributions (adds kerx (now (bytes .entry)) (list .version) used choices) (now (glyphs .entry)) used (visitedBy rtl (now (bytes .entry)) list)) (now (along .entry)) ⌝ }
+    ensures x { λ _. ⌜ now (x .exit) ≡ writeX (listMarks (now (ankr .entry)) (now (bytes .entry)) list rtl (now (glyphs .entry)) used choices) (now (x .entry)) ⌝ }
+    ensures y { λ _. ⌜ now (y .exit) ≡ writeY (listMarks (now (ankr .entry)) (now (bytes .entry)) list rtl (now (glyphs .entry)) used choices) (now (y .entry)) ⌝ }
+    ensures back { λ _. ⌜ now (back .exit) ≡ writeBack (listMarks (now (ankr .entry)) (now (bytes .entry)) list rtl (now (glyphs .entry)) used choices) (now (back .entry)) ⌝ }
 {
     let mut heads = 0;
     let mut left = list.count;
@@ -324,6 +463,7 @@ fn run_list(
             };
         }
         visit(
+            ankr,
             bytes,
             list.version,
             subtable,
@@ -331,6 +471,9 @@ fn run_list(
             tags,
             used,
             along,
+            x,
+            y,
+            back,
             choices,
         );
         heads += 1;
@@ -343,25 +486,34 @@ fn run_list(
     }
 }
 
-// The used adjustments, zeroed first, with what the list's subtables add.
+// The used adjustments, zeroed first, with what the list's subtables add and write.
 fn run_part(
+    ankr: &[u8],
     bytes: &[u8],
     rtl: bool,
     glyphs: &mut [u16],
     tags: &mut [u16],
     along: &mut [i64],
+    x: &mut [i32],
+    y: &mut [i32],
+    back: &mut [u16],
     choices: Choices,
 ) -> Run
-    requires { ⌜ (length (now along) ≤ length (now glyphs)) × (length (now along) ≤ length (now tags)) × (length (now along) ≤ roomLimit) ⌝ }
+    requires { ⌜ (length (now along) ≤ length (now glyphs)) × (length (now along) ≤ length (now tags)) × (length (now along) ≤ roomLimit) × Lent (length (now along)) (now x) (now y) (now back) ⌝ }
     ensures answer { λ r. ⌜ r .answer ≡ walkAnswer (walkOf kerx rtl (now (bytes .entry))) ⌝ }
     ensures heads { λ r. ⌜ r .heads ≡ length (visited (walkOf kerx rtl (now (bytes .entry)))) ⌝ }
     ensures glyphs { λ _. ⌜ now (glyphs .exit) ≡ now (glyphs .entry) ⌝ }
     ensures tags { λ _. ⌜ now (tags .exit) ≡ now (tags .entry) ⌝ }
     ensures along { λ _. ⌜ now (along .exit) ≡ usedPart (walkOf kerx rtl (now (bytes .entry))) (adds kerx (now (bytes .entry)) (listOf (now (bytes .entry)) .version) (length (now (along .entry))) choices) (now (glyphs .entry)) (length (now (along .entry))) ⌝ }
+    ensures x { λ _. ⌜ now (x .exit) ≡ writeX (runMarks (now (ankr .entry)) (now (bytes .entry)) rtl (now (glyphs .entry)) (length (now (along .entry))) choices) (zeros (length (now (x .entry)))) ⌝ }
+    ensures y { λ _. ⌜ now (y .exit) ≡ writeY (runMarks (now (ankr .entry)) (now (bytes .entry)) rtl (now (glyphs .entry)) (length (now (along .entry))) choices) (zeros (length (now (y .entry)))) ⌝ }
+    ensures back { λ _. ⌜ now (back .exit) ≡ writeBack (runMarks (now (ankr .entry)) (now (bytes .entry)) rtl (now (glyphs .entry)) (length (now (along .entry))) choices) (nones (length (now (back .entry)))) ⌝ }
 {
     kerning_lists::zero(along);
+    marks::zero(x, y, back);
     let used = along.len();
     run_list(
+        ankr,
         bytes,
         list_of(bytes),
         rtl,
@@ -369,6 +521,93 @@ fn run_part(
         tags,
         used,
         along,
+        x,
+        y,
+        back,
+        choices,
+    )
+}
+
+// Whether the line is one that LINE takes for an anchored run, with slices as long as its room.
+fn takes_run(
+    glyphs: &[u16],
+    tags: &[u16],
+    homes: &[u16],
+    used: usize,
+    along: &[i64],
+    x: &[i32],
+    y: &[i32],
+    back: &[u16],
+) -> bool
+    ensures { λ r. ⌜ r ≡ takesRun (lineOf (now (glyphs .entry)) (now (tags .entry)) (now (homes .entry)) used) (now (along .entry)) (now (x .entry)) (now (y .entry)) (now (back .entry)) ⌝ }
+{
+    if !anchor_machine::are_long(glyphs.len(), x, y, back) {
+        return false;
+    }
+    kerning::kernable(glyphs, tags, homes, used, along)
+}
+
+// The tests before an anchored run: TABLE, ANCHOR, LINE, HEAD.
+fn refuse_run(table_length: usize, ankr_length: usize, start: usize, takes: bool) -> Check
+    ensures { λ r. ⌜ r ≡ refuse (Anchored.runTests «table_length» «ankr_length» start takes) ⌝ }
+{
+    if let Check::Refused(why) = answers::refuse_table(table_length) {
+        return Check::Refused(why);
+    }
+    if let Check::Refused(why) = anchors::refuse_anchors(ankr_length) {
+        return Check::Refused(why);
+    }
+    if !takes {
+        return Check::Refused(Refusal::Line);
+    }
+    if table_length < start {
+        return Check::Refused(Refusal::Head);
+    }
+    Check::Passed
+}
+
+// A whole run over the list at `start`, of a line that goes from right to left or not, by the choices made, with marks anchored by an ankr table.
+pub fn run_anchored(
+    table: &[u8],
+    ankr: &[u8],
+    start: usize,
+    rtl: bool,
+    glyphs: &mut [u16],
+    tags: &mut [u16],
+    homes: &[u16],
+    used: usize,
+    along: &mut [i64],
+    x: &mut [i32],
+    y: &mut [i32],
+    back: &mut [u16],
+    choices: Choices,
+) -> Run
+    ensures answer { λ r. ⌜ r .answer ≡ Anchored.runCall (now (table .entry)) (now (ankr .entry)) start rtl (lineOf (now (glyphs .entry)) (now (tags .entry)) (now (homes .entry)) used) (now (along .entry)) (now (x .entry)) (now (y .entry)) (now (back .entry)) choices .ran .answer ⌝ }
+    ensures heads { λ r. ⌜ r .heads ≡ Anchored.runCall (now (table .entry)) (now (ankr .entry)) start rtl (lineOf (now (glyphs .entry)) (now (tags .entry)) (now (homes .entry)) used) (now (along .entry)) (now (x .entry)) (now (y .entry)) (now (back .entry)) choices .ran .heads ⌝ }
+    ensures glyphs { λ _. ⌜ now (glyphs .exit) ≡ now (glyphs .entry) ⌝ }
+    ensures tags { λ _. ⌜ now (tags .exit) ≡ now (tags .entry) ⌝ }
+    ensures along { λ _. ⌜ now (along .exit) ≡ Anchored.runCall (now (table .entry)) (now (ankr .entry)) start rtl (lineOf (now (glyphs .entry)) (now (tags .entry)) (now (homes .entry)) used) (now (along .entry)) (now (x .entry)) (now (y .entry)) (now (back .entry)) choices .ran .along ⌝ }
+    ensures x { λ _. ⌜ now (x .exit) ≡ Anchored.runCall (now (table .entry)) (now (ankr .entry)) start rtl (lineOf (now (glyphs .entry)) (now (tags .entry)) (now (homes .entry)) used) (now (along .entry)) (now (x .entry)) (now (y .entry)) (now (back .entry)) choices .x ⌝ }
+    ensures y { λ _. ⌜ now (y .exit) ≡ Anchored.runCall (now (table .entry)) (now (ankr .entry)) start rtl (lineOf (now (glyphs .entry)) (now (tags .entry)) (now (homes .entry)) used) (now (along .entry)) (now (x .entry)) (now (y .entry)) (now (back .entry)) choices .y ⌝ }
+    ensures back { λ _. ⌜ now (back .exit) ≡ Anchored.runCall (now (table .entry)) (now (ankr .entry)) start rtl (lineOf (now (glyphs .entry)) (now (tags .entry)) (now (homes .entry)) used) (now (along .entry)) (now (x .entry)) (now (y .entry)) (now (back .entry)) choices .back ⌝ }
+{
+    let takes = takes_run(glyphs, tags, homes, used, along, x, y, back);
+    if let Check::Refused(why) = refuse_run(table.len(), ankr.len(), start, takes) {
+        return Run {
+            answer: Answer::Refused(why),
+            heads: 0,
+        };
+    }
+    run_part(
+        ankr,
+        kerning_lists::list_bytes(table, start),
+        rtl,
+        glyphs,
+        tags,
+        &mut along[..used],
+        &mut x[..used],
+        &mut y[..used],
+        &mut back[..used],
         choices,
     )
 }
@@ -405,12 +644,20 @@ pub fn run_by(
             heads: 0,
         };
     }
+    // No anchors: the slices for what they write are empty.
+    let mut x = [0i32; 0];
+    let mut y = [0i32; 0];
+    let mut back = [0u16; 0];
     run_part(
+        parse::from(table, table.len()),
         kerning_lists::list_bytes(table, start),
         rtl,
         glyphs,
         tags,
         &mut along[..used],
+        &mut x,
+        &mut y,
+        &mut back,
         choices,
     )
 }
@@ -531,5 +778,169 @@ pub fn pass(
         used,
         along,
         choices::none(),
+    )
+}
+
+// The pass with anchored marks by the subtable that begins with `bytes`, its head included.
+fn pass_with(
+    ankr: &[u8],
+    bytes: &[u8],
+    version: u16,
+    glyphs: &[u16],
+    used: usize,
+    along: &mut [i64],
+    x: &mut [i32],
+    y: &mut [i32],
+    back: &mut [u16],
+    choices: Choices,
+) -> Answer
+    requires { ⌜ (used ≤ length (now glyphs)) × (used ≤ length (now along)) × (used ≤ roomLimit) × Within (2 ^ 60) (now along) × (used ≤ length (now x)) × (used ≤ length (now y)) × (used ≤ length (now back)) ⌝ }
+    ensures answer { λ r. ⌜ r ≡ passedWith (now (ankr .entry)) (now (bytes .entry)) version (now (glyphs .entry)) used choices .answer ⌝ }
+    ensures along { λ _. ⌜ now (along .exit) ≡ addAll (passedWith (now (ankr .entry)) (now (bytes .entry)) version (now (glyphs .entry)) used choices .additions) (now (along .entry)) ⌝ }
+    ensures x { λ _. ⌜ now (x .exit) ≡ writeX (passedWith (now (ankr .entry)) (now (bytes .entry)) version (now (glyphs .entry)) used choices .writes) (now (x .entry)) ⌝ }
+    ensures y { λ _. ⌜ now (y .exit) ≡ writeY (passedWith (now (ankr .entry)) (now (bytes .entry)) version (now (glyphs .entry)) used choices .writes) (now (y .entry)) ⌝ }
+    ensures back { λ _. ⌜ now (back .exit) ≡ writeBack (passedWith (now (ankr .entry)) (now (bytes .entry)) version (now (glyphs .entry)) used choices .writes) (now (back .entry)) ⌝ }
+{
+    let Head::At(subtable) = head_in(false, version, 0, bytes) else {
+        return Answer::Refused(Refusal::Head);
+    };
+    work_with(
+        ankr,
+        bytes,
+        version,
+        subtable.format,
+        glyphs,
+        used,
+        along,
+        x,
+        y,
+        back,
+        choices,
+    )
+}
+
+// Whether the line is one that LINE takes for an anchored pass, with slices as long as its room.
+fn takes_pass(
+    glyphs: &[u16],
+    tags: &[u16],
+    homes: &[u16],
+    used: usize,
+    along: &[i64],
+    x: &[i32],
+    y: &[i32],
+    back: &[u16],
+) -> bool
+    ensures { λ r. ⌜ r ≡ takesPass (lineOf (now (glyphs .entry)) (now (tags .entry)) (now (homes .entry)) used) (now (along .entry)) (now (x .entry)) (now (y .entry)) (now (back .entry)) ⌝ }
+{
+    if !anchor_machine::are_long(glyphs.len(), x, y, back) {
+        return false;
+    }
+    kerning::takes(glyphs, tags, homes, used, along)
+}
+
+// The tests before an anchored pass: TABLE, ANCHOR, LINE. HEAD and TUPLES are answers of the pass.
+fn refuse_pass(table_length: usize, ankr_length: usize, takes: bool) -> Check
+    ensures { λ r. ⌜ r ≡ refuse (Anchored.passTests «table_length» «ankr_length» takes) ⌝ }
+{
+    if let Check::Refused(why) = answers::refuse_table(table_length) {
+        return Check::Refused(why);
+    }
+    if let Check::Refused(why) = anchors::refuse_anchors(ankr_length) {
+        return Check::Refused(why);
+    }
+    if !takes {
+        return Check::Refused(Refusal::Line);
+    }
+    Check::Passed
+}
+
+// The pass over a line, by the subtable at `start` of a list of this version and the choices made, with marks anchored by an ankr table.
+pub fn pass_anchored(
+    table: &[u8],
+    ankr: &[u8],
+    start: usize,
+    version: u16,
+    glyphs: &[u16],
+    tags: &[u16],
+    homes: &[u16],
+    used: usize,
+    along: &mut [i64],
+    x: &mut [i32],
+    y: &mut [i32],
+    back: &mut [u16],
+    choices: Choices,
+) -> Answer
+    ensures answer { λ r. ⌜ r ≡ Anchored.passCall (now (table .entry)) (now (ankr .entry)) start version (lineOf (now (glyphs .entry)) (now (tags .entry)) (now (homes .entry)) used) (now (along .entry)) (now (x .entry)) (now (y .entry)) (now (back .entry)) choices .answer ⌝ }
+    ensures along { λ _. ⌜ now (along .exit) ≡ addAll (Anchored.passCall (now (table .entry)) (now (ankr .entry)) start version (lineOf (now (glyphs .entry)) (now (tags .entry)) (now (homes .entry)) used) (now (along .entry)) (now (x .entry)) (now (y .entry)) (now (back .entry)) choices .additions) (now (along .entry)) ⌝ }
+    ensures x { λ _. ⌜ now (x .exit) ≡ writeX (Anchored.passCall (now (table .entry)) (now (ankr .entry)) start version (lineOf (now (glyphs .entry)) (now (tags .entry)) (now (homes .entry)) used) (now (along .entry)) (now (x .entry)) (now (y .entry)) (now (back .entry)) choices .writes) (now (x .entry)) ⌝ }
+    ensures y { λ _. ⌜ now (y .exit) ≡ writeY (Anchored.passCall (now (table .entry)) (now (ankr .entry)) start version (lineOf (now (glyphs .entry)) (now (tags .entry)) (now (homes .entry)) used) (now (along .entry)) (now (x .entry)) (now (y .entry)) (now (back .entry)) choices .writes) (now (y .entry)) ⌝ }
+    ensures back { λ _. ⌜ now (back .exit) ≡ writeBack (Anchored.passCall (now (table .entry)) (now (ankr .entry)) start version (lineOf (now (glyphs .entry)) (now (tags .entry)) (now (homes .entry)) used) (now (along .entry)) (now (x .entry)) (now (y .entry)) (now (back .entry)) choices .writes) (now (back .entry)) ⌝ }
+{
+    let takes = takes_pass(glyphs, tags, homes, used, along, x, y, back);
+    if let Check::Refused(why) = refuse_pass(table.len(), ankr.len(), takes) {
+        return Answer::Refused(why);
+    }
+    pass_with(
+        ankr,
+        parse::from(table, start),
+        version,
+        glyphs,
+        used,
+        along,
+        x,
+        y,
+        back,
+        choices,
+    )
+}
+
+// The machine of format 4, of a subtable of that format.
+fn machine_of(bytes: &[u8], version: u16, reading: Reading) -> Opened
+    ensures { λ r. ⌜ r ≡ machineOf (now (bytes .entry)) version reading ⌝ }
+{
+    let Head::At(subtable) = head_in(false, version, 0, bytes) else {
+        return Opened::Short;
+    };
+    if subtable.format != AnchorState::FORMAT {
+        return Opened::Short;
+    }
+    anchors_of(bytes, version, reading)
+}
+
+// A lone step of the machine of anchored marks, by the subtable at `start` of a list of this version and a reading, on a line of so many places.
+pub fn step_anchored(
+    state: AnchorState,
+    table: &[u8],
+    ankr: &[u8],
+    start: usize,
+    version: u16,
+    used: usize,
+    index: usize,
+    glyph: u16,
+    along: &[i64],
+    x: &mut [i32],
+    y: &mut [i32],
+    back: &mut [u16],
+    reading: Reading,
+) -> AnchorStep
+    ensures step { λ r. ⌜ r ≡ Anchored.stepCall (now (table .entry)) (now (ankr .entry)) start version state used index glyph (now (along .entry)) (now (x .entry)) (now (y .entry)) (now (back .entry)) reading ⌝ }
+    ensures x { λ _. ⌜ now (x .exit) ≡ writeX (Anchored.stepWrites (now (table .entry)) (now (ankr .entry)) start version state used index glyph (now (along .entry)) (now (x .entry)) (now (y .entry)) (now (back .entry)) reading) (now (x .entry)) ⌝ }
+    ensures y { λ _. ⌜ now (y .exit) ≡ writeY (Anchored.stepWrites (now (table .entry)) (now (ankr .entry)) start version state used index glyph (now (along .entry)) (now (x .entry)) (now (y .entry)) (now (back .entry)) reading) (now (y .entry)) ⌝ }
+    ensures back { λ _. ⌜ now (back .exit) ≡ writeBack (Anchored.stepWrites (now (table .entry)) (now (ankr .entry)) start version state used index glyph (now (along .entry)) (now (x .entry)) (now (y .entry)) (now (back .entry)) reading) (now (back .entry)) ⌝ }
+{
+    let bytes = parse::from(table, start);
+    let machine = machine_of(bytes, version, reading);
+    state.step(
+        table.len(),
+        ankr,
+        parse::from(bytes, kerx_machine::BODY),
+        machine,
+        used,
+        index,
+        glyph,
+        along,
+        x,
+        y,
+        back,
     )
 }

@@ -13,6 +13,7 @@ use Rattle.ligature.proofs.ActionTurns.{action-turns}
 use Rattle.ligature.proofs.EntryTurns.{entry-turns}
 use Rattle.insertion.proofs.Turns.{insertion-turns}
 use Rattle.kerning_machine.proofs.Turns.{kerning-turns}
+use Rattle.anchor_machine.proofs.Turns.{anchor-turns}
 use Rattle.morx.proofs.Heads.{heads-counted}
 use Rattle.morx.proofs.Requests.{no-requests, any-order, flags-as-manual}
 use Rattle.stored.specs.Entries.{newestVersion}
@@ -57,10 +58,17 @@ use Rattle.kern.proofs.Manual.{kern-as-manual, kern-without-list, kern-pair-as-
 use Rattle.kern_machine.proofs.Manual.{list-as-manual}
 use Rattle.kerx.proofs.Cursors as KerxCursor
 use Rattle.kerx.proofs.Manual.{kerx-as-manual, kerx-without-list, kerx-pair-as-manual, kerx-class-as-manual}
+use Rattle.kerx.proofs.ManualMarks.{marks-as-manual}
+use Rattle.kerx.proofs.Plain.{anchored-run, anchored-pass}
+use Rattle.kerx.proofs.Marked.{call-exact, run-in-range}
+use Rattle.anchors.proofs.Manual.{points-as-manual}
+use Rattle.anchor_machine.proofs.Manual.{record-by-manual, record-past-manual}
+use Rattle.anchor_machine.proofs.Exactly.{offset-exact}
 use Rattle.promises.specs.Demand1.{Demand1}
-use Rattle.promises.specs.Demand2.{Lookups, Reasons, Mends, StateTables, Verbs, SubtableLists, Chains, Features, Kerning, Choosing, Demand2}
+use Rattle.promises.specs.Demand2.{Lookups, Reasons, Mends, StateTables, Verbs, SubtableLists, Chains, Features, Kerning, Choosing, Marks, Demand2}
 use Rattle.promises.specs.Demand3.{Stored, Demand3}
 use Rattle.promises.proofs.Known.{known-answers, known-reasons, known-pairs}
+use Rattle.promises.proofs.KnownMarks.{known-marks}
 
 pub demand1 : Demand1
 demand1 =
@@ -76,6 +84,7 @@ demand1 =
       ligature-turns = ligature-turns;
       insertion-turns = insertion-turns;
       kerning-turns = kerning-turns;
+      anchor-turns = anchor-turns;
       entry-turns = λ bytes states index glyph class more state stack cycles made c.
           entry-turns bytes states index glyph class more 18 state stack cycles made c (omega arith);
       action-turns = λ bytes places depth more number at sum cycles glyphs made c.
@@ -212,6 +221,21 @@ choosing =
       known-pairs = known-pairs;
     }
 
+marks : Marks
+marks =
+    record {
+      offset-exact = offset-exact;
+      pass-exact = call-exact;
+      run-in-range = run-in-range;
+      anchored-run = anchored-run;
+      anchored-pass = anchored-pass;
+      marks-as-manual = marks-as-manual;
+      record-by-manual = record-by-manual;
+      record-past-manual = record-past-manual;
+      points-as-manual = points-as-manual;
+      known-marks = known-marks;
+    }
+
 pub demand2 : Demand2
 demand2 =
     record {
@@ -225,6 +249,7 @@ demand2 =
       features = features;
       kerning = kerning;
       choosing = choosing;
+      marks = marks;
       index-as-manual = index-as-manual;
       u8-from = u8-from;
       u16-from = u16-from;

@@ -22,6 +22,8 @@ use Rattle.ligature.specs.Calls.{ligature}
 use Rattle.insertion.specs.Calls.{insertion}
 use Rattle.kerning_machine.specs.Machine as KerningMachine
 use Rattle.kerning_machine.specs.declared.Kerning.{Kerning}
+use Rattle.anchor_machine.specs.Machine as AnchorMachine
+use Rattle.anchor_machine.specs.declared.Anchoring.{Anchoring}
 use Rattle.morx.specs.Heads.{Counted}
 use Rattle.morx.specs.Run.{ran}
 use Rattle.morx.specs.declared.Choices.{Choices}
@@ -53,6 +55,9 @@ pub record Demand1 : Type 0 where
   pub kerning-turns : (classes : ℕ → ℕ) (bytes : List ℕ) (kerning : Kerning) (glyphs : List ℕ) (used more : ℕ)
       → KerningMachine.passFrom classes bytes kerning glyphs used (more + KerningMachine.rest used KerningMachine.fresh 0) KerningMachine.fresh 0
       ≡ KerningMachine.passedBy classes bytes kerning glyphs used
+  pub anchor-turns : (classes : ℕ → ℕ) (ankr bytes : List ℕ) (anchoring : Anchoring) (glyphs : List ℕ) (used more : ℕ)
+      → AnchorMachine.passFrom classes ankr bytes anchoring glyphs used (more + AnchorMachine.rest used AnchorMachine.fresh 0) AnchorMachine.fresh 0
+      ≡ AnchorMachine.passedBy classes ankr bytes anchoring glyphs used
   -- nor are those on the entries of a ligature's step and on a list of its actions
   pub entry-turns : (bytes : List ℕ) (states : States) (index glyph class more state : ℕ) (stack : Ligature.Stack) (cycles : ℕ) (made : List Ligature.Ligation)
       → cycles ≤ 17

@@ -3,7 +3,7 @@
 -- not at hand: docs/DIFFERENCES.md says what stands in for it, and lists where the crate does otherwise, which the hypotheses here leave out.
 use Prim.Native.Nat.{ℕ, suc, _+_, _*_, _-_, _%_, _<_, _≤_}
 use mathlib.Core.Path.{_≡_}
-use mathlib.Core.Bool.{Bool, false}
+use mathlib.Core.Bool.{Bool, true, false}
 use mathlib.Core.List.{List, []}
 use lib.IntN.{ℤ}
 use lib.ListN.{length, getD, take, drop}
@@ -23,6 +23,7 @@ use Rattle.tables.specs.Order.{InOrder, FirstBad, Says, Holds, TheOne, firstOf,
 use Rattle.tables.specs.Reasons.{Because}
 use Rattle.tables.specs.Units.{lookupBy}
 use Rattle.tables.specs.ManualUnits.{FormatTen}
+use Rattle.tables.specs.declared.units.Reading.{Reading}
 use Rattle.tables.specs.declared.units.Reading.the-variants.{Crate, Manual}
 use Rattle.tables.specs.ManualLookup as Lookup
 use Rattle.tables.specs.declared.records.Format.the-variants.{Records}
@@ -103,7 +104,25 @@ use Rattle.promises.specs.Lists.{KernList, KerxList, ManualList, NoneOfT
 use Rattle.kerx.specs.Kerx.{kerx}
 use Rattle.kerx.specs.Kerx as Kerx′
 use Rattle.kerx.specs.Manual as Kerx
+use Rattle.anchors.specs.Manual as Ankr
+use Rattle.anchor_machine.specs.Writes.{areLong}
+use Rattle.anchor_machine.specs.Machine.{writtenBy, numbersOf}
+use Rattle.anchor_machine.specs.Exact.{Exact, ExactWrite, EachWrite}
+use Rattle.anchor_machine.specs.Manual.{actionType, actionTable, markPoint, currentPoint}
+use Rattle.anchor_machine.specs.declared.Anchoring.{Anchoring}
+use Rattle.anchor_machine.specs.declared.AnchorState.{AnchorState}
+use Rattle.anchor_machine.specs.declared.Numbers.the-variants as Numbers
+use Rattle.anchor_machine.specs.declared.Written.the-variants as Written
+use Rattle.anchor_machine.specs.declared.Opened.the-variants as Machine
+use Rattle.kerning.specs.declared.choices.Choices as Choices′
+use Rattle.kerning_lists.specs.declared.Subtable as Subtable′
+use Rattle.kerning_lists.specs.declared.Head.the-variants as Head
+use Rattle.kerx.specs.Heads.{headIn}
+use Rattle.kerx.specs.Anchored.{adding, machineOf}
+use Rattle.kerx.specs.Anchored as Anchored
+use Rattle.kerx.specs.Range.{InRange}
 use Rattle.promises.specs.Known.{AllKnown, KnownReasons, KnownPairs}
+use Rattle.promises.specs.KnownMarks.{KnownMarks}
 
 -- Lookup tables and their survey.
 pub record Lookups : Type 0 where
@@ -384,6 +403,45 @@ pub record Choosing : Type 0 where
   -- known cases by computation
   pub known-pairs : KnownPairs
 
+-- Anchored marks: format 4 of kerx, with an ankr table.
+pub record Marks : Type 0 where
+  -- what is written is exact: x and y are the marked glyph's point less the current glyph's, from -65,535 to 65,535, and the distance is the mark's, below
+  -- 255
+  pub offset-exact : (ankr : List ℕ) (reading : Reading) (s : AnchorState) (index glyph mark current : ℕ) {x y : ℤ} {back : ℕ}
+      → writtenBy ankr reading s index glyph (Numbers.At mark current) ≡ Written.At x y back → Exact ankr reading s index glyph mark current x y back
+  -- so is each write of a pass, at a place of its line, by the mark that stands there: it has the glyph of the place where it was set, which is not ahead,
+  -- or is place 0 with glyph 0 before any
+  pub pass-exact : (table ankr : List ℕ) (start version : ℕ) (l : Line) (along x y : List ℤ) (back : List ℕ) (choices : Choices′.Choices)
+      → EachWrite (ExactWrite ankr (choices .reading) (l .glyphs) (l .used)) (Anchored.passCall table ankr start version l along x y back choices .writes)
+  -- and what a run leaves is in that range
+  pub run-in-range : (ankr bytes : List ℕ) (rtl : Bool) (glyphs : List ℕ) (used : ℕ) (along x y : List ℤ) (back : List ℕ) (choices : Choices′.Choices)
+      → InRange used (Anchored.ranWith ankr bytes rtl glyphs used along x y back choices)
+  -- answer, heads and adjustments of an anchored run are those of the run without anchors, whatever the ankr table, where that is no longer than a table
+  -- may be and the three slices are as long as the room
+  pub anchored-run : (table ankr : List ℕ) (start : ℕ) (l : Line) (along x y : List ℤ) (back : List ℕ) (choices : Choices′.Choices) → length ankr ≤ tableLimit
+      → areLong (length (l .glyphs)) x y back ≡ true → (rtl : Bool)
+      → Anchored.runCall table ankr start rtl l along x y back choices .ran ≡ Family′.runCall kerx table start rtl l along choices
+  -- and an anchored pass by a subtable that is not of format 4 is the pass without anchors, and writes nothing to them
+  pub anchored-pass : (table ankr : List ℕ) (start : ℕ) (l : Line) (along x y : List ℤ) (back : List ℕ) (choices : Choices′.Choices) → length ankr ≤ tableLimit
+      → areLong (length (l .glyphs)) x y back ≡ true → (version : ℕ)
+      → ((s : Subtable′.Subtable) → headIn false version 0 (drop start table) ≡ Head.At s → s .format ≡ 4 → ⊥)
+      → Anchored.passCall table ankr start version l along x y back choices ≡ adding (Family′.passCall kerx table start version l along choices)
+  -- the state table begins 12 bytes into the subtable, and action type and action table are told behind its head, as the manual says
+  pub marks-as-manual : (bytes : List ℕ) (version : ℕ) {states : States} → Kerx.HasFormat bytes 4 32 → extendedBy Crate (drop 12 bytes) ≡ Ready states
+      → machineOf bytes version Crate
+      ≡ Machine.Ready (record { states = states; reading = Crate; action = actionType (drop 12 bytes); control = actionTable (drop 12 bytes) })
+  -- record i of the action table lies where the manual says, and is that of index 2 i; one past the table can't be read
+  pub record-by-manual : (bytes : List ℕ) (anchoring : Anchoring) (i : ℕ) → anchoring .action ≡ 1 → anchoring .control ≡ actionTable bytes
+      → actionTable bytes + i * 4 + 4 ≤ length bytes → numbersOf bytes anchoring (i * 2) ≡ Numbers.At (markPoint bytes i) (currentPoint bytes i)
+  pub record-past-manual : (bytes : List ℕ) (anchoring : Anchoring) (i : ℕ) → anchoring .action ≡ 1 → anchoring .control ≡ actionTable bytes
+      → length bytes < actionTable bytes + i * 4 + 4 → numbersOf bytes anchoring (i * 2) ≡ Numbers.Short
+  -- a glyph's points lie where the manual says, by a lookup that crate and manual read alike
+  pub points-as-manual : (ankr : List ℕ) (glyphs glyph : ℕ) (layout : Lookup.Layout) (number : ℕ) → 12 ≤ length ankr
+      → readU16 (Ankr.lookupPart ankr) 0 ≡ U16.Got (Lookup.formatNumber layout) → Lookup.Alike (Ankr.lookupPart ankr) glyphs glyph layout
+      → Ankr.AsManual ankr glyphs glyph layout number
+  -- known cases by computation
+  pub known-marks : KnownMarks
+
 pub record Demand2 : Type 0 where
   pub lookups : Lookups
   pub reasons : Reasons
@@ -395,6 +453,7 @@ pub record Demand2 : Type 0 where
   pub features : Features
   pub kerning : Kerning
   pub choosing : Choosing
+  pub marks : Marks
   -- the index of a language is that of the first tag whose bytes are the name; it is found where all tags up to it lie in the table, none of them empty at
   -- its end
   pub index-as-manual : (table : List ℕ) (start : ℕ) (name : List ℕ) → length table ≤ tableLimit

@@ -70,6 +70,16 @@ impl Surveyor<'_> {
                 }
                 Some(())
             }
+            (Kerning::Kerx, 4) => {
+                self.machine(body, 1)?;
+                self.holds("its flags", body + 16, 4)?;
+                let action = long(self.table, body + 16)? >> 30;
+                self.say(format!("      marks that are anchored by actions of type {}", action));
+                if action != 1 {
+                    self.fault("action", format!("its actions, of type {}, do nothing (row 58)", action));
+                }
+                Some(())
+            }
             (Kerning::Kern, 2 | 3) | (Kerning::Kerx, 6) => {
                 self.fault("format", format!("its format {} is not taken and adds nothing (row 47)", subtable.format));
                 None
