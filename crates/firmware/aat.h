@@ -49,7 +49,7 @@ typedef __SIZE_TYPE__ size_t;
 #endif
 
 /* Rises with every entry or value that is added; what is there stays. */
-#define AAT_VERSION 11
+#define AAT_VERSION 12
 
 #ifdef __cplusplus
 extern "C" {
@@ -325,12 +325,42 @@ uint32_t aat_morx_next_feature(const uint8_t *table, size_t table_len, uint64_t 
 uint32_t aat_morx_next_subtable(const uint8_t *table, size_t table_len, uint64_t cursor[AAT_CURSOR],
                                 uint64_t fields[AAT_SUBTABLE_FIELDS]);
 
-/* The order in which a subtable of this coverage wants the glyphs. It is always AAT_DONE.
+/* The order in which a subtable of this morx coverage wants the glyphs; a mort coverage has other bits. It is always AAT_DONE.
    Writes: order: 0 layout, 1 reverse layout, 2 logical, 3 reverse logical. */
 uint32_t aat_morx_order(uint32_t coverage, uint32_t *order);
 
-/* Whether a line is turned for a subtable of this coverage. It is always AAT_DONE. Writes: reversed: 1 or 0. */
+/* Whether a line is turned for a subtable of this morx coverage. It is always AAT_DONE. Writes: reversed: 1 or 0. */
 uint32_t aat_morx_should_reverse(uint32_t coverage, uint32_t right_to_left, uint32_t *reversed);
+
+/* mort, the earlier edition of morx
+
+   A chain's counts of features and subtables have 16 bits each, a subtable has a head of 8 bytes: length and coverage, of 16
+   bits each, and flags. Of the coverage 0x8000 is for vertical text alone, unless 0x2000 is set, 0x4000 is descending order,
+   and the low three bits are the kind; the others are not looked at. Two kinds are taken: rearrangement (0), over the classic
+   state table, and non-contextual substitution (4), by a lookup whose format 10 obeys its unit size. The cursor at the chains
+   is aat_morx_chains', and features are aat_morx_next_feature's. */
+
+/* The pass of whichever of the two kinds the subtable is. A state table that can't be opened, class count 0, a new state below
+   the state array and every other read that fails in the state table are AAT_ENDED; AAT_HEAD is for a head that is cut short,
+   a kind that is not taken and a start past the table.
+   Answers: AAT_DONE; AAT_ENDED, with what was done before; AAT_TABLE, AAT_LINE, AAT_HEAD.
+   Writes: glyphs; tags, which move with them in rearrangement. homes and used stay as they are. */
+uint32_t aat_mort_pass(const uint8_t *table, size_t table_len, size_t start, uint16_t *glyphs, size_t glyphs_len,
+                       uint16_t *tags, size_t tags_len, uint16_t *homes, size_t homes_len, size_t *used);
+
+/* Runs the mort table at start over the line, with features that are asked for, as aat_morx_run_with runs a morx table. The
+   kinds that are not taken are passed over, and their heads are counted.
+   Answers and writes: as aat_morx_run_with, but that it is never AAT_FULL, and homes and used stay as they are. */
+uint32_t aat_mort_run(const uint8_t *table, size_t table_len, size_t start, uint32_t right_to_left, const uint32_t *requests,
+                      size_t requests_len, uint16_t *glyphs, size_t glyphs_len, uint16_t *tags, size_t tags_len,
+                      uint16_t *homes, size_t homes_len, size_t *used, uint32_t *heads);
+
+/* The next chain and the next subtable, as those of a morx table; a subtable's kind is that of three bits, and its order layout
+   or reverse layout. */
+uint32_t aat_mort_next_chain(const uint8_t *table, size_t table_len, uint64_t cursor[AAT_CURSOR],
+                             uint64_t fields[AAT_CHAIN_FIELDS]);
+uint32_t aat_mort_next_subtable(const uint8_t *table, size_t table_len, uint64_t cursor[AAT_CURSOR],
+                                uint64_t fields[AAT_SUBTABLE_FIELDS]);
 
 /* Kerning
 

@@ -77,6 +77,10 @@
                                back, length 8, version 2,
                                start 8, index 8, glyph 2,
                                advance 8, choices 4
+      53 mort_run              as 48                             as 14
+      54 mort_pass             as 8                              as 12
+      55 mort_next_chain       as 28                             as 28
+      56 mort_next_subtable    as 28                             as 28
 
    A name or a buffer is its length 4 and the bytes. Glyphs, tags, homes and new numbers of records are each a count 4 and so many
    numbers 2, and so are distances back; the adjustments along the line are a count 4 and so many numbers 8, x and y each a count
@@ -183,6 +187,13 @@ static size_t take_bytes(uint8_t *bytes, size_t most) {
     size_t len = take(4);
     if (len > most) exit(1);
     for (size_t i = 0; i < len; i++) bytes[i] = take_byte();
+    return len;
+}
+
+static size_t take_words(uint32_t *words, size_t most) {
+    size_t len = take(4);
+    if (len > most) exit(1);
+    for (size_t i = 0; i < len; i++) words[i] = (uint32_t)take(4);
     return len;
 }
 
@@ -370,19 +381,25 @@ static void morx_run(void) {
     put(used, 8);
 }
 
-static void morx_run_with(void) {
+typedef uint32_t run_with_requests(const uint8_t *, size_t, size_t, uint32_t, const uint32_t *, size_t, uint16_t *, size_t,
+                                   uint16_t *, size_t, uint16_t *, size_t, size_t *, uint32_t *);
+
+static void run_with(run_with_requests *entry) {
     take_pass();
     uint32_t right_to_left = (uint32_t)take(4);
     uint32_t heads = (uint32_t)take(4);
-    size_t requests_len = take(4);
-    if (requests_len > sizeof requests / sizeof requests[0]) exit(1);
-    for (size_t i = 0; i < requests_len; i++) requests[i] = (uint32_t)take(4);
-    put(aat_morx_run_with(table, table_len, start, right_to_left, requests, requests_len, glyphs.numbers, glyphs.len, tags.numbers,
-                          tags.len, homes.numbers, homes.len, &used, &heads),
+    size_t requests_len = take_words(requests, sizeof requests / sizeof requests[0]);
+    put(entry(table, table_len, start, right_to_left, requests, requests_len, glyphs.numbers, glyphs.len, tags.numbers, tags.len,
+              homes.numbers, homes.len, &used, &heads),
         4);
     put_line();
     put(heads, 4);
     put(used, 8);
+}
+
+static void mort_pass(void) {
+    take_pass();
+    put_growing_pass(aat_mort_pass(TABLE_AND_LINE, &used));
 }
 
 static void rearrangement_step(void) {
@@ -714,11 +731,15 @@ static void answer(uint8_t call) {
     case 45: mend(); break;
     case 46: store_line(); break;
     case 47: read_line(); break;
-    case 48: morx_run_with(); break;
+    case 48: run_with(aat_morx_run_with); break;
     case 49: kerx_one_by(); break;
     case 50: kerx_pass_anchored(); break;
     case 51: kerx_run_anchored(); break;
     case 52: anchor_step(); break;
+    case 53: run_with(aat_mort_run); break;
+    case 54: mort_pass(); break;
+    case 55: next(aat_mort_next_chain, 2, 6); break;
+    case 56: next(aat_mort_next_subtable, 2, 6); break;
     default: exit(1);
     }
 }

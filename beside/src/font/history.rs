@@ -4,6 +4,7 @@ use crate::font::met::{Rows, Subtable};
 use crate::font::show::{more, Look};
 use crate::reference::anchored::{Mark, Marks};
 use crate::reference::anchored_by_copy as anchored;
+use crate::reference::carried::Moved;
 use crate::reference::kerning::{self, Kerned};
 use crate::reference::kerning_by_copy::{machines, Machine};
 use crate::reference::line::Line;
@@ -15,7 +16,7 @@ use crate::reference::oracle::{caught_as_none, Answer, Fault};
 use crate::reference::pass::{make_steps, stepped};
 use crate::reference::run::{Run, Visit};
 use crate::reference::steps_by_copy::verb_of;
-use crate::reference::{kerning_run, line};
+use crate::reference::{kerning_run, line, mort};
 
 /// An edit of a line, the glyph that a write puts over another, the number that kerning adds, or a mark that is anchored.
 enum Edit {
@@ -29,6 +30,19 @@ enum Edit {
 }
 
 impl Edit {
+    /// What the history has of it.
+    fn moved(&self) -> Option<Moved> {
+        Some(match self {
+            Edit::Window { first, last, verb } => Moved::Window { first: *first, last: *last, verb: *verb },
+            Edit::Reversal => Moved::Reversal,
+            Edit::Insertion { place, glyphs } => Moved::Insertion { place: *place, count: glyphs.len() },
+            Edit::Ligature { place, components, .. } => {
+                Moved::Ligature { place: *place, components: components.clone() }
+            }
+            Edit::Write { .. } | Edit::Addition { .. } | Edit::Mark { .. } => return None,
+        })
+    }
+
     fn describe(&self, look: &Look) -> String {
         let named = |glyphs: &[u16]| glyphs.iter().map(|glyph| look.called(*glyph)).collect::<Vec<_>>().join(" ");
         match self {
@@ -50,6 +64,16 @@ impl Edit {
             Edit::Mark { place, mark: (x, y, back) } => format!("mark at {}: {} {}, {} back", place, x, y, back),
         }
     }
+}
+
+/// What a run of a morx table by the crate's copy adds to the history, which it makes.
+pub fn moves_of(run: &Run, line: &mut Line) -> Result<Vec<Moved>, Fault> {
+    let (mut left, mut moves, mut fault) = (line.clone(), Vec::new(), None);
+    run.make(line, &mut |visit, _| match tell_visit(&visit, &mut left) {
+        Ok(told) => moves.extend(told.edits.iter().filter_map(|(_, edit)| edit.moved())),
+        Err(other) => fault = Some(other),
+    })?;
+    fault.or((left != *line).then_some(Fault::Disputed)).map_or(Ok(moves), Err)
 }
 
 /// What a subtable did: which it is, whether it was at work, and its edits, each with the place of its step.
@@ -140,6 +164,22 @@ pub fn tell_morx(run: &Run, line: &mut Line, look: &Look, rows: &Rows) -> Result
     let (answer, heads) = run.make(line, show)?;
     teller.end(answer, heads);
     fault.or((left != *line).then_some(Fault::Disputed)).map_or(Ok(()), Err)
+}
+
+/// Tells the history of a run of a mort table, by its model.
+pub fn tell_mort(run: &Run, line: &mut Line, look: &Look) {
+    let mut edits = Vec::new();
+    let (answer, heads) = mort::run(run, line, &mut |edit| edits.push(edit));
+    println!("mort: edits: {}", edits.len());
+    for edit in edits.iter().take(look.most) {
+        match edit {
+            Moved::Window { first, last, verb } => {
+                println!("  window {} to {}, verb {}: {}", first, last, verb, line::drawn(*verb))
+            }
+            _ => println!("  reversal of the line"),
+        }
+    }
+    Teller { look, rows: &Rows::new(), told: 0 }.end(answer, heads);
 }
 
 fn tell_visit(visit: &Visit, line: &mut Line) -> Result<Told, Fault> {

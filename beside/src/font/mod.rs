@@ -4,7 +4,7 @@
 mod characters;
 mod desk;
 mod hb_shape;
-mod history;
+pub mod history;
 mod inventory;
 mod kerning_heads;
 mod met;

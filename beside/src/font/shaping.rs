@@ -1,6 +1,6 @@
 //! A font's tables for shaping, and what the crate and the box make of a line by them.
 
-use crate::font::history::{tell_kerning, tell_morx};
+use crate::font::history::{tell_kerning, tell_mort, tell_morx};
 use crate::font::met::{Met, Rows, Spot};
 use crate::font::sfnt::Font;
 use crate::font::show::Look;
@@ -14,7 +14,7 @@ use crate::reference::line::{Line, LARGEST_ROOM};
 use crate::reference::oracle::{self, Fault, LONGEST_TABLE};
 use crate::reference::pass::line_of;
 use crate::reference::shaper::SHAPER_ROOM;
-use crate::reference::{kerning_run, run};
+use crate::reference::{kerning_run, mort, run};
 use crate::wire::along::along_of;
 use crate::wire::entries::Entry;
 use crate::wire::pipe::{lend_bytes, lend_requests, lend_table, TheBox};
@@ -26,6 +26,8 @@ use std::io;
 pub struct Tables {
     pub glyphs: Option<u16>,
     morx: Option<Vec<u8>>,
+    /// The earlier edition, where there is no morx.
+    mort: Option<Vec<u8>>,
     kerx: Option<Vec<u8>>,
     kern: Option<Vec<u8>>,
     ltag: Option<Vec<u8>>,
@@ -76,16 +78,19 @@ impl Tables {
             None => Ok(None),
         };
         let (morx, kerx, kern, ltag) = (table(b"morx")?, table(b"kerx")?, table(b"kern")?, table(b"ltag")?);
-        if [&morx, &kerx, &kern, &ltag].iter().all(|table| table.is_none()) {
-            return Err("it has none of the tables morx, kerx, kern and ltag".into());
+        let mort = if morx.is_none() { table(b"mort")? } else { None };
+        if [&morx, &mort, &kerx, &kern, &ltag].iter().all(|table| table.is_none()) {
+            return Err("it has none of the tables morx, mort, kerx, kern and ltag".into());
         }
         // It is lent as a slice of its own.
         let ankr = table(b"ankr")?.map_or(Vec::new(), |table| table[ALONE_AT..].to_vec());
-        Ok(Tables { glyphs: font.glyphs(), morx, kerx, kern, ltag, ankr, requests: Vec::new() })
+        Ok(Tables { glyphs: font.glyphs(), morx, mort, kerx, kern, ltag, ankr, requests: Vec::new() })
     }
 
+    /// All tables; mort where it is there, which takes the place of morx.
     fn all(&self) -> [(&'static str, &Option<Vec<u8>>); 4] {
-        [("morx", &self.morx), ("kerx", &self.kerx), ("kern", &self.kern), ("ltag", &self.ltag)]
+        let first = if self.mort.is_some() { ("mort", &self.mort) } else { ("morx", &self.morx) };
+        [first, ("kerx", &self.kerx), ("kern", &self.kern), ("ltag", &self.ltag)]
     }
 
     /// Those that are there, with their names, as they are lent.
@@ -109,7 +114,8 @@ impl Tables {
 
     /// Those for shaping with their names, as a font has them.
     pub fn named(&self) -> Vec<([u8; 4], Vec<u8>)> {
-        let tables = [(*b"morx", &self.morx), (*b"kerx", &self.kerx), (*b"kern", &self.kern)];
+        let tables =
+            [(*b"morx", &self.morx), (*b"mort", &self.mort), (*b"kerx", &self.kerx), (*b"kern", &self.kern)];
         tables.into_iter().filter_map(|(name, table)| Some((name, table.as_ref()?[ALONE_AT..].to_vec()))).collect()
     }
 
@@ -119,7 +125,8 @@ impl Tables {
         tables.into_iter().filter_map(|(kerning, table)| Some((kerning, table.as_ref()?)))
     }
 
-    /// The line by the crate: first morx, then each table of kerning on what it left; kerx in the manual's reading by its model.
+    /// The line by the crate: first morx, then each table of kerning on what it left; mort, and kerx in the manual's reading, by their
+    /// models.
     pub fn by_crate(&self, glyphs: &[u16], right_to_left: bool, choices: Choices) -> Result<Shaped, Fault> {
         let mut shaped = Shaped::of(lent_line(glyphs));
         if let Some(table) = &self.morx {
@@ -129,6 +136,14 @@ impl Tables {
                 None => run.make(&mut shaped.line, &mut |_, _| {})?,
             };
             shaped.runs.push(("morx", answer.number(), heads));
+        }
+        if let Some(table) = &self.mort {
+            let run = run::Run { table, start: START, right_to_left, requests: &self.requests };
+            let (answer, heads) = match run.refusal(&shaped.line) {
+                Some(refusal) => (refusal, 0),
+                None => mort::run(&run, &mut shaped.line, &mut |_| {}),
+            };
+            shaped.runs.push(("mort", answer.number(), heads));
         }
         for (kerning, table) in self.kernings() {
             let run = kerning_run::Run { kerning, table, start: START, right_to_left, choices };
@@ -200,9 +215,15 @@ impl Tables {
     ) -> io::Result<Shaped> {
         let mut shaped = Shaped::of(lent_line(glyphs));
         let direction = u32::from(right_to_left).to_le_bytes();
-        if let Some(table) = &self.morx {
-            let is_plain = self.requests.is_empty();
-            let mut call = call_of(table, if is_plain { Entry::MorxRun } else { Entry::MorxRunWith });
+        let editions = [("morx", &self.morx), ("mort", &self.mort)];
+        for (name, table) in editions.into_iter().filter_map(|(name, table)| Some((name, table.as_ref()?))) {
+            let is_plain = self.requests.is_empty() && name == "morx";
+            let entry = match name {
+                "mort" => Entry::MortRun,
+                _ if is_plain => Entry::MorxRun,
+                _ => Entry::MorxRunWith,
+            };
+            let mut call = call_of(table, entry);
             shaped.line.lend(&mut call);
             call.extend(START.to_le_bytes());
             call.extend([direction, [0; 4]].concat());
@@ -213,7 +234,7 @@ impl Tables {
             let (line, rest) = reply.split_at(line_bytes(&shaped.line));
             read_line(&mut shaped.line, line);
             shaped.line.used = number(&rest[4..]);
-            shaped.runs.push(("morx", number(&line[..4]) as u32, number(&rest[..4]) as u32));
+            shaped.runs.push((name, number(&line[..4]) as u32, number(&rest[..4]) as u32));
         }
         for (kerning, table) in self.kernings() {
             if self.anchors_marks(kerning) {
@@ -285,6 +306,11 @@ impl Tables {
             );
             add(met);
         }
+        if let Some(table) = &self.mort {
+            // No row is looked at, but what follows is at work on what mort leaves.
+            let run = run::Run { table, start: START, right_to_left, requests: &self.requests };
+            mort::run(&run, &mut line, &mut |_| {});
+        }
         for (kerning, table) in self.kernings() {
             let mut met = Met::new(table, self.glyphs);
             met_kerning::watch(
@@ -313,6 +339,10 @@ impl Tables {
         if let Some(table) = &self.morx {
             let run = run::Run { table, start: START, right_to_left, requests: &self.requests };
             tell_morx(&run, &mut line, look, rows).map_err(in_words)?;
+        }
+        if let Some(table) = &self.mort {
+            let run = run::Run { table, start: START, right_to_left, requests: &self.requests };
+            tell_mort(&run, &mut line, look);
         }
         for (kerning, table) in self.kernings() {
             let run = kerning_run::Run { kerning, table, start: START, right_to_left, choices: Choices::NONE };

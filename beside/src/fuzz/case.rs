@@ -3,12 +3,15 @@
 use crate::fuzz::source::Source;
 use crate::questions::{part_of, Question};
 use crate::reference::kerning::Kerned;
+use crate::reference::lists_by_copy::chains_from;
+use crate::reference::mort;
 use crate::reference::oracle::aat::{kern, kerx, morx::chains};
 use crate::reference::oracle::Fault;
 use crate::reference::step::Told;
 use crate::wire::entries::{Entry, ENTRIES};
 use crate::wire::hex;
 use crate::wire::pipe::lend_table;
+use std::iter::successors;
 
 /// A question about a table.
 pub struct Case {
@@ -65,6 +68,20 @@ impl Case {
                     left = left.saturating_sub(1 + chain.subtables().take(left).count());
                     left == 0
                 })
+            }
+            Entry::MortRun => {
+                let mut left = MOST_HEADS;
+                let mut chains = chains_from(table, self.start);
+                while let Some((chain, behind)) = mort::next_chain(table, chains) {
+                    let subtables =
+                        successors(Some(chain.subtables), |list| Some(mort::next_subtable(table, *list)?.1));
+                    left = left.saturating_sub(subtables.take(left).count());
+                    chains = behind;
+                    if left == 0 {
+                        return true;
+                    }
+                }
+                false
             }
             Entry::KernRun | Entry::KernRunBy => kern::subtables(table, start).take(MOST_HEADS).count() == MOST_HEADS,
             Entry::KerxRun | Entry::KerxRunBy | Entry::KerxRunAnchored => {

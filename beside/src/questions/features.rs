@@ -22,7 +22,7 @@ use std::ops::Range;
 use std::rc::Rc;
 
 /// A feature as bytes: type, setting, the flags that it sets, and those that it keeps.
-fn feature(kind: u16, setting: u16, enables: u32, keeps: u32) -> Vec<u8> {
+pub fn feature(kind: u16, setting: u16, enables: u32, keeps: u32) -> Vec<u8> {
     [request(kind, setting), enables, keeps].map(u32::to_be_bytes).concat()
 }
 
@@ -306,7 +306,7 @@ const KINDS: [u16; 4] = [0, 1, 3, 37];
 const SETTINGS: [u16; 4] = [0, 1, 2, 3];
 
 /// So many features with few types, settings and flags.
-fn any_features(random: &mut Random, count: usize) -> Vec<u8> {
+pub fn any_features(random: &mut Random, count: usize) -> Vec<u8> {
     let any = |_| {
         let some = random.number() as u32;
         let flags = [0, 1, 2, 3, 0x8000_0000, 0x8000_0001, some];

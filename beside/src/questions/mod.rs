@@ -20,6 +20,9 @@ pub mod lists;
 pub mod lone_insertion;
 pub mod lookup;
 pub mod mended;
+pub mod mort_lists;
+pub mod mort_passes;
+pub mod mort_runs;
 pub mod passes;
 pub mod reasons;
 pub mod runs;
@@ -149,6 +152,9 @@ pub static PARTS: &[&dyn Part] = &[
     &features::Features,
     &kerx_manual::Manual,
     &anchored::AnchoredMarks,
+    &mort_lists::Lists,
+    &mort_passes::Passes,
+    &mort_runs::Runs,
 ];
 
 /// The part that an entry belongs to.

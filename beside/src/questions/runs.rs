@@ -105,7 +105,7 @@ impl Question for MorxRun {
 }
 
 /// The features that are asked for in words.
-fn describe_requests(requests: &[u32]) -> String {
+pub fn describe_requests(requests: &[u32]) -> String {
     let requests: Vec<String> =
         requests.iter().map(|request| format!("{}:{}", request >> 16, request & 0xFFFF)).collect();
     format!(", requests {}", describe(&requests))

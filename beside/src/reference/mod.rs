@@ -2,6 +2,7 @@
 
 pub mod anchored;
 pub mod anchored_by_copy;
+pub mod carried;
 pub mod kerning;
 pub mod kerning_by_copy;
 pub mod kerning_choices;
@@ -13,6 +14,8 @@ pub mod line;
 pub mod lists_by_copy;
 pub mod ltag;
 pub mod mended;
+pub mod mort;
+pub mod mort_as_morx;
 pub mod opened;
 pub mod oracle;
 pub mod pass;

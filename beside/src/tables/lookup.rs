@@ -284,9 +284,12 @@ fn place_elements(random: &mut Random, records: &mut [Record]) -> Vec<u8> {
     random.bytes((place - behind).min(4_000))
 }
 
-/// Often changes, cuts or lengthens the bytes.
+/// Often changes, cuts or lengthens the bytes, if there are any.
 pub fn damage(random: &mut Random, lookup: &mut Vec<u8>) {
     let length = lookup.len();
+    if length == 0 {
+        return;
+    }
     match random.below(12) {
         0 => (0..4).for_each(|_| change_byte(random, lookup, length)),
         1 => change_byte(random, lookup, length.min(12)),

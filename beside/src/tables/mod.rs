@@ -11,6 +11,7 @@ pub mod language;
 pub mod ligature;
 pub mod lines;
 pub mod lookup;
+pub mod mort;
 pub mod morx;
 pub mod noncontextual;
 pub mod random;

@@ -68,4 +68,8 @@ entries! {
     KerxPassAnchored "aat_kerx_pass_anchored",
     KerxRunAnchored "aat_kerx_run_anchored",
     AnchorStep "aat_anchor_step",
+    MortRun "aat_mort_run",
+    MortPass "aat_mort_pass",
+    MortNextChain "aat_mort_next_chain",
+    MortNextSubtable "aat_mort_next_subtable",
 }

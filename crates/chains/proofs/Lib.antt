@@ -1,4 +1,5 @@
 -- Laws of the heads of a morx table.
+mod Editions
 mod Starts
 pub mod Manual
 pub mod Switching

@@ -10,6 +10,7 @@ use Rattle.answers.specs.declared.Answer.the-variants as Answer′
 use Rattle.answers.specs.declared.Check.{Check}
 use Rattle.answers.specs.declared.Check.the-variants as Check′
 use Rattle.chains.specs.Lists.{chainsFrom, nextChain, nextFeature, nextSubtable}
+use Rattle.chains.specs.declared.Edition.{Edition}
 use Rattle.chains.specs.declared.Cursor.{Cursor}
 use Rattle.chains.specs.declared.ChainStart.{ChainStart}
 use Rattle.chains.specs.declared.ChainStart.the-variants as Chains′
@@ -43,8 +44,8 @@ abbrev pub chainBy : Check → NextChain → ChainReply
 chainBy Check′.Passed next = Chain′.Next next
 chainBy (Check′.Refused why) next = Chain′.Refused why
 
-unfoldable pub chainCall : List ℕ → Cursor → ChainReply
-chainCall table c = chainBy (refuse (tableTest (length table) ∷ [])) (nextChain table c)
+unfoldable pub chainCall : Edition → List ℕ → Cursor → ChainReply
+chainCall edition table c = chainBy (refuse (tableTest (length table) ∷ [])) (nextChain edition table c)
 
 abbrev pub featureBy : Check → NextFeature → FeatureReply
 featureBy Check′.Passed next = Feature′.Next next
@@ -57,8 +58,8 @@ abbrev pub subtableBy : Check → NextSubtable → SubtableReply
 subtableBy Check′.Passed next = Subtable′.Next next
 subtableBy (Check′.Refused why) next = Subtable′.Refused why
 
-unfoldable pub subtableCall : List ℕ → Cursor → SubtableReply
-subtableCall table c = subtableBy (refuse (tableTest (length table) ∷ [])) (nextSubtable table c)
+unfoldable pub subtableCall : Edition → List ℕ → Cursor → SubtableReply
+subtableCall edition table c = subtableBy (refuse (tableTest (length table) ∷ [])) (nextSubtable edition table c)
 
 -- the answers: the end of a list is DONE, too
 abbrev pub chainsAnswer : ChainStart → Answer

@@ -2,6 +2,7 @@
 use Prim.Native.Nat.{ℕ, zero, suc}
 use mathlib.Core.List.{List}
 use Rattle.chains.specs.Lists.{nextChain, nextFeature, nextSubtable}
+use Rattle.chains.specs.declared.Edition.{Edition}
 use Rattle.chains.specs.declared.Cursor.{Cursor}
 use Rattle.chains.specs.declared.NextChain.{NextChain}
 use Rattle.chains.specs.declared.NextChain.the-variants as Chain′
@@ -25,14 +26,14 @@ module _ (table : List ℕ) where
   behindSubtable Subtable′.End c = c
 
   -- the cursor behind the first so many elements
-  unfoldable pub afterChains : ℕ → Cursor → Cursor
-  afterChains zero c = c
-  afterChains (suc n) c = behindChain (nextChain table (afterChains n c)) (afterChains n c)
+  unfoldable pub afterChains : Edition → ℕ → Cursor → Cursor
+  afterChains edition zero c = c
+  afterChains edition (suc n) c = behindChain (nextChain edition table (afterChains edition n c)) (afterChains edition n c)
 
   unfoldable pub afterFeatures : ℕ → Cursor → Cursor
   afterFeatures zero c = c
   afterFeatures (suc n) c = behindFeature (nextFeature table (afterFeatures n c)) (afterFeatures n c)
 
-  unfoldable pub afterSubtables : ℕ → Cursor → Cursor
-  afterSubtables zero c = c
-  afterSubtables (suc n) c = behindSubtable (nextSubtable table (afterSubtables n c)) (afterSubtables n c)
+  unfoldable pub afterSubtables : Edition → ℕ → Cursor → Cursor
+  afterSubtables edition zero c = c
+  afterSubtables edition (suc n) c = behindSubtable (nextSubtable edition table (afterSubtables edition n c)) (afterSubtables edition n c)

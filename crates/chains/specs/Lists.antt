@@ -1,11 +1,13 @@
--- The crate's iterators over chains, features and subtables, as cursors. Places are those of the whole table.
+-- The crate's iterators over chains, features and subtables, as cursors, and the same over a mort table. Places are those of the whole table.
 use Prim.Native.Nat.{ℕ, _+_, _*_, _-_}
 use mathlib.Core.Bool.{Bool, cond}
 use mathlib.Core.List.{List}
 use Rattle.laws.specs.Choose.{ifEq}
 use Rattle.parse.specs.Reads.{inside, u16At, u32At, readU32}
 use Rattle.parse.specs.Use.{onU32}
-use Rattle.chains.specs.Orders.{kindNumber, orderOf, isVertical}
+use Rattle.chains.specs.Orders.{kindNumber, orderIn, isVertical}
+use Rattle.chains.specs.declared.Edition.{Edition}
+use Rattle.chains.specs.declared.Edition.the-variants.{Morx, Mort}
 use Rattle.chains.specs.declared.Cursor.{Cursor}
 use Rattle.chains.specs.declared.Chain.{Chain}
 use Rattle.chains.specs.declared.Feature.{Feature}
@@ -28,21 +30,35 @@ chainCount table start = onU32 (readU32 table (start + 4)) (λ count. count) 0
 unfoldable pub chainsFrom : List ℕ → (start : ℕ) → Cursor
 chainsFrom table start = cursor (start + 8) (chainCount table start)
 
--- a chain's head has 16 bytes: default flags, length, number of features, number of subtables. Its features follow, of 12 bytes each,
--- then its subtables; the next chain begins where the length says
-unfoldable pub chainAt : List ℕ → (place left : ℕ) → Chain
-chainAt table place left =
+-- the numbers of features and subtables, and a subtable's length and coverage: 32 bits in morx, 16 in mort
+unfoldable pub width : Edition → ℕ
+width Morx = 4
+width Mort = 2
+
+unfoldable pub numberAt : Edition → List ℕ → (place : ℕ) → ℕ
+numberAt Morx table place = u32At table place
+numberAt Mort table place = u16At table place
+
+-- a chain's head has 16 bytes in morx and 12 in mort: default flags, length, of 32 bits each, number of features, number of subtables
+abbrev pub chainBytes : Edition → ℕ
+chainBytes edition = 8 + 2 * width edition
+
+-- its features follow, of 12 bytes each, then its subtables; the next chain begins where the length says
+unfoldable pub chainAt : Edition → List ℕ → (place left : ℕ) → Chain
+chainAt edition table place left =
     record {
       flags = u32At table place;
-      features = cursor (place + 16) (u32At table (place + 8));
-      subtables = cursor (place + 16 + u32At table (place + 8) * 12) (u32At table (place + 12));
+      features = cursor (place + chainBytes edition) (numberAt edition table (place + 8));
+      subtables =
+          cursor (place + chainBytes edition + numberAt edition table (place + 8) * 12) (numberAt edition table (place + (8 + width edition)));
       next = cursor (place + u32At table (place + 4)) left;
     }
 
 -- the next chain: none where the count is used up or its head does not lie in the table
-unfoldable pub nextChain : List ℕ → Cursor → NextChain
-nextChain table c =
-    ifEq (c .left) 0 Chain′.End (cond (inside table (c .place) 16) (Chain′.At (chainAt table (c .place) (c .left - 1))) Chain′.End)
+unfoldable pub nextChain : Edition → List ℕ → Cursor → NextChain
+nextChain edition table c =
+    ifEq (c .left) 0 Chain′.End
+    (cond (inside table (c .place) (chainBytes edition)) (Chain′.At (chainAt edition table (c .place) (c .left - 1))) Chain′.End)
 
 -- a feature has 12 bytes: type, setting, the flags that it enables, those that it does not disable
 unfoldable pub featureAt : List ℕ → (place left : ℕ) → Feature
@@ -59,19 +75,24 @@ unfoldable pub nextFeature : List ℕ → Cursor → NextFeature
 nextFeature table c =
     ifEq (c .left) 0 Feature′.End (cond (inside table (c .place) 12) (Feature′.At (featureAt table (c .place) (c .left - 1))) Feature′.End)
 
--- a subtable's head has 12 bytes: length, coverage, flags; the next one begins where the length says
-unfoldable pub subtableAt : List ℕ → (place left : ℕ) → Subtable
-subtableAt table place left =
+-- a subtable's head has 12 bytes in morx and 8 in mort: length, coverage, and flags, of 32 bits; the next one begins where the length says
+abbrev pub subtableBytes : Edition → ℕ
+subtableBytes edition = 2 * width edition + 4
+
+unfoldable pub subtableAt : Edition → List ℕ → (place left : ℕ) → Subtable
+subtableAt edition table place left =
+    let coverage : ℕ = numberAt edition table (place + width edition) in
     record {
       place = place;
-      coverage = u32At table (place + 4);
-      kind = kindNumber (u32At table (place + 4));
-      order = orderOf (u32At table (place + 4));
-      vertical = isVertical (u32At table (place + 4));
-      flags = u32At table (place + 8);
-      next = cursor (place + u32At table place) left;
+      coverage = coverage;
+      kind = kindNumber edition coverage;
+      order = orderIn edition coverage;
+      vertical = isVertical edition coverage;
+      flags = u32At table (place + 2 * width edition);
+      next = cursor (place + numberAt edition table place) left;
     }
 
-unfoldable pub nextSubtable : List ℕ → Cursor → NextSubtable
-nextSubtable table c =
-    ifEq (c .left) 0 Subtable′.End (cond (inside table (c .place) 12) (Subtable′.At (subtableAt table (c .place) (c .left - 1))) Subtable′.End)
+unfoldable pub nextSubtable : Edition → List ℕ → Cursor → NextSubtable
+nextSubtable edition table c =
+    ifEq (c .left) 0 Subtable′.End
+    (cond (inside table (c .place) (subtableBytes edition)) (Subtable′.At (subtableAt edition table (c .place) (c .left - 1))) Subtable′.End)

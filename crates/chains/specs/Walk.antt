@@ -3,6 +3,7 @@ use Prim.Native.Nat.{ℕ, zero, suc}
 use mathlib.Core.List.{List, [], _∷_}
 use Rattle.answers.specs.Limits.{headLimit}
 use Rattle.chains.specs.Lists.{cursor, chainsFrom, nextChain, nextSubtable}
+use Rattle.chains.specs.declared.Edition.{Edition}
 use Rattle.chains.specs.declared.Chain.{Chain}
 use Rattle.chains.specs.declared.Subtable.{Subtable}
 use Rattle.chains.specs.declared.NextChain.{NextChain}
@@ -28,18 +29,18 @@ subtableHead (Subtable′.At subtable) w otherwise = Next′.At (Head′.Subtabl
 subtableHead Subtable′.End w otherwise = otherwise
 
 -- the next head is the next subtable of the chain that the walk is in; where that list has ended, the next chain
-unfoldable pub nextHead : List ℕ → Walk → NextHead
-nextHead table w = subtableHead (nextSubtable table (w .subtables)) w (chainHead (nextChain table (w .chains)))
+unfoldable pub nextHead : Edition → List ℕ → Walk → NextHead
+nextHead edition table w = subtableHead (nextSubtable edition table (w .subtables)) w (chainHead (nextChain edition table (w .chains)))
 
 -- the heads from somewhere on, at most so many
-unfoldable pub headsOf : List ℕ → (most : ℕ) → Walk → List Head
-headsOf table zero w = []
-headsOf table (suc most) w =
-    elim (nextHead table w) [
-      | Next′.At head next ↦ head ∷ headsOf table most next
+unfoldable pub headsOf : Edition → List ℕ → (most : ℕ) → Walk → List Head
+headsOf edition table zero w = []
+headsOf edition table (suc most) w =
+    elim (nextHead edition table w) [
+      | Next′.At head next ↦ head ∷ headsOf edition table most next
       | Next′.End ↦ []
     ]
 
 -- the walk of the table at `start`: all its heads, or, where they are more than a run may count, the first of them and one more
-unfoldable pub walkOf : List ℕ → (start : ℕ) → List Head
-walkOf table start = headsOf table (suc headLimit) (walkFrom table start)
+unfoldable pub walkOf : Edition → List ℕ → (start : ℕ) → List Head
+walkOf edition table start = headsOf edition table (suc headLimit) (walkFrom table start)

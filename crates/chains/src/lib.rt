@@ -1,4 +1,4 @@
-// The heads of a morx table: chains, features and subtables as lists that cursors go through, and the walk over all heads.
+// The heads of a morx table, and of a mort table, its earlier edition: chains, features and subtables as lists that cursors go through, and the walk over all heads.
 use answers::Check;
 use answers::Refusal;
 use parse::ReadPart;
@@ -8,12 +8,18 @@ ghost use Prim.Native.Nat.{_+_, _<_, _≤_};
 ghost use lib.ListN.{length};
 ghost use Rattle.answers.specs.Refuse.{refuse};
 ghost use Rattle.parse.specs.Reads.{u32At};
-ghost use Rattle.chains.specs.Orders.{orderOf, orderNumber, isReversed, isVertical};
-ghost use Rattle.chains.specs.Lists.{chainCount, chainsFrom, chainAt, nextChain, featureAt, nextFeature, subtableAt, nextSubtable};
+ghost use Rattle.chains.specs.Orders.{kindNumber, orderOf, oldOrder, orderIn, orderNumber, isReversed, isVertical};
+ghost use Rattle.chains.specs.Lists.{width, numberAt, chainBytes, subtableBytes, chainCount, chainsFrom, chainAt, nextChain, featureAt, nextFeature, subtableAt, nextSubtable};
 ghost use Rattle.chains.specs.Entries.{chainsTests, chainsCall, chainCall, featureCall, subtableCall};
 ghost use Rattle.chains.specs.Walk.{walkFrom, nextHead};
 
 pub mod features;
+
+// The two editions of a table with chains.
+pub enum Edition {
+    Morx,
+    Mort,
+}
 
 // Where a list goes on: the place of its next element in the table, and how many elements its count still gives.
 pub struct Cursor {
@@ -132,12 +138,17 @@ pub const LOGICAL: u32 = 0x1000_0000;
 // How many kinds the coverage's low byte can tell.
 const KINDS: u32 = 256;
 
-// The number of bytes of a chain's head, of a feature and of a subtable's head.
-const CHAIN: usize = 16;
+// The same bits of a mort coverage, which has none for the order of characters and three bits for its kind.
+const OLD_VERTICAL: u32 = 0x8000;
 
+const OLD_DESCENDING: u32 = 0x4000;
+
+const OLD_BOTH: u32 = 0x2000;
+
+const OLD_KINDS: u32 = 8;
+
+// The number of bytes of a feature.
 const FEATURE: usize = 12;
-
-const SUBTABLE: usize = 12;
 
 // The order that a coverage asks for.
 pub fn order_of(coverage: u32) -> Order
@@ -179,14 +190,54 @@ pub fn should_reverse(order: Order, right_to_left: bool) -> bool
     }
 }
 
-// Whether a coverage is for vertical text alone.
-fn is_vertical(coverage: u32) -> bool
-    ensures { λ r. ⌜ r ≡ isVertical coverage ⌝ }
+// The order that a mort coverage asks for.
+fn old_order(coverage: u32) -> Order
+    ensures { λ r. ⌜ r ≡ oldOrder coverage ⌝ }
 {
-    if parse::is_set(coverage, BOTH) {
-        return false;
+    if parse::is_set(coverage, OLD_DESCENDING) {
+        return Order::ReverseLayout;
     }
-    parse::is_set(coverage, VERTICAL)
+    Order::Layout
+}
+
+// The order that a coverage of an edition asks for.
+fn order_in(edition: Edition, coverage: u32) -> Order
+    ensures { λ r. ⌜ r ≡ orderIn edition coverage ⌝ }
+{
+    match edition {
+        Edition::Morx => order_of(coverage),
+        Edition::Mort => old_order(coverage),
+    }
+}
+
+// The number of the kind that a coverage of an edition tells.
+fn kind_number(edition: Edition, coverage: u32) -> u32
+    ensures { λ r. ⌜ r ≡ kindNumber edition coverage ⌝ }
+{
+    match edition {
+        Edition::Morx => coverage % KINDS,
+        Edition::Mort => coverage % OLD_KINDS,
+    }
+}
+
+// Whether a coverage is for vertical text alone.
+fn is_vertical(edition: Edition, coverage: u32) -> bool
+    ensures { λ r. ⌜ r ≡ isVertical edition coverage ⌝ }
+{
+    match edition {
+        Edition::Morx => {
+            if parse::is_set(coverage, BOTH) {
+                return false;
+            }
+            parse::is_set(coverage, VERTICAL)
+        }
+        Edition::Mort => {
+            if parse::is_set(coverage, OLD_BOTH) {
+                return false;
+            }
+            parse::is_set(coverage, OLD_VERTICAL)
+        }
+    }
 }
 
 // Half of a 32-bit number, with room for its place.
@@ -202,6 +253,27 @@ fn u32_at(table: &[u8], at: usize) -> u32
     ensures { λ r. ⌜ r ≡ u32At (now (table .entry)) at ⌝ }
 {
     half(parse::u16_at(table, at)) * 65536 + half(parse::u16_at(table, at + 2))
+}
+
+// How many bytes an edition's counts, lengths and coverages of subtables have.
+fn width(edition: Edition) -> usize
+    ensures { λ r. ⌜ (r ≡ width edition) × (r ≤ 4) ⌝ }
+{
+    match edition {
+        Edition::Morx => 4,
+        Edition::Mort => 2,
+    }
+}
+
+// Such a number, at a place that is known to lie in the table.
+fn number_at(edition: Edition, table: &[u8], at: usize) -> u32
+    requires { ⌜ at + width edition ≤ length (now table) ⌝ }
+    ensures { λ r. ⌜ r ≡ numberAt edition (now (table .entry)) at ⌝ }
+{
+    match edition {
+        Edition::Morx => u32_at(table, at),
+        Edition::Mort => half(parse::u16_at(table, at)),
+    }
 }
 
 // How many chains the table at `start` says it has; none where it does not say.
@@ -227,21 +299,22 @@ pub fn chains_from(table: &[u8], start: usize) -> Cursor
 }
 
 // The chain whose head lies at a place, with so many behind it.
-fn chain_at(table: &[u8], place: usize, left: usize) -> Chain
-    requires { ⌜ place + 16 ≤ length (now table) ⌝ }
-    ensures { λ r. ⌜ r ≡ chainAt (now (table .entry)) place left ⌝ }
+fn chain_at(edition: Edition, table: &[u8], place: usize, left: usize) -> Chain
+    requires { ⌜ place + chainBytes edition ≤ length (now table) ⌝ }
+    ensures { λ r. ⌜ r ≡ chainAt edition (now (table .entry)) place left ⌝ }
 {
+    let wide = width(edition);
     let size = u32_at(table, place + 4) as usize;
-    let features = u32_at(table, place + 8) as usize;
-    let subtables = u32_at(table, place + 12) as usize;
+    let features = number_at(edition, table, place + 8) as usize;
+    let subtables = number_at(edition, table, place + (8 + wide)) as usize;
     Chain {
         flags: u32_at(table, place),
         features: Cursor {
-            place: place + CHAIN,
+            place: place + (8 + 2 * wide),
             left: features,
         },
         subtables: Cursor {
-            place: place + CHAIN + features * FEATURE,
+            place: place + (8 + 2 * wide) + features * FEATURE,
             left: subtables,
         },
         next: Cursor {
@@ -252,16 +325,17 @@ fn chain_at(table: &[u8], place: usize, left: usize) -> Chain
 }
 
 // The next chain of a list. One that is not wholly in the table ends it.
-pub fn chain_from(table: &[u8], cursor: Cursor) -> NextChain
-    ensures { λ r. ⌜ r ≡ nextChain (now (table .entry)) cursor ⌝ }
+pub fn chain_from(edition: Edition, table: &[u8], cursor: Cursor) -> NextChain
+    ensures { λ r. ⌜ r ≡ nextChain edition (now (table .entry)) cursor ⌝ }
 {
     if cursor.left == 0 {
         return NextChain::End;
     }
-    let ReadPart::Until(_) = parse::read_part(table, cursor.place, CHAIN) else {
+    let head = 8 + 2 * width(edition);
+    let ReadPart::Until(_) = parse::read_part(table, cursor.place, head) else {
         return NextChain::End;
     };
-    NextChain::At(chain_at(table, cursor.place, cursor.left - 1))
+    NextChain::At(chain_at(edition, table, cursor.place, cursor.left - 1))
 }
 
 // The feature that lies at a place, with so many behind it.
@@ -295,21 +369,23 @@ pub fn feature_from(table: &[u8], cursor: Cursor) -> NextFeature
 }
 
 // The subtable whose head lies at a place, with so many behind it.
-fn subtable_at(table: &[u8], place: usize, left: usize) -> Subtable
-    requires { ⌜ place + 12 ≤ length (now table) ⌝ }
-    ensures { λ r. ⌜ r ≡ subtableAt (now (table .entry)) place left ⌝ }
+fn subtable_at(edition: Edition, table: &[u8], place: usize, left: usize) -> Subtable
+    requires { ⌜ place + subtableBytes edition ≤ length (now table) ⌝ }
+    ensures { λ r. ⌜ r ≡ subtableAt edition (now (table .entry)) place left ⌝ }
 {
-    let size = u32_at(table, place) as usize;
-    let coverage = u32_at(table, place + 4);
-    let wanted = order_of(coverage);
-    let vertical = is_vertical(coverage);
+    let wide = width(edition);
+    let size = number_at(edition, table, place) as usize;
+    let coverage = number_at(edition, table, place + wide);
+    let kind = kind_number(edition, coverage);
+    let wanted = order_in(edition, coverage);
+    let vertical = is_vertical(edition, coverage);
     Subtable {
         place,
         coverage,
-        kind: coverage % KINDS,
+        kind,
         order: wanted,
         vertical,
-        flags: u32_at(table, place + 8),
+        flags: u32_at(table, place + 2 * wide),
         next: Cursor {
             place: place + size,
             left,
@@ -318,16 +394,17 @@ fn subtable_at(table: &[u8], place: usize, left: usize) -> Subtable
 }
 
 // The next subtable of a list. One whose head is not wholly in the table ends it.
-pub fn subtable_from(table: &[u8], cursor: Cursor) -> NextSubtable
-    ensures { λ r. ⌜ r ≡ nextSubtable (now (table .entry)) cursor ⌝ }
+pub fn subtable_from(edition: Edition, table: &[u8], cursor: Cursor) -> NextSubtable
+    ensures { λ r. ⌜ r ≡ nextSubtable edition (now (table .entry)) cursor ⌝ }
 {
     if cursor.left == 0 {
         return NextSubtable::End;
     }
-    let ReadPart::Until(_) = parse::read_part(table, cursor.place, SUBTABLE) else {
+    let head = 2 * width(edition) + 4;
+    let ReadPart::Until(_) = parse::read_part(table, cursor.place, head) else {
         return NextSubtable::End;
     };
-    NextSubtable::At(subtable_at(table, cursor.place, cursor.left - 1))
+    NextSubtable::At(subtable_at(edition, table, cursor.place, cursor.left - 1))
 }
 
 // The tests before a table's chains: TABLE, HEAD.
@@ -354,13 +431,13 @@ pub fn chains(table: &[u8], start: usize) -> ChainStart
 }
 
 // The next chain of a list, whatever the cursor's numbers are.
-pub fn next_chain(table: &[u8], cursor: Cursor) -> ChainReply
-    ensures { λ r. ⌜ r ≡ chainCall (now (table .entry)) cursor ⌝ }
+pub fn next_chain(edition: Edition, table: &[u8], cursor: Cursor) -> ChainReply
+    ensures { λ r. ⌜ r ≡ chainCall edition (now (table .entry)) cursor ⌝ }
 {
     if let Check::Refused(why) = answers::refuse_table(table.len()) {
         return ChainReply::Refused(why);
     }
-    ChainReply::Next(chain_from(table, cursor))
+    ChainReply::Next(chain_from(edition, table, cursor))
 }
 
 // The next feature of a list, whatever the cursor's numbers are.
@@ -374,13 +451,13 @@ pub fn next_feature(table: &[u8], cursor: Cursor) -> FeatureReply
 }
 
 // The next subtable of a list, whatever the cursor's numbers are.
-pub fn next_subtable(table: &[u8], cursor: Cursor) -> SubtableReply
-    ensures { λ r. ⌜ r ≡ subtableCall (now (table .entry)) cursor ⌝ }
+pub fn next_subtable(edition: Edition, table: &[u8], cursor: Cursor) -> SubtableReply
+    ensures { λ r. ⌜ r ≡ subtableCall edition (now (table .entry)) cursor ⌝ }
 {
     if let Check::Refused(why) = answers::refuse_table(table.len()) {
         return SubtableReply::Refused(why);
     }
-    SubtableReply::Next(subtable_from(table, cursor))
+    SubtableReply::Next(subtable_from(edition, table, cursor))
 }
 
 // The start of a walk: in no chain yet.
@@ -396,12 +473,12 @@ pub fn walk_from(table: &[u8], start: usize) -> Walk
 }
 
 // The next head: the chain's next subtable, and behind its last one the next chain.
-pub fn next_head(table: &[u8], walk: Walk) -> NextHead
-    ensures { λ r. ⌜ r ≡ nextHead (now (table .entry)) walk ⌝ }
+pub fn next_head(edition: Edition, table: &[u8], walk: Walk) -> NextHead
+    ensures { λ r. ⌜ r ≡ nextHead edition (now (table .entry)) walk ⌝ }
 {
     let subtables = walk.subtables;
     let chains = walk.chains;
-    if let NextSubtable::At(subtable) = subtable_from(table, subtables) {
+    if let NextSubtable::At(subtable) = subtable_from(edition, table, subtables) {
         let behind = subtable.next;
         return NextHead::At {
             head: Head::Subtable(subtable),
@@ -411,7 +488,7 @@ pub fn next_head(table: &[u8], walk: Walk) -> NextHead
             },
         };
     }
-    let NextChain::At(chain) = chain_from(table, chains) else {
+    let NextChain::At(chain) = chain_from(edition, table, chains) else {
         return NextHead::End;
     };
     let inside = chain.subtables;

@@ -5,6 +5,7 @@ use mathlib.Core.Bool.{Bool}
 use mathlib.Core.List.{List}
 use Rattle.chains.specs.Orders.{orderOf, isReversed}
 use Rattle.chains.specs.Entries.{chainCall, featureCall, subtableCall}
+use Rattle.chains.specs.declared.Edition.{Edition}
 use Rattle.chains.specs.declared.Cursor.{Cursor}
 use Rattle.chains.specs.declared.Order.{Order}
 use Rattle.chains.specs.declared.ChainReply.{ChainReply}
@@ -15,17 +16,18 @@ use Rattle.firmware.specs.Cursors.{cursorFrom, chainAfter, featureAfter,
 
 -- the reply, once its variant is known
 module _ (table slots : List ℕ) {given : Cursor} (g : given ≡ cursorFrom slots) where
-  pub chain-after : {reply known : ChainReply} → reply ≡ chainCall table given → reply ≡ known → known ≡ chainAfter table slots
-  unfolding chainAfter
-  chain-after e k = sym k ∙ e ∙ ap (chainCall table) g
-
   pub feature-after : {reply known : FeatureReply} → reply ≡ featureCall table given → reply ≡ known → known ≡ featureAfter table slots
   unfolding featureAfter
   feature-after e k = sym k ∙ e ∙ ap (featureCall table) g
 
-  pub subtable-after : {reply known : SubtableReply} → reply ≡ subtableCall table given → reply ≡ known → known ≡ subtableAfter table slots
+module _ (edition : Edition) (table slots : List ℕ) {given : Cursor} (g : given ≡ cursorFrom slots) where
+  pub chain-after : {reply known : ChainReply} → reply ≡ chainCall edition table given → reply ≡ known → known ≡ chainAfter edition table slots
+  unfolding chainAfter
+  chain-after e k = sym k ∙ e ∙ ap (chainCall edition table) g
+
+  pub subtable-after : {reply known : SubtableReply} → reply ≡ subtableCall edition table given → reply ≡ known → known ≡ subtableAfter edition table slots
   unfolding subtableAfter
-  subtable-after e k = sym k ∙ e ∙ ap (subtableCall table) g
+  subtable-after e k = sym k ∙ e ∙ ap (subtableCall edition table) g
 
 pub leaves : {Reply : Type 0} (of : Reply → List ℕ → List ℕ) (was : List ℕ) {known whole : Reply} → known ≡ whole → {left : List ℕ} → left ≡ of known was
     → left ≡ of whole was

@@ -5,6 +5,7 @@ use lib.ListN.{getD}
 use Rattle.chains.specs.Orders.{orderOf, orderNumber, isReversed}
 use Rattle.chains.specs.Lists.{cursor}
 use Rattle.chains.specs.Entries.{chainCall, featureCall, subtableCall}
+use Rattle.chains.specs.declared.Edition.{Edition}
 use Rattle.chains.specs.declared.Cursor.{Cursor}
 use Rattle.chains.specs.declared.ChainStart.{ChainStart}
 use Rattle.chains.specs.declared.ChainStart.the-variants as Start′
@@ -34,14 +35,14 @@ startCursor (Start′.From c) was = cursorSlots c
 startCursor (Start′.Refused why) was = was
 
 -- the next element from the cursor that the numbers say
-unfoldable pub chainAfter : List ℕ → (slots : List ℕ) → ChainReply
-chainAfter table slots = chainCall table (cursorFrom slots)
+unfoldable pub chainAfter : Edition → List ℕ → (slots : List ℕ) → ChainReply
+chainAfter edition table slots = chainCall edition table (cursorFrom slots)
 
 unfoldable pub featureAfter : List ℕ → (slots : List ℕ) → FeatureReply
 featureAfter table slots = featureCall table (cursorFrom slots)
 
-unfoldable pub subtableAfter : List ℕ → (slots : List ℕ) → SubtableReply
-subtableAfter table slots = subtableCall table (cursorFrom slots)
+unfoldable pub subtableAfter : Edition → List ℕ → (slots : List ℕ) → SubtableReply
+subtableAfter edition table slots = subtableCall edition table (cursorFrom slots)
 
 -- the cursor goes behind an element, and stays at the end of its list
 abbrev pub cursorBehindChain : NextChain → (was : List ℕ) → List ℕ

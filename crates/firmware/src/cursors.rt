@@ -3,6 +3,7 @@ use answers::Answer;
 use chains::ChainReply;
 use chains::ChainStart;
 use chains::Cursor;
+use chains::Edition;
 use chains::FeatureReply;
 use chains::NextChain;
 use chains::NextFeature;
@@ -70,6 +71,27 @@ fn put_chain(cursor: &mut [u64; 2], fields: &mut [u64; 6], next: NextChain)
     put_cursor(cursor, behind);
 }
 
+// The next chain of a list of an edition.
+pub fn next_chain(
+    edition: Edition,
+    table: &[u8],
+    cursor: &mut [u64; 2],
+    fields: &mut [u64; 6],
+) -> u32
+    ensures answer { λ r. ⌜ r ≡ numberOf (chainAnswer (chainAfter edition (now (table .entry)) (now (cursor .entry)))) ⌝ }
+    ensures cursor { λ _. ⌜ now (cursor .exit) ≡ chainCursor (chainAfter edition (now (table .entry)) (now (cursor .entry))) (now (cursor .entry)) ⌝ }
+    ensures fields { λ _. ⌜ now (fields .exit) ≡ chainFields (chainAfter edition (now (table .entry)) (now (cursor .entry))) (now (fields .entry)) ⌝ }
+{
+    let given = cursor_from(cursor);
+    match chains::next_chain(edition, table, given) {
+        ChainReply::Next(next) => {
+            put_chain(cursor, fields, next);
+            0
+        }
+        ChainReply::Refused(why) => answers::refusal_number(why),
+    }
+}
+
 // The next chain of a list.
 #[no_mangle]
 pub extern "C" fn aat_morx_next_chain(
@@ -77,18 +99,11 @@ pub extern "C" fn aat_morx_next_chain(
     cursor: &mut [u64; 2],
     fields: &mut [u64; 6],
 ) -> u32
-    ensures answer { λ r. ⌜ r ≡ numberOf (chainAnswer (chainAfter (now (table .entry)) (now (cursor .entry)))) ⌝ }
-    ensures cursor { λ _. ⌜ now (cursor .exit) ≡ chainCursor (chainAfter (now (table .entry)) (now (cursor .entry))) (now (cursor .entry)) ⌝ }
-    ensures fields { λ _. ⌜ now (fields .exit) ≡ chainFields (chainAfter (now (table .entry)) (now (cursor .entry))) (now (fields .entry)) ⌝ }
+    ensures answer { λ r. ⌜ r ≡ numberOf (chainAnswer (chainAfter Edition.Morx (now (table .entry)) (now (cursor .entry)))) ⌝ }
+    ensures cursor { λ _. ⌜ now (cursor .exit) ≡ chainCursor (chainAfter Edition.Morx (now (table .entry)) (now (cursor .entry))) (now (cursor .entry)) ⌝ }
+    ensures fields { λ _. ⌜ now (fields .exit) ≡ chainFields (chainAfter Edition.Morx (now (table .entry)) (now (cursor .entry))) (now (fields .entry)) ⌝ }
 {
-    let given = cursor_from(cursor);
-    match chains::next_chain(table, given) {
-        ChainReply::Next(next) => {
-            put_chain(cursor, fields, next);
-            0
-        }
-        ChainReply::Refused(why) => answers::refusal_number(why),
-    }
+    next_chain(Edition::Morx, table, cursor, fields)
 }
 
 // The numbers of a feature and the cursor behind it; at the end 0 each, and the cursor stays.
@@ -154,6 +169,27 @@ fn put_subtable(cursor: &mut [u64; 2], fields: &mut [u64; 6], next: NextSubtable
     put_cursor(cursor, behind);
 }
 
+// The next subtable of a list of an edition.
+pub fn next_subtable(
+    edition: Edition,
+    table: &[u8],
+    cursor: &mut [u64; 2],
+    fields: &mut [u64; 6],
+) -> u32
+    ensures answer { λ r. ⌜ r ≡ numberOf (subtableAnswer (subtableAfter edition (now (table .entry)) (now (cursor .entry)))) ⌝ }
+    ensures cursor { λ _. ⌜ now (cursor .exit) ≡ subtableCursor (subtableAfter edition (now (table .entry)) (now (cursor .entry))) (now (cursor .entry)) ⌝ }
+    ensures fields { λ _. ⌜ now (fields .exit) ≡ subtableFields (subtableAfter edition (now (table .entry)) (now (cursor .entry))) (now (fields .entry)) ⌝ }
+{
+    let given = cursor_from(cursor);
+    match chains::next_subtable(edition, table, given) {
+        SubtableReply::Next(next) => {
+            put_subtable(cursor, fields, next);
+            0
+        }
+        SubtableReply::Refused(why) => answers::refusal_number(why),
+    }
+}
+
 // The next subtable of a list.
 #[no_mangle]
 pub extern "C" fn aat_morx_next_subtable(
@@ -161,18 +197,11 @@ pub extern "C" fn aat_morx_next_subtable(
     cursor: &mut [u64; 2],
     fields: &mut [u64; 6],
 ) -> u32
-    ensures answer { λ r. ⌜ r ≡ numberOf (subtableAnswer (subtableAfter (now (table .entry)) (now (cursor .entry)))) ⌝ }
-    ensures cursor { λ _. ⌜ now (cursor .exit) ≡ subtableCursor (subtableAfter (now (table .entry)) (now (cursor .entry))) (now (cursor .entry)) ⌝ }
-    ensures fields { λ _. ⌜ now (fields .exit) ≡ subtableFields (subtableAfter (now (table .entry)) (now (cursor .entry))) (now (fields .entry)) ⌝ }
+    ensures answer { λ r. ⌜ r ≡ numberOf (subtableAnswer (subtableAfter Edition.Morx (now (table .entry)) (now (cursor .entry)))) ⌝ }
+    ensures cursor { λ _. ⌜ now (cursor .exit) ≡ subtableCursor (subtableAfter Edition.Morx (now (table .entry)) (now (cursor .entry))) (now (cursor .entry)) ⌝ }
+    ensures fields { λ _. ⌜ now (fields .exit) ≡ subtableFields (subtableAfter Edition.Morx (now (table .entry)) (now (cursor .entry))) (now (fields .entry)) ⌝ }
 {
-    let given = cursor_from(cursor);
-    match chains::next_subtable(table, given) {
-        SubtableReply::Next(next) => {
-            put_subtable(cursor, fields, next);
-            0
-        }
-        SubtableReply::Refused(why) => answers::refusal_number(why),
-    }
+    next_subtable(Edition::Morx, table, cursor, fields)
 }
 
 // The number of the order that a coverage asks for.

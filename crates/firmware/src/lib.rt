@@ -29,6 +29,7 @@ mod kern_cursors;
 mod kern_steps;
 mod kerns;
 mod mends;
+mod older;
 mod reasons;
 mod records;
 mod runs;

@@ -1,6 +1,7 @@
 // Runs document 01's known answers through the proved entries and prints each, of lookups that find nothing why, and its table with a feature that is
 // asked for; those it marks are proved in the crate `promises`.
 use answers::Reply;
+use chains::Edition;
 use morx::Choices;
 use shaper::SHAPER_ROOM;
 use shaper::Shaped;
@@ -203,6 +204,7 @@ fn print_run(table: &[u8], requests: &[u32]) {
     let mut homes: [u16; 3] = [0, 1, 2];
     let choices = Choices {
         right_to_left: false,
+        edition: Edition::Morx,
     };
     let reply = morx::run(
         table,

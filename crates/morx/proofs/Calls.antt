@@ -22,6 +22,7 @@ use Rattle.machine.specs.Pass as Pass
 use Rattle.machine.specs.Call.{headTest, passTests}
 use Rattle.machine.specs.Machine.{refusedPass, passCall}
 use Rattle.chains.specs.Entries.{startTest}
+use Rattle.chains.specs.declared.Edition.{Edition}
 use Rattle.morx.specs.Kinds.{kindAt, subtableOfKind, anySubtable}
 use Rattle.morx.specs.Run.{Ran, ran}
 use Rattle.morx.specs.Calls.{requestLimit, requestTest, runTests, runCall}
@@ -113,48 +114,48 @@ run-taken tableLength start l requests k e =
     )
 
 -- the pass tests HEAD by opening the subtable: what can't be opened is refused by the pass itself
-module _ (table : List ℕ) (start : ℕ) (l : Line) where
+module _ (edition : Edition) (table : List ℕ) (start : ℕ) (l : Line) where
   abbrev bytes : List ℕ
   bytes = drop start table
 
   abbrev work : Pass.Passed
-  work = anySubtable .worked bytes l
+  work = (anySubtable edition) .worked bytes l
 
-  call-refused : {why : Refusal} → refuse (lineTests (length table) l) ≡ Refused why → passCall anySubtable table start l ≡ refusedPass why
+  call-refused : {why : Refusal} → refuse (lineTests (length table) l) ≡ Refused why → passCall (anySubtable edition) table start l ≡ refusedPass why
   unfolding passCall passTests lineTests
-  call-refused e = rw (two-refused (tableTest (length table)) (lineTest l) (headTest (anySubtable .isOpen bytes)) e, passCall)
+  call-refused e = rw (two-refused (tableTest (length table)) (lineTest l) (headTest ((anySubtable edition) .isOpen bytes)) e, passCall)
 
-  call-by : (opens : Bool) → anySubtable .isOpen bytes ≡ opens → refuse (lineTests (length table) l) ≡ Passed → passCall anySubtable table start l ≡ work
+  call-by : (opens : Bool) → (anySubtable edition) .isOpen bytes ≡ opens → refuse (lineTests (length table) l) ≡ Passed → passCall (anySubtable edition) table start l ≡ work
   unfolding passCall passTests lineTests headTest
   call-by true o e =
       rw (
-        two-passed (tableTest (length table)) (lineTest l) (headTest (anySubtable .isOpen bytes)) e ∙ refuse-later (headTest (anySubtable .isOpen bytes)) [] (ap not o) ∙ refuse-none,
+        two-passed (tableTest (length table)) (lineTest l) (headTest ((anySubtable edition) .isOpen bytes)) e ∙ refuse-later (headTest ((anySubtable edition) .isOpen bytes)) [] (ap not o) ∙ refuse-none,
         passCall,
       )
   call-by false o e =
-      rw (two-passed (tableTest (length table)) (lineTest l) (headTest (anySubtable .isOpen bytes)) e ∙ refuse-here (headTest (anySubtable .isOpen bytes)) [] (ap not o), passCall)
-      (sym (closed-refused (kindAt bytes) bytes l o))
+      rw (two-passed (tableTest (length table)) (lineTest l) (headTest ((anySubtable edition) .isOpen bytes)) e ∙ refuse-here (headTest ((anySubtable edition) .isOpen bytes)) [] (ap not o), passCall)
+      (sym (closed-refused (kindAt edition bytes) bytes l o))
 
-  call-taken : refuse (lineTests (length table) l) ≡ Passed → passCall anySubtable table start l ≡ work
-  call-taken = call-by (anySubtable .isOpen bytes) refl
+  call-taken : refuse (lineTests (length table) l) ≡ Passed → passCall (anySubtable edition) table start l ≡ work
+  call-taken = call-by ((anySubtable edition) .isOpen bytes) refl
 
 -- a call of the pass
-module _ (table : List ℕ) (start : ℕ) (l : Line) {check : Check} (k : check ≡ refuse (lineTests (length table) l)) where
+module _ (edition : Edition) (table : List ℕ) (start : ℕ) (l : Line) {check : Check} (k : check ≡ refuse (lineTests (length table) l)) where
   pub pass-refused : {why : Refusal} → check ≡ Refused why
-      → Leaves (passCall anySubtable table start l) l (record { answer = Answer′.Refused why; used = l .used }) (l .glyphs) (l .tags) (l .homes)
+      → Leaves (passCall (anySubtable edition) table start l) l (record { answer = Answer′.Refused why; used = l .used }) (l .glyphs) (l .tags) (l .homes)
   unfolding applyAll
   pass-refused {why} e =
-      let r = call-refused table start l (sym k ∙ e) in
+      let r = call-refused edition table start l (sym k ∙ e) in
       record {
         answers = ap (λ (p : Pass.Passed). p .answer) (sym r);
         line = ap (λ (p : Pass.Passed). applyAll (p .changes) l) (sym r);
       }
 
-  pub pass-worked : {bytes : List ℕ} {kind : Kind} {reply : PassReply} {glyphs tags homes : List ℕ} → check ≡ Passed → bytes ≡ drop start table → kind ≡ kindAt bytes
-      → Leaves (subtableOfKind kind .worked bytes l) l reply glyphs tags homes → Leaves (passCall anySubtable table start l) l reply glyphs tags homes
+  pub pass-worked : {bytes : List ℕ} {kind : Kind} {reply : PassReply} {glyphs tags homes : List ℕ} → check ≡ Passed → bytes ≡ drop start table → kind ≡ kindAt edition bytes
+      → Leaves (subtableOfKind kind .worked bytes l) l reply glyphs tags homes → Leaves (passCall (anySubtable edition) table start l) l reply glyphs tags homes
   pass-worked {bytes} {kind} {reply} {glyphs} {tags} {homes} e b d left =
-      let w : subtableOfKind kind .worked bytes l ≡ passCall anySubtable table start l =
-      ap (λ (x : Kind). subtableOfKind x .worked bytes l) d ∙ ap (λ (x : List ℕ). anySubtable .worked x l) b ∙ sym (call-taken table start l (sym k ∙ e)) in
+      let w : subtableOfKind kind .worked bytes l ≡ passCall (anySubtable edition) table start l =
+      ap (λ (x : Kind). subtableOfKind x .worked bytes l) d ∙ ap (λ (x : List ℕ). (anySubtable edition) .worked x l) b ∙ sym (call-taken edition table start l (sym k ∙ e)) in
       record { answers = left .answers ∙ ap (λ (p : Pass.Passed). p .answer) w; line = left .line ∙ ap (λ (p : Pass.Passed). applyAll (p .changes) l) w }
 
 -- a call of the run

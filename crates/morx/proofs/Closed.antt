@@ -18,7 +18,7 @@ use Rattle.insertion.specs.Calls as Insertion′
 use Rattle.rearrangement.specs.Calls as Rearrangement′
 use Rattle.morx.specs.Kinds.{subtableOfKind}
 use Rattle.morx.specs.declared.Kind.{Kind}
-use Rattle.morx.specs.declared.Kind.the-variants.{Rearrangement, Contextual, Ligature, NonContextual, Insertion, LeftOut}
+use Rattle.morx.specs.declared.Kind.the-variants.{Rearrangement, Contextual, Ligature, NonContextual, Insertion, OldRearrangement, OldNonContextual, LeftOut}
 
 no : {A : Type 0} → true ≡ false → A
 no e = let z : _≡_ {A = ℕ} 0 1 = cc in absurd (omega arith)
@@ -35,4 +35,6 @@ closed-refused Contextual bytes l e = without (Contextual′.opened bytes) _ e
 closed-refused Ligature bytes l e = without (Ligature′.opened bytes) _ e
 closed-refused NonContextual bytes l e = rw e
 closed-refused Insertion bytes l e = without (Insertion′.opened bytes) _ e
+closed-refused OldRearrangement bytes l e = rw e
+closed-refused OldNonContextual bytes l e = rw e
 closed-refused LeftOut bytes l e = refl

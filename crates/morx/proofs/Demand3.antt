@@ -1,4 +1,4 @@
--- Demand 3 over calls. After any sequence of lone verbs and insertions, passes, lone steps and whole runs in either direction, each lent the line as
+-- Demand 3 over calls. After any sequence of lone verbs and insertions, passes, lone steps and whole runs in either direction, of morx and of mort, each lent the line as
 -- the call before left it, the line is valid, every character belongs to exactly one place, the one that the history gives, and the
 -- length is the starting length and the glyphs inserted, never above the room. It begins with any valid line, or with a fresh one.
 use Prim.Native.Nat.{ℕ}
@@ -32,7 +32,7 @@ unfolding leaves makes insertLeaves callLeaves stepLeaves runLeaves
 call-made (Call.verb c) l v = verbs-honest .made c l v
 call-made (Call.insert c) l v = refl
 call-made (Call.pass kind table start) l v = refl
-call-made (Call.anyPass table start) l v = refl
+call-made (Call.anyPass edition table start) l v = refl
 call-made (Call.contextualStep c) l v = refl
 call-made (Call.ligatureStep c) l v = refl
 call-made (Call.run table start choices requests) l v = refl
@@ -42,7 +42,8 @@ unfolding makes
 call-legal (Call.verb c) l v = verbs-honest .legal c l v
 call-legal (Call.insert c) l v = insert-fits (c .table) (c .start) (c .count) (c .place) l v
 call-legal (Call.pass kind table start) l v = call-has Valid Fits fitting (subtableOfKind kind) (worked-fits kind) table start l v
-call-legal (Call.anyPass table start) l v = call-has Valid Fits fitting anySubtable (λ bytes k u. worked-fits (kindAt bytes) bytes k u) table start l v
+call-legal (Call.anyPass edition table start) l v =
+    call-has Valid Fits fitting (anySubtable edition) (λ bytes k u. worked-fits (kindAt edition bytes) bytes k u) table start l v
 call-legal (Call.contextualStep c) l v =
     step-has Valid Fits fitting contextual Contextual′.step-fits (c .table) (c .start) (c .state) l (c .index) (c .glyph) (c .ends) v
 call-legal (Call.ligatureStep c) l v =

@@ -33,19 +33,19 @@ module _ (table : List ℕ) (choices : Choices) (requests : List ℕ) where
   settled-one Answer′.Limit = inl refl
   settled-one (Answer′.Refused why) = inl refl
 
-  subtable-one : (flags : ℕ) (s : Subtable) (l : Line) (b : Bool) → isPassedOver flags s (drop (s .place) table) ≡ b
+  subtable-one : (flags : ℕ) (s : Subtable) (l : Line) (b : Bool) → isPassedOver (choices .edition) flags s (drop (s .place) table) ≡ b
       → (visitSubtable table choices flags s l .answer ≡ Answer′.Done) ⊎ (visitSubtable table choices flags s l .answer ≡ Answer′.Full)
   unfolding visitSubtable
   subtable-one flags s l true e = inl (rw (e, visitSubtable))
   subtable-one flags s l false e =
       rw (e, visitSubtable)
-      (settled-one (turnedWork (isReversed (s .order) (choices .«right_to_left»)) (kindOf (s .kind)) (drop (s .place) table) l .answer))
+      (settled-one (turnedWork (isReversed (s .order) (choices .«right_to_left»)) (kindOf (choices .edition) (s .kind)) (drop (s .place) table) l .answer))
 
   visit-one : (flags : ℕ) (head : Head) (l : Line)
       → (visit table choices flags head l .answer ≡ Answer′.Done) ⊎ (visit table choices flags head l .answer ≡ Answer′.Full)
   unfolding visit
   visit-one flags (Head′.Chain chain) l = inl refl
-  visit-one flags (Head′.Subtable s) l = subtable-one flags s l (isPassedOver flags s (drop (s .place) table)) refl
+  visit-one flags (Head′.Subtable s) l = subtable-one flags s l (isPassedOver (choices .edition) flags s (drop (s .place) table)) refl
 
   -- what a run over heads counts of them
   pub record Fills (left flags : ℕ) (heads : List Head) (l : Line) (r : Ran) : Type 0 where
@@ -150,7 +150,7 @@ module _ (table : List ℕ) (choices : Choices) (requests : List ℕ) where
 pub heads-counted : (table : List ℕ) (start : ℕ) (choices : Choices) (l : Line) (requests : List ℕ) → Counted table start choices l requests (ran table start choices l requests)
 unfolding ran
 heads-counted table start choices l requests =
-    let c = counts table choices requests headLimit 0 (walkOf table start) l in
+    let c = counts table choices requests headLimit 0 (walkOf (choices .edition) table start) l in
     record {
       answers = c .answers;
       done = c .done;

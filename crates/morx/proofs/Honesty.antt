@@ -47,4 +47,4 @@ pub run-fits : (table : List ℕ) (start : ℕ) (choices : Choices) (l : Line) (
 unfolding runCall ran
 run-fits table start choices l requests v =
     if-passed (λ (r : Ran). Fits (r .changes) l) _ (λ why. none-fits l v) (refuse (runTests (length table) start l requests)) (ran table start choices l requests)
-    (over-fits table choices requests headLimit 0 (walkOf table start) l v)
+    (over-fits table choices requests headLimit 0 (walkOf (choices .edition) table start) l v)

@@ -8,8 +8,9 @@ use Rattle.line.specs.Line.{Line}
 use Rattle.line.specs.Changes.{Change, apply, applyAll}
 use Rattle.line.proofs.Histories.{applyAll-append}
 use Rattle.state_tables.specs.declared.States.{States}
-use Rattle.machine.specs.Machine.{Subtable, callLeaves, Machine, subtableOf, stepLeaves, StepCall}
+use Rattle.machine.specs.Machine.{Subtable, callLeaves, Machine, passed, subtableOf, stepLeaves, StepCall}
 use Rattle.machine.proofs.Having.{Closed, call-has, worked-has, step-has}
+use Rattle.mort.proofs.Lent.{passed-has}
 
 module _ {X : Type 0} (part : Line → X) where
   abbrev pub Kept : List Change → Type 0
@@ -60,6 +61,10 @@ module _ {X : Type 0} (part : Line → X) where
 
     pub pass-keeps : (bytes : List ℕ) (l : Line) → Has (subtableOf machine .worked bytes l .changes) l
     pass-keeps bytes l = worked-has Any Has closed machine steps-keep bytes l (omega arith)
+
+    -- by a state table that the machine is lent
+    pub lent-keeps : (body : List ℕ) (states : States) (l : Line) → Has (passed machine body states l .changes) l
+    lent-keeps body states l = passed-has Any Has closed machine steps-keep body states l (omega arith)
 
     pub step-keeps : (c : StepCall S) (l : Line) → part (stepLeaves machine (c .table) (c .start) (c .state) l (c .index) (c .glyph) (c .ends)) ≡ part l
     unfolding stepLeaves

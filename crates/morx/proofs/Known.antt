@@ -8,7 +8,9 @@ use Rattle.answers.specs.declared.Answer.the-variants as Answer′
 use Rattle.answers.specs.Limits.{headLimit}
 use Rattle.line.specs.Line.{Line, lineOf}
 use Rattle.chains.specs.Walk.{walkOf, headsOf, nextHead, walkFrom}
-use Rattle.chains.specs.Lists.{chainsFrom, chainCount, nextChain, chainAt, nextSubtable, subtableAt}
+use Rattle.chains.specs.Lists.{width, numberAt, chainsFrom, chainCount, nextChain, chainAt, nextSubtable, subtableAt}
+use Rattle.chains.specs.Orders.{kindNumber}
+use Rattle.chains.specs.declared.Edition.the-variants.{Morx}
 use Rattle.parse.specs.Reads.{readU32, inside}
 
 abbrev table : List ℕ
@@ -18,6 +20,6 @@ table =
     0 ∷ 0 ∷ 0 ∷ 0x16 ∷ 0 ∷ 0 ∷ 0 ∷ 4 ∷ 0 ∷ 0 ∷ 0 ∷ 1 ∷
     0 ∷ 8 ∷ 0 ∷ 5 ∷ 0 ∷ 2 ∷ 0 ∷ 7 ∷ 0 ∷ 9 ∷ []
 
-pub two-heads : length (walkOf table 0) ≡ 2
-unfolding walkOf headsOf nextHead walkFrom chainsFrom chainCount nextChain chainAt nextSubtable subtableAt readU32 inside headLimit
+pub two-heads : length (walkOf Morx table 0) ≡ 2
+unfolding walkOf headsOf nextHead walkFrom chainsFrom chainCount nextChain chainAt nextSubtable subtableAt width numberAt kindNumber readU32 inside headLimit
 two-heads = refl

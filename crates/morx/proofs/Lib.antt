@@ -12,3 +12,4 @@ mod Known
 pub mod Honesty
 pub mod Demand3
 pub mod Memory
+pub mod Older

@@ -15,7 +15,10 @@ use Rattle.parse.specs.declared.ReadPart.the-variants as Part
 use Rattle.parse.specs.declared.ReadU32.{ReadU32}
 use Rattle.parse.specs.declared.ReadU32.the-variants as U32
 use Rattle.parse.proofs.Laws.{part-short, part-inside, inside-fits, readU32-got}
+use Rattle.state_tables.specs.States.{classicAt}
 use Rattle.state_tables.specs.declared.States.{States}
+use Rattle.state_tables.specs.declared.Made.{Made}
+use Rattle.state_tables.specs.declared.Made.the-variants.{Ready, Short}
 use Rattle.line.specs.Line.{Line, lineOf, Valid}
 use Rattle.line.specs.Changes.{Change, apply, applyAll}
 use Rattle.line.specs.History.{Fits}
@@ -28,6 +31,7 @@ use Rattle.machine.proofs.Having.{worked-has}
 use Rattle.machine.proofs.Fitting.{fitting}
 use Rattle.rearrangement.specs.Rearrangement as R
 use Rattle.rearrangement.specs.Calls.{rearrangement}
+use Rattle.rearrangement.specs.declared.RearrangementState.{RearrangementState}
 use Rattle.rearrangement.specs.declared.Window.{Window}
 use Rattle.rearrangement.specs.declared.Window.the-variants as Window′
 use Rattle.rearrangement.proofs.Honesty as RH
@@ -50,15 +54,21 @@ use Rattle.insertion.specs.declared.InsertionStep.{InsertionStep}
 use Rattle.insertion.specs.declared.Inserted.{Inserted}
 use Rattle.insertion.specs.declared.Inserted.the-variants as Inserted′
 use Rattle.insertion.proofs.Honesty as IH
+use Rattle.mort.specs.Mort as O
+use Rattle.mort.specs.Mort.{oldRearrangement, oldNonContextual}
+use Rattle.mort.proofs.Honesty as OH
 use Rattle.tables.specs.Lookup.{lookupAt}
+use Rattle.tables.specs.Units.{lookupBy}
+use Rattle.tables.specs.declared.units.Reading.the-variants.{Manual}
 use Rattle.tables.specs.declared.lookup.Found.{Found}
 use Rattle.tables.specs.declared.lookup.Found.the-variants as Found′
+use Rattle.chains.specs.declared.Edition.the-variants.{Morx}
 use Rattle.morx.specs.Kinds.{kindOf, kindAt, subtableOfKind}
 use Rattle.morx.specs.Work.{passReplyOf}
 use Rattle.morx.specs.declared.Kind.{Kind}
-use Rattle.morx.specs.declared.Kind.the-variants.{Rearrangement, Contextual, Ligature, NonContextual, Insertion, LeftOut}
+use Rattle.morx.specs.declared.Kind.the-variants.{Rearrangement, Contextual, Ligature, NonContextual, Insertion, OldRearrangement, OldNonContextual, LeftOut}
 use Rattle.morx.specs.declared.PassReply.{PassReply}
-use Rattle.morx.proofs.Kept.{Kept, Has, kept-none, kept-one, kept-more, kept-append, pass-keeps, step-keeps}
+use Rattle.morx.proofs.Kept.{Kept, Has, kept-none, kept-one, kept-more, kept-append, pass-keeps, lent-keeps, step-keeps}
 use Rattle.morx.proofs.Leaves.{Leaves, valid-line}
 
 -- what a machine leaves, field by field, is the line that its changes make
@@ -73,8 +83,24 @@ module _ {X : Type 0} (part : Line → X) (kept : (first last verb : ℕ) (l : L
   kept-window Window′.None = kept-none part
   kept-window (Window′.At first last verb) = kept-one part (Change.window first last verb) (kept first last verb)
 
+  kept-turn : (classes : ℕ → ℕ) (bytes : List ℕ) (states : States) (s : RearrangementState) (k : Line) (i g : ℕ) (e : Bool)
+      → Kept part (rearrangement .step classes bytes states s k i g e .changes)
+  kept-turn classes bytes states s k i g e = kept-window (R.next classes bytes states s i g e .edit)
+
   pub kept-rearrangement : (bytes : List ℕ) (l : Line) → Has part (subtableOf rearrangement .worked bytes l .changes) l
-  kept-rearrangement = pass-keeps part rearrangement (λ classes bytes states s k i g e. kept-window (R.next classes bytes states s i g e .edit))
+  kept-rearrangement = pass-keeps part rearrangement kept-turn
+
+  -- in mort, too
+  kept-made : (made : Made) (body : List ℕ) (l : Line) → Has part (O.rearranged made body l .changes) l
+  kept-made (Ready states) body l = lent-keeps part rearrangement kept-turn body states l
+  kept-made Short body l = kept-none part l
+
+  pub kept-old-rearrangement : (bytes : List ℕ) (l : Line) → Has part (oldRearrangement .worked bytes l .changes) l
+  kept-old-rearrangement bytes l = go (O.hasKind bytes 0)
+    where
+      go : (t : Bool) → Has part (cond t (O.rearranged (classicAt (O.bodyOf bytes)) (O.bodyOf bytes) l) (refusedPass Refusal′.Head) .changes) l
+      go true = kept-made (classicAt (O.bodyOf bytes)) (O.bodyOf bytes) l
+      go false = kept-none part l
 
 pub window-homes : (first last verb : ℕ) (l : Line) → apply (Change.window first last verb) l .homes ≡ l .homes
 unfolding apply
@@ -121,19 +147,22 @@ module _ {X : Type 0} (part : Line → X) (kept : (at glyph : ℕ) (l : Line) �
   kept-found place (Found′.At glyph) = kept-one part (Change.write place glyph) (kept place glyph)
   kept-found place (Found′.Nothing why) = kept-none part
 
-  kept-below : (body glyphs : List ℕ) (n : ℕ) → Kept part (N.writesBelow body glyphs n)
+  kept-below : (lookup : ℕ → Found) (glyphs : List ℕ) (n : ℕ) → Kept part (N.writesBelow lookup glyphs n)
   unfolding N.writesBelow
-  kept-below body glyphs zero = kept-none part
-  kept-below body glyphs (suc n) =
-      kept-append part (N.writesBelow body glyphs n) (N.writesOf n (lookupAt body (getD glyphs n 0))) (kept-below body glyphs n) (kept-found n (lookupAt body (getD glyphs n 0)))
+  kept-below lookup glyphs zero = kept-none part
+  kept-below lookup glyphs (suc n) =
+      kept-append part (N.writesBelow lookup glyphs n) (N.writesOf n (lookup (getD glyphs n 0))) (kept-below lookup glyphs n) (kept-found n (lookup (getD glyphs n 0)))
+
+  kept-pass : (kind : Bool) (lookup : ℕ → Found) (l : Line) → Has part (cond kind (N.passed lookup l) (refusedPass Refusal′.Head) .changes) l
+  unfolding N.passed
+  kept-pass true lookup l = kept-below lookup (l .glyphs) (l .used) l
+  kept-pass false lookup l = kept-none part l
 
   pub kept-noncontextual : (bytes : List ℕ) (l : Line) → Has part (noncontextual .worked bytes l .changes) l
-  unfolding N.passed
-  kept-noncontextual bytes l = go (hasKind bytes 4)
-    where
-      go : (t : Bool) → Has part (cond t (N.passed (bodyOf bytes) l) (refusedPass Refusal′.Head) .changes) l
-      go true = kept-below (bodyOf bytes) (l .glyphs) (l .used) l
-      go false = kept-none part l
+  kept-noncontextual bytes l = kept-pass (hasKind bytes 4) (lookupAt (bodyOf bytes)) l
+
+  pub kept-old-noncontextual : (bytes : List ℕ) (l : Line) → Has part (oldNonContextual .worked bytes l .changes) l
+  kept-old-noncontextual bytes l = kept-pass (O.hasKind bytes 4) (lookupBy Manual (O.bodyOf bytes)) l
 
 -- ligatures leave the tags and the used length
 module _ (at glyph : ℕ) (parts : List ℕ) (l : Line) where
@@ -226,6 +255,26 @@ module _ (kind : Kind) (bytes glyphs tags homes : List ℕ) (used : ℕ) where
       (sym (kept-noncontextual (λ (x : Line). x .homes) write-homes bytes line))
       (sym (kept-noncontextual (λ (x : Line). x .used) write-used bytes line)))
 
+  pub by-old-rearrangement : {answer : Answer} {glyphs′ tags′ : List ℕ} → kind ≡ OldRearrangement → answer ≡ oldRearrangement .worked bytes line .answer
+      → glyphs′ ≡ workLeaves oldRearrangement bytes line .glyphs → tags′ ≡ workLeaves oldRearrangement bytes line .tags
+      → LeavesBy kind (record { answer = answer; used = used }) glyphs′ tags′ homes
+  unfolding subtableOfKind workLeaves
+  by-old-rearrangement e a g t =
+      as-kind e
+      (by-fields (oldRearrangement .worked bytes line) line a g t
+      (sym (kept-old-rearrangement (λ (x : Line). x .homes) window-homes bytes line))
+      (sym (kept-old-rearrangement (λ (x : Line). x .used) window-used bytes line)))
+
+  pub by-old-noncontextual : {answer : Answer} {glyphs′ : List ℕ} → kind ≡ OldNonContextual → answer ≡ oldNonContextual .worked bytes line .answer
+      → glyphs′ ≡ workLeaves oldNonContextual bytes line .glyphs → LeavesBy kind (record { answer = answer; used = used }) glyphs′ tags homes
+  unfolding subtableOfKind workLeaves
+  by-old-noncontextual e a g =
+      as-kind e
+      (by-fields (oldNonContextual .worked bytes line) line a g
+      (sym (kept-old-noncontextual (λ (x : Line). x .tags) write-tags bytes line))
+      (sym (kept-old-noncontextual (λ (x : Line). x .homes) write-homes bytes line))
+      (sym (kept-old-noncontextual (λ (x : Line). x .used) write-used bytes line)))
+
   pub by-none : kind ≡ LeftOut → LeavesBy kind (record { answer = Answer′.Refused Refusal′.Head; used = used }) glyphs tags homes
   unfolding subtableOfKind
   by-none e = as-kind e (headless line)
@@ -257,11 +306,13 @@ worked-fits Contextual bytes l v = worked-has Valid Fits fitting contextual CH.s
 worked-fits Ligature bytes l v = worked-has Valid Fits fitting ligature LH.step-fits bytes l v
 worked-fits NonContextual bytes l v = NH.worked-fits bytes l v
 worked-fits Insertion bytes l v = worked-has Valid Fits fitting insertion IH.step-fits bytes l v
+worked-fits OldRearrangement bytes l v = OH.rearrangement-fits l v bytes
+worked-fits OldNonContextual bytes l v = OH.noncontextual-fits l v bytes
 worked-fits LeftOut bytes l v = quiet-fits [] l v quiet-none
 
 -- the kind of the subtable that the bytes begin with, from what the code has read
 module _ (bytes : List ℕ) {p : ReadPart} (e : p ≡ readPart bytes 0 12) where
-  pub kind-cut : p ≡ Part.Short → LeftOut ≡ kindAt bytes
+  pub kind-cut : p ≡ Part.Short → LeftOut ≡ kindAt Morx bytes
   unfolding kindAt
   kind-cut f = rw (part-short bytes 0 12 e f, kindAt)
 
@@ -269,10 +320,10 @@ module _ (bytes : List ℕ) {p : ReadPart} (e : p ≡ readPart bytes 0 12) where
     read : readU32 bytes 4 ≡ U32.Got (u32At bytes 4)
     read = let h : 12 ≤ length bytes = omega (arith, inside-fits bytes 0 12 (part-inside bytes 0 12 e f)) in readU32-got bytes 4 (omega arith)
 
-    pub kind-unread : {r : ReadU32} → r ≡ readU32 bytes 4 → r ≡ U32.Short → LeftOut ≡ kindAt bytes
+    pub kind-unread : {r : ReadU32} → r ≡ readU32 bytes 4 → r ≡ U32.Short → LeftOut ≡ kindAt Morx bytes
     kind-unread g h = let a = read in let z : _≡_ {A = ℕ} 0 1 = cc in absurd (omega arith)
 
-    pub kind-is : {r : ReadU32} {coverage : ℕ} {kind : Kind} → r ≡ readU32 bytes 4 → r ≡ U32.Got coverage → kind ≡ kindOf (coverage % 256) → kind ≡ kindAt bytes
+    pub kind-is : {r : ReadU32} {coverage : ℕ} {kind : Kind} → r ≡ readU32 bytes 4 → r ≡ U32.Got coverage → kind ≡ kindOf Morx (coverage % 256) → kind ≡ kindAt Morx bytes
     unfolding kindAt
     kind-is {r} {coverage} g h k =
         let a = read in

@@ -22,9 +22,9 @@ use Rattle.morx.specs.Kinds.{subtableOfKind}
 use Rattle.morx.specs.Sequence.{Call, leaves}
 use Rattle.morx.specs.Memory.{writtenBy, inMemory}
 use Rattle.morx.specs.declared.Kind.{Kind}
-use Rattle.morx.specs.declared.Kind.the-variants.{Rearrangement, Contextual, Ligature, NonContextual, Insertion, LeftOut}
+use Rattle.morx.specs.declared.Kind.the-variants.{Rearrangement, Contextual, Ligature, NonContextual, Insertion, OldRearrangement, OldNonContextual, LeftOut}
 use Rattle.morx.proofs.Kept.{Kept, Has, kept-none, kept-one, call-keeps}
-use Rattle.morx.proofs.Machines.{window-homes, window-used, write-tags, write-homes, write-used, ligature-tags, ligature-used, insertion-homes, kept-rearrangement, kept-contextual, kept-contextual-step, kept-noncontextual, kept-ligature, kept-ligature-step, kept-inserted, kept-insertion}
+use Rattle.morx.proofs.Machines.{window-homes, window-used, write-tags, write-homes, write-used, ligature-tags, ligature-used, insertion-homes, kept-rearrangement, kept-contextual, kept-contextual-step, kept-noncontextual, kept-old-rearrangement, kept-old-noncontextual, kept-ligature, kept-ligature-step, kept-inserted, kept-insertion}
 
 abbrev homes : Line → List ℕ
 homes l = l .homes
@@ -85,6 +85,11 @@ module _ (table : List ℕ) (start : ℕ) (l : Line) where
       by-parts _ (call-keeps tags _ (kept-noncontextual tags write-tags) table start l) (call-keeps homes _ (kept-noncontextual homes write-homes) table start l)
       (call-keeps used _ (kept-noncontextual used write-used) table start l)
   by-kind Insertion = by-parts _ refl (call-keeps homes _ (kept-insertion homes insertion-homes) table start l) refl
+  by-kind OldRearrangement =
+      by-parts _ refl (call-keeps homes _ (kept-old-rearrangement homes window-homes) table start l) (call-keeps used _ (kept-old-rearrangement used window-used) table start l)
+  by-kind OldNonContextual =
+      by-parts _ (call-keeps tags _ (kept-old-noncontextual tags write-tags) table start l) (call-keeps homes _ (kept-old-noncontextual homes write-homes) table start l)
+      (call-keeps used _ (kept-old-noncontextual used write-used) table start l)
   by-kind LeftOut = sym (call-keeps (λ (k : Line). k) _ (λ bytes k. kept-none (λ (k : Line). k) k) table start l)
 
 pub in-memory : (call : Call) (l : Line) → inMemory call l ≡ leaves call l
@@ -96,5 +101,5 @@ in-memory (Call.pass kind table start) l = by-kind table start l kind
 in-memory (Call.contextualStep c) l =
     by-parts _ (kept-contextual-step tags write-tags c l) (kept-contextual-step homes write-homes c l) (kept-contextual-step used write-used c l)
 in-memory (Call.ligatureStep c) l = by-parts _ (kept-ligature-step tags ligature-tags c l) refl (kept-ligature-step used ligature-used c l)
-in-memory (Call.anyPass table start) l = refl
+in-memory (Call.anyPass edition table start) l = refl
 in-memory (Call.run table start choices requests) l = refl

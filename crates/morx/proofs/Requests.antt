@@ -19,6 +19,7 @@ use Rattle.chains.specs.Entries.{startTest}
 use Rattle.chains.specs.Features.{isAsked}
 use Rattle.chains.specs.Manual.{featureTotal, featurePlace, manualChain, manualFlags, EndsAt}
 use Rattle.chains.specs.Walk.{walkOf}
+use Rattle.chains.specs.declared.Edition.{Edition}
 use Rattle.chains.specs.declared.Chain.{Chain}
 use Rattle.chains.specs.declared.Head.{Head}
 use Rattle.chains.specs.declared.Head.the-variants as Head′
@@ -91,7 +92,7 @@ pub no-requests : (table : List ℕ) (start : ℕ) (choices : Choices) (l : Line
 unfolding runCall callByDefaults ran requestLimit
 no-requests table start choices l =
     ap₂ (ifPassed (λ why. record { answer = Answer′.Refused why; changes = []; heads = 0 })) (few-pass (length table) start l [] (omega arith))
-    (over-unasked table choices headLimit 0 (walkOf table start) l)
+    (over-unasked table choices headLimit 0 (walkOf (choices .edition) table start) l)
 
 -- the same requests
 module _ (table : List ℕ) (choices : Choices) (xs ys : List ℕ) (alike : (request : ℕ) → isAsked xs request ≡ isAsked ys request) where
@@ -124,10 +125,11 @@ unfolding runCall ran
 any-order table start choices l xs ys alike h k =
     ap₂ (ifPassed (λ why. record { answer = Answer′.Refused why; changes = []; heads = 0 }))
     (few-pass (length table) start l xs h ∙ sym (few-pass (length table) start l ys k))
-    (over-alike table choices xs ys alike headLimit 0 (walkOf table start) l)
+    (over-alike table choices xs ys alike headLimit 0 (walkOf (choices .edition) table start) l)
 
 -- the flags of a chain
-pub flags-as-manual : (table requests : List ℕ) (chain left n : ℕ) → EndsAt table 12 (featurePlace table chain) (featureTotal table chain) n
-    → choosing table requests (manualChain table chain left) ≡ manualFlags table requests chain n
+pub flags-as-manual : (edition : Edition) (table requests : List ℕ) (chain left n : ℕ)
+    → EndsAt table 12 (featurePlace edition chain) (featureTotal edition table chain) n
+    → choosing table requests (manualChain edition table chain left) ≡ manualFlags edition table requests chain n
 unfolding choosing
-flags-as-manual table requests chain left n e = flags-behind-as-manual table requests chain n e
+flags-as-manual edition table requests chain left n e = flags-behind-as-manual edition table requests chain n e

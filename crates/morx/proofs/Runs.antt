@@ -16,6 +16,7 @@ use Rattle.line.proofs.Histories.{applyAll-append}
 use Rattle.machine.specs.Pass.{Passed, isDone}
 use Rattle.chains.specs.Features.{flagsBehind}
 use Rattle.chains.specs.Walk.{walkFrom, nextHead, headsOf, walkOf}
+use Rattle.chains.specs.declared.Edition.{Edition}
 use Rattle.chains.specs.declared.Chain.{Chain}
 use Rattle.chains.specs.declared.Head.{Head}
 use Rattle.chains.specs.declared.Head.the-variants as Head′
@@ -73,12 +74,12 @@ unfolding choosing
 flags-chain table head flags requests e f = rw e f
 
 -- the walk from somewhere on
-module _ (table : List ℕ) (most : ℕ) (walk : Walk) where
-  heads-end : nextHead table walk ≡ Next′.End → headsOf table (suc most) walk ≡ []
+module _ (edition : Edition) (table : List ℕ) (most : ℕ) (walk : Walk) where
+  heads-end : nextHead edition table walk ≡ Next′.End → headsOf edition table (suc most) walk ≡ []
   unfolding headsOf
   heads-end e = rw (e, headsOf)
 
-  heads-at : {head : Head} {next : Walk} → nextHead table walk ≡ Next′.At head next → headsOf table (suc most) walk ≡ head ∷ headsOf table most next
+  heads-at : {head : Head} {next : Walk} → nextHead edition table walk ≡ Next′.At head next → headsOf edition table (suc most) walk ≡ head ∷ headsOf edition table most next
   unfolding headsOf
   heads-at e = rw (e, headsOf)
 
@@ -120,7 +121,7 @@ module _ (table : List ℕ) (choices : Choices) (requests : List ℕ) (l₀ : Li
     pub done : List Change
     pub at : lineOf glyphs tags homes used ≡ applyAll done l₀
     pub valid : Valid (lineOf glyphs tags homes used)
-    pub same : since done heads (runOver table choices left flags (headsOf table (suc left) walk) (lineOf glyphs tags homes used) requests) ≡ whole
+    pub same : since done heads (runOver table choices left flags (headsOf (choices .edition) table (suc left) walk) (lineOf glyphs tags homes used) requests) ≡ whole
     pub long-glyphs : length glyphs ≡ length (l₀ .glyphs)
     pub long-tags : length tags ≡ length (l₀ .tags)
     pub long-homes : length homes ≡ length (l₀ .homes)
@@ -134,7 +135,7 @@ module _ (table : List ℕ) (choices : Choices) (requests : List ℕ) (l₀ : Li
     more (suc n) e h = (n, refl)
 
     -- a run that ends so
-    over : (r : Ran) → runOver table choices (g .left) flags (headsOf table (suc (g .left)) walk) line requests ≡ r → since (g .done) heads r ≡ whole
+    over : (r : Ran) → runOver table choices (g .left) flags (headsOf (choices .edition) table (suc (g .left)) walk) line requests ≡ r → since (g .done) heads r ≡ whole
     over r e = ap (since (g .done) heads) (sym e) ∙ g .same
 
     here : (answer : Answer) → since (g .done) heads (record { answer = answer; changes = []; heads = 0 }) ≡ whole
@@ -147,24 +148,24 @@ module _ (table : List ℕ) (choices : Choices) (requests : List ℕ) (l₀ : Li
           line = g .at ∙ ap (λ (c : List Change). applyAll c l₀) (sym (append-nil (g .done))) ∙ ap (λ (r : Ran). applyAll (r .changes) l₀) e;
         }
 
-    pub going-end : nextHead table walk ≡ Next′.End
+    pub going-end : nextHead (choices .edition) table walk ≡ Next′.End
         → RunLeaves whole l₀ (record { answer = Answer′.Done; used = used; heads = heads }) glyphs tags homes
     going-end e =
         here Answer′.Done
-        (over _ (ap (λ (h : List Head). runOver table choices (g .left) flags h line requests) (heads-end table (g .left) walk e) ∙ run-none table choices (g .left) flags line requests))
+        (over _ (ap (λ (h : List Head). runOver table choices (g .left) flags h line requests) (heads-end (choices .edition) table (g .left) walk e) ∙ run-none table choices (g .left) flags line requests))
 
-    pub going-limit : {head : Head} {next : Walk} → headLimit ≤ heads → nextHead table walk ≡ Next′.At head next
+    pub going-limit : {head : Head} {next : Walk} → headLimit ≤ heads → nextHead (choices .edition) table walk ≡ Next′.At head next
         → RunLeaves whole l₀ (record { answer = Answer′.Limit; used = used; heads = heads }) glyphs tags homes
     going-limit {head} {next} h e =
         let n : g .left ≡ 0 = omega (arith, g .exactly) in
         here Answer′.Limit
         (over _
-        (ap (λ (k : ℕ). runOver table choices k flags (headsOf table (suc k) walk) line requests) n
-        ∙ ap (λ (x : List Head). runOver table choices 0 flags x line requests) (heads-at table 0 walk e)
-        ∙ run-limit table choices 0 flags line requests head (headsOf table 0 next)))
+        (ap (λ (k : ℕ). runOver table choices k flags (headsOf (choices .edition) table (suc k) walk) line requests) n
+        ∙ ap (λ (x : List Head). runOver table choices 0 flags x line requests) (heads-at (choices .edition) table 0 walk e)
+        ∙ run-limit table choices 0 flags line requests head (headsOf (choices .edition) table 0 next)))
 
     -- a head that was read and visited
-    module _ {head : Head} {next : Walk} {reply : PassReply} {glyphs′ tags′ homes′ : List ℕ} (room : heads < headLimit) (e : nextHead table walk ≡ Next′.At head next)
+    module _ {head : Head} {next : Walk} {reply : PassReply} {glyphs′ tags′ homes′ : List ℕ} (room : heads < headLimit) (e : nextHead (choices .edition) table walk ≡ Next′.At head next)
         (left : Leaves (visit table choices flags head line) line reply glyphs′ tags′ homes′) where
       made : List Change
       made = visit table choices flags head line .changes
@@ -175,18 +176,18 @@ module _ (table : List ℕ) (choices : Choices) (requests : List ℕ) (l₀ : Li
           ∙ ap (applyAll (visit table choices flags head line .changes)) (g .at)
           ∙ sym (applyAll-append (g .done) (visit table choices flags head line .changes) l₀)
 
-      turn : (k : ℕ) → g .left ≡ suc k → (r : Ran) → runOver table choices (suc k) flags (head ∷ headsOf table (suc k) next) line requests ≡ r → since (g .done) heads r ≡ whole
+      turn : (k : ℕ) → g .left ≡ suc k → (r : Ran) → runOver table choices (suc k) flags (head ∷ headsOf (choices .edition) table (suc k) next) line requests ≡ r → since (g .done) heads r ≡ whole
       turn k n r f =
           over r
-          (ap (λ (x : ℕ). runOver table choices x flags (headsOf table (suc x) walk) line requests) n
-          ∙ ap (λ (x : List Head). runOver table choices (suc k) flags x line requests) (heads-at table (suc k) walk e)
+          (ap (λ (x : ℕ). runOver table choices x flags (headsOf (choices .edition) table (suc x) walk) line requests) n
+          ∙ ap (λ (x : List Head). runOver table choices (suc k) flags x line requests) (heads-at (choices .edition) table (suc k) walk e)
           ∙ f)
 
       pub going-stop : isDone (reply .answer) ≡ false
           → RunLeaves whole l₀ (record { answer = reply .answer; used = reply .used; heads = heads + 1 }) glyphs′ tags′ homes′
       going-stop d =
           let (k, n) = more (g .left) (g .exactly) room in
-          let w = turn k n _ (run-stops table choices k flags line requests head (headsOf table (suc k) next) (ap isDone (sym (left .answers)) ∙ d)) in
+          let w = turn k n _ (run-stops table choices k flags line requests head (headsOf (choices .edition) table (suc k) next) (ap isDone (sym (left .answers)) ∙ d)) in
           record {
             answers = left .answers ∙ ap (λ (r : Ran). r .answer) w;
             counted = ap (λ (r : Ran). r .heads) w;
@@ -199,9 +200,9 @@ module _ (table : List ℕ) (choices : Choices) (requests : List ℕ) (l₀ : Li
       going-step {flags′} d f long-g long-t long-h =
           let (k, n) = more (g .left) (g .exactly) room in
           let cs : List Change = visit table choices flags head line .changes in
-          let then : Ran = runOver table choices k (flagsAfter table head flags requests) (headsOf table (suc k) next) (visitLeaves table choices flags head line) requests in
+          let then : Ran = runOver table choices k (flagsAfter table head flags requests) (headsOf (choices .edition) table (suc k) next) (visitLeaves table choices flags head line) requests in
           let w : since (g .done) heads (behind cs then) ≡ whole =
-          turn k n _ (run-goes table choices k flags line requests head (headsOf table (suc k) next) (ap isDone (sym (left .answers)) ∙ d)) in
+          turn k n _ (run-goes table choices k flags line requests head (headsOf (choices .edition) table (suc k) next) (ap isDone (sym (left .answers)) ∙ d)) in
           let count : heads + 1 + then .heads ≡ heads + suc (then .heads) = omega arith in
           record {
             left = k;
@@ -210,8 +211,8 @@ module _ (table : List ℕ) (choices : Choices) (requests : List ℕ) (l₀ : Li
             at = then-at;
             valid = subst⁻¹ Valid (left .line) (valid-after cs line (g .valid) (visit-fits table choices flags line head (g .valid)));
             same =
-                ap (λ (x : ℕ). since (g .done ++ cs) (heads + 1) (runOver table choices k x (headsOf table (suc k) next) (lineOf glyphs′ tags′ homes′ (reply .used)) requests)) f
-                ∙ ap (λ (x : Line). since (g .done ++ cs) (heads + 1) (runOver table choices k (flagsAfter table head flags requests) (headsOf table (suc k) next) x requests)) (left .line)
+                ap (λ (x : ℕ). since (g .done ++ cs) (heads + 1) (runOver table choices k x (headsOf (choices .edition) table (suc k) next) (lineOf glyphs′ tags′ homes′ (reply .used)) requests)) f
+                ∙ ap (λ (x : Line). since (g .done ++ cs) (heads + 1) (runOver table choices k (flagsAfter table head flags requests) (headsOf (choices .edition) table (suc k) next) x requests)) (left .line)
                 ∙ ap (λ (c : List Change). record { answer = then .answer; changes = c; heads = heads + 1 + then .heads }) (append-assoc (g .done) cs (then .changes))
                 ∙ ap (λ (x : ℕ). record { answer = then .answer; changes = g .done ++ (cs ++ then .changes); heads = x }) count
                 ∙ w;

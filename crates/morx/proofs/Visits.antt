@@ -90,9 +90,9 @@ unfolding applyAll
 still l = record { answers = refl; line = refl }
 
 module _ (table : List ℕ) (choices : Choices) (flags : ℕ) (s : Subtable) (l : Line) {bytes : List ℕ} {over : Bool} (b : bytes ≡ drop (s .place) table)
-    (o : over ≡ isPassedOver flags s bytes) where
-  over-is : isPassedOver flags s (drop (s .place) table) ≡ over
-  over-is = sym (o ∙ ap (isPassedOver flags s) b)
+    (o : over ≡ isPassedOver (choices .edition) flags s bytes) where
+  over-is : isPassedOver (choices .edition) flags s (drop (s .place) table) ≡ over
+  over-is = sym (o ∙ ap (isPassedOver (choices .edition) flags s) b)
 
   pub visit-over : over ≡ true → Leaves (visitSubtable table choices flags s l) l (record { answer = Answer′.Done; used = l .used }) (l .glyphs) (l .tags) (l .homes)
   unfolding visitSubtable
@@ -101,17 +101,17 @@ module _ (table : List ℕ) (choices : Choices) (flags : ℕ) (s : Subtable) (l 
       subst⁻¹ (λ (p : Passed). Leaves p l (record { answer = Answer′.Done; used = l .used }) (l .glyphs) (l .tags) (l .homes)) r (still l)
 
   pub visit-worked : {turned : Bool} {kind : Kind} {reply : PassReply} {answer : Answer} {glyphs tags homes : List ℕ} → over ≡ false
-      → turned ≡ isReversed (s .order) (choices .«right_to_left») → kind ≡ kindOf (s .kind) → Leaves (turnedWork turned kind bytes l) l reply glyphs tags homes
+      → turned ≡ isReversed (s .order) (choices .«right_to_left») → kind ≡ kindOf (choices .edition) (s .kind) → Leaves (turnedWork turned kind bytes l) l reply glyphs tags homes
       → answer ≡ settledAnswer (reply .answer)
       → Leaves (visitSubtable table choices flags s l) l (record { answer = answer; used = reply .used }) glyphs tags homes
   unfolding visitSubtable
   visit-worked {turned} {kind} {reply} {answer} {glyphs} {tags} {homes} e t k left a =
-      let work : Passed = turnedWork (isReversed (s .order) (choices .«right_to_left»)) (kindOf (s .kind)) (drop (s .place) table) l in
+      let work : Passed = turnedWork (isReversed (s .order) (choices .«right_to_left»)) (kindOf (choices .edition) (s .kind)) (drop (s .place) table) l in
       let r : visitSubtable table choices flags s l ≡ settled work = rw (over-is ∙ e, visitSubtable) in
       let w : turnedWork turned kind bytes l ≡ work =
       ap (λ (x : Bool). turnedWork x kind bytes l) t
       ∙ ap (λ (x : Kind). turnedWork (isReversed (s .order) (choices .«right_to_left»)) x bytes l) k
-      ∙ ap (λ (x : List ℕ). turnedWork (isReversed (s .order) (choices .«right_to_left»)) (kindOf (s .kind)) x l) b in
+      ∙ ap (λ (x : List ℕ). turnedWork (isReversed (s .order) (choices .«right_to_left»)) (kindOf (choices .edition) (s .kind)) x l) b in
       subst⁻¹ (λ (p : Passed). Leaves p l (record { answer = answer; used = reply .used }) glyphs tags homes) r
       (record {
         answers = a ∙ ap settledAnswer (left .answers ∙ ap (λ (p : Passed). p .answer) w);
@@ -119,21 +119,21 @@ module _ (table : List ℕ) (choices : Choices) (flags : ℕ) (s : Subtable) (l 
       })
 
 module _ (table : List ℕ) (choices : Choices) (flags : ℕ) (l : Line) where
-  over-fits : (s : Subtable) → Valid l → isPassedOver flags s (drop (s .place) table) ≡ true → Fits (visitSubtable table choices flags s l .changes) l
+  over-fits : (s : Subtable) → Valid l → isPassedOver (choices .edition) flags s (drop (s .place) table) ≡ true → Fits (visitSubtable table choices flags s l .changes) l
   unfolding visitSubtable
   over-fits s v e = rw (e, visitSubtable) (quiet-fits [] l v quiet-none)
 
-  work-fits : (s : Subtable) → Valid l → isPassedOver flags s (drop (s .place) table) ≡ false → Fits (visitSubtable table choices flags s l .changes) l
+  work-fits : (s : Subtable) → Valid l → isPassedOver (choices .edition) flags s (drop (s .place) table) ≡ false → Fits (visitSubtable table choices flags s l .changes) l
   unfolding visitSubtable
   work-fits s v e =
-      rw (e, visitSubtable) (turned-fits (isReversed (s .order) (choices .«right_to_left»)) (kindOf (s .kind)) (drop (s .place) table) l v)
+      rw (e, visitSubtable) (turned-fits (isReversed (s .order) (choices .«right_to_left»)) (kindOf (choices .edition) (s .kind)) (drop (s .place) table) l v)
 
   pub visit-fits : (head : Head) → Valid l → Fits (visit table choices flags head l .changes) l
   unfolding visit
   visit-fits (Head′.Chain chain) v = quiet-fits [] l v quiet-none
-  visit-fits (Head′.Subtable s) v = go (isPassedOver flags s (drop (s .place) table)) refl
+  visit-fits (Head′.Subtable s) v = go (isPassedOver (choices .edition) flags s (drop (s .place) table)) refl
     where
-      go : (b : Bool) → isPassedOver flags s (drop (s .place) table) ≡ b → Fits (visitSubtable table choices flags s l .changes) l
+      go : (b : Bool) → isPassedOver (choices .edition) flags s (drop (s .place) table) ≡ b → Fits (visitSubtable table choices flags s l .changes) l
       go true e = over-fits s v e
       go false e = work-fits s v e
 

@@ -42,4 +42,4 @@ defaultTests tableLength start l = tableTest tableLength ∷ lineTest l ∷ star
 unfoldable pub callByDefaults : List ℕ → (start : ℕ) → Choices → Line → Ran
 callByDefaults table start choices l =
     ifPassed (λ why. record { answer = Answer′.Refused why; changes = []; heads = 0 }) (refuse (defaultTests (length table) start l))
-    (overByDefaults table choices headLimit 0 (walkOf table start) l)
+    (overByDefaults table choices headLimit 0 (walkOf (choices .edition) table start) l)

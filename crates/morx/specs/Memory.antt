@@ -10,7 +10,7 @@ use Rattle.morx.specs.Kinds.{subtableOfKind, anySubtable}
 use Rattle.morx.specs.Calls.{runLeaves}
 use Rattle.morx.specs.Sequence.{Call}
 use Rattle.morx.specs.declared.Kind.{Kind}
-use Rattle.morx.specs.declared.Kind.the-variants.{Rearrangement, Contextual, Ligature, NonContextual, Insertion, LeftOut}
+use Rattle.morx.specs.declared.Kind.the-variants.{Rearrangement, Contextual, Ligature, NonContextual, Insertion, OldRearrangement, OldNonContextual, LeftOut}
 
 -- what the pass of a kind writes of the line that it leaves; there is none for a kind that is left out
 unfoldable pub writtenBy : Kind → (left was : Line) → Line
@@ -19,6 +19,8 @@ writtenBy Contextual left was = lineOf (left .glyphs) (was .tags) (was .homes) (
 writtenBy Ligature left was = lineOf (left .glyphs) (was .tags) (left .homes) (was .used)
 writtenBy NonContextual left was = lineOf (left .glyphs) (was .tags) (was .homes) (was .used)
 writtenBy Insertion left was = lineOf (left .glyphs) (left .tags) (was .homes) (left .used)
+writtenBy OldRearrangement left was = lineOf (left .glyphs) (left .tags) (was .homes) (was .used)
+writtenBy OldNonContextual left was = lineOf (left .glyphs) (was .tags) (was .homes) (was .used)
 writtenBy LeftOut left was = was
 
 unfoldable pub inMemory : Call → Line → Line
@@ -28,8 +30,8 @@ inMemory (Call.pass kind table start) l = writtenBy kind (callLeaves (subtableOf
 inMemory (Call.contextualStep c) l =
     writtenBy Contextual (stepLeaves contextual (c .table) (c .start) (c .state) l (c .index) (c .glyph) (c .ends)) l
 inMemory (Call.ligatureStep c) l = writtenBy Ligature (stepLeaves ligature (c .table) (c .start) (c .state) l (c .index) (c .glyph) (c .ends)) l
-inMemory (Call.anyPass table start) l =
-    let left : Line = callLeaves anySubtable table start l in
+inMemory (Call.anyPass edition table start) l =
+    let left : Line = callLeaves (anySubtable edition) table start l in
     lineOf (left .glyphs) (left .tags) (left .homes) (left .used)
 inMemory (Call.run table start choices requests) l =
     let left : Line = runLeaves table start choices l requests in

@@ -14,6 +14,7 @@ use Rattle.machine.specs.Pass.{Passed, isDone}
 use Rattle.chains.specs.Orders.{isReversed}
 use Rattle.chains.specs.Features.{flagsBehind}
 use Rattle.chains.specs.Walk.{walkOf}
+use Rattle.chains.specs.declared.Edition.{Edition}
 use Rattle.chains.specs.declared.Chain.{Chain}
 use Rattle.chains.specs.declared.Subtable.{Subtable}
 use Rattle.chains.specs.declared.Head.{Head}
@@ -32,8 +33,9 @@ shareBit a b = not (eqb (bitAnd a b) 0)
 
 -- a run passes over the subtables that the flags don't choose, those for vertical text alone, and those of a kind that is left out or
 -- can't be opened
-unfoldable pub isPassedOver : (flags : ℕ) → Subtable → (bytes : List ℕ) → Bool
-isPassedOver flags s bytes = cond (shareBit flags (s .flags)) (cond (s .vertical) true (not (subtableOfKind (kindOf (s .kind)) .isOpen bytes))) true
+unfoldable pub isPassedOver : Edition → (flags : ℕ) → Subtable → (bytes : List ℕ) → Bool
+isPassedOver edition flags s bytes =
+    cond (shareBit flags (s .flags)) (cond (s .vertical) true (not (subtableOfKind (kindOf edition (s .kind)) .isOpen bytes))) true
 
 -- nothing is done
 abbrev pub idle : Passed
@@ -64,9 +66,9 @@ module _ (table : List ℕ) (choices : Choices) where
   -- what it does at a subtable, under the flags of its chain
   unfoldable pub visitSubtable : (flags : ℕ) → Subtable → Line → Passed
   visitSubtable flags s l =
-      elim (isPassedOver flags s (drop (s .place) table)) [
+      elim (isPassedOver (choices .edition) flags s (drop (s .place) table)) [
         | true ↦ idle
-        | false ↦ settled (turnedWork (isReversed (s .order) (choices .«right_to_left»)) (kindOf (s .kind)) (drop (s .place) table) l)
+        | false ↦ settled (turnedWork (isReversed (s .order) (choices .«right_to_left»)) (kindOf (choices .edition) (s .kind)) (drop (s .place) table) l)
       ]
 
   -- what it does at a head: nothing at a chain
@@ -107,4 +109,4 @@ module _ (table : List ℕ) (choices : Choices) where
 
 -- the run over the table at `start`
 unfoldable pub ran : List ℕ → (start : ℕ) → Choices → Line → (requests : List ℕ) → Ran
-ran table start choices l requests = runOver table choices headLimit 0 (walkOf table start) l requests
+ran table start choices l requests = runOver table choices headLimit 0 (walkOf (choices .edition) table start) l requests

@@ -1,8 +1,9 @@
-// morx: the pass by a subtable of whatever kind, and the whole run over a table.
+// morx and mort: the pass by a subtable of whatever kind, and the whole run over a table.
 use answers::Answer;
 use answers::Check;
 use answers::HEADS;
 use answers::Refusal;
+use chains::Edition;
 use chains::Head;
 use chains::NextHead;
 use chains::Subtable;
@@ -28,13 +29,15 @@ ghost use Rattle.morx.specs.Work.{subtableLeaves, turnedLeaves, ranLeave
 // The most features that a run may be asked for.
 pub const REQUESTS: usize = 64;
 
-// The kinds of subtables; those that are left out are one.
+// The kinds of subtables, mort's two behind morx's; those that are left out are one.
 pub enum Kind {
     Rearrangement,
     Contextual,
     Ligature,
     NonContextual,
     Insertion,
+    OldRearrangement,
+    OldNonContextual,
     LeftOut,
 }
 
@@ -44,9 +47,10 @@ pub struct PassReply {
     pub used: usize,
 }
 
-// What a run is told beside the table and the line: whether the line goes from right to left.
+// What a run is told beside the table and the line: whether the line goes from right to left, and which edition the table is.
 pub struct Choices {
     pub right_to_left: bool,
+    pub edition: Edition,
 }
 
 // What a run answers, the used length afterwards, and how many heads it read.
@@ -56,9 +60,9 @@ pub struct RunReply {
     pub heads: u32,
 }
 
-// The kind of this number.
-fn kind_of(number: u32) -> Kind
-    ensures { λ r. ⌜ r ≡ kindOf number ⌝ }
+// The kind of this number in morx.
+fn new_kind(number: u32) -> Kind
+    ensures { λ r. ⌜ r ≡ kindOf Edition.Morx number ⌝ }
 {
     if number == RearrangementState::KIND {
         return Kind::Rearrangement;
@@ -78,9 +82,32 @@ fn kind_of(number: u32) -> Kind
     Kind::LeftOut
 }
 
-// The kind of the subtable that the bytes begin with; one whose head is cut short has none that is taken.
-fn kind_at(bytes: &[u8]) -> Kind
-    ensures { λ r. ⌜ r ≡ kindAt (now (bytes .entry)) ⌝ }
+// In mort.
+fn old_kind(number: u32) -> Kind
+    ensures { λ r. ⌜ r ≡ kindOf Edition.Mort number ⌝ }
+{
+    if number == mort::REARRANGEMENT as u32 {
+        return Kind::OldRearrangement;
+    }
+    if number == mort::NONCONTEXTUAL as u32 {
+        return Kind::OldNonContextual;
+    }
+    Kind::LeftOut
+}
+
+// In either.
+fn kind_of(edition: Edition, number: u32) -> Kind
+    ensures { λ r. ⌜ r ≡ kindOf edition number ⌝ }
+{
+    match edition {
+        Edition::Morx => new_kind(number),
+        Edition::Mort => old_kind(number),
+    }
+}
+
+// The kind of the morx subtable that the bytes begin with; one whose head is cut short has none that is taken.
+fn new_kind_at(bytes: &[u8]) -> Kind
+    ensures { λ r. ⌜ r ≡ kindAt Edition.Morx (now (bytes .entry)) ⌝ }
 {
     let parse::ReadPart::Until(_) = parse::read_part(bytes, 0, 12) else {
         return Kind::LeftOut;
@@ -88,7 +115,30 @@ fn kind_at(bytes: &[u8]) -> Kind
     let parse::ReadU32::Got(coverage) = parse::read_u32(bytes, 4) else {
         return Kind::LeftOut;
     };
-    kind_of(coverage % 256)
+    new_kind(coverage % 256)
+}
+
+// The same of a mort subtable.
+fn old_kind_at(bytes: &[u8]) -> Kind
+    ensures { λ r. ⌜ r ≡ kindAt Edition.Mort (now (bytes .entry)) ⌝ }
+{
+    if mort::has_kind(bytes, mort::REARRANGEMENT) {
+        return Kind::OldRearrangement;
+    }
+    if mort::has_kind(bytes, mort::NONCONTEXTUAL) {
+        return Kind::OldNonContextual;
+    }
+    Kind::LeftOut
+}
+
+// Of either.
+fn kind_at(edition: Edition, bytes: &[u8]) -> Kind
+    ensures { λ r. ⌜ r ≡ kindAt edition (now (bytes .entry)) ⌝ }
+{
+    match edition {
+        Edition::Morx => new_kind_at(bytes),
+        Edition::Mort => old_kind_at(bytes),
+    }
 }
 
 // The pass by a subtable of a kind, on a line that LINE has taken; HEAD where it can't be opened.
@@ -131,6 +181,14 @@ fn work(
                 used: done.used,
             };
         }
+        Kind::OldRearrangement => {
+            let answer = mort::rearrange(bytes, glyphs, tags, homes, used);
+            return PassReply { answer, used };
+        }
+        Kind::OldNonContextual => {
+            let answer = mort::substitute(bytes, glyphs, tags, homes, used);
+            return PassReply { answer, used };
+        }
         Kind::LeftOut => {
             return PassReply {
                 answer: Answer::Refused(Refusal::Head),
@@ -159,6 +217,12 @@ fn opens(kind: Kind, bytes: &[u8]) -> bool
         }
         Kind::Insertion => {
             return machine::is_ready(insertion::open(bytes));
+        }
+        Kind::OldRearrangement => {
+            return mort::has_kind(bytes, mort::REARRANGEMENT);
+        }
+        Kind::OldNonContextual => {
+            return mort::has_kind(bytes, mort::NONCONTEXTUAL);
         }
         Kind::LeftOut => {
             return false;
@@ -208,8 +272,8 @@ fn share_bit(a: u32, b: u32) -> bool
 }
 
 // Whether a run passes over a subtable, whose bytes these are.
-fn passes_over(flags: u32, subtable: Subtable, bytes: &[u8]) -> bool
-    ensures { λ r. ⌜ r ≡ isPassedOver flags subtable (now (bytes .entry)) ⌝ }
+fn passes_over(edition: Edition, flags: u32, subtable: Subtable, bytes: &[u8]) -> bool
+    ensures { λ r. ⌜ r ≡ isPassedOver edition flags subtable (now (bytes .entry)) ⌝ }
 {
     if !share_bit(flags, subtable.flags) {
         return true;
@@ -217,7 +281,7 @@ fn passes_over(flags: u32, subtable: Subtable, bytes: &[u8]) -> bool
     if subtable.vertical {
         return true;
     }
-    !opens(kind_of(subtable.kind), bytes)
+    !opens(kind_of(edition, subtable.kind), bytes)
 }
 
 // What a pass's answer is to its run: FULL ends that, any other end is the subtable's own.
@@ -252,7 +316,8 @@ fn visit_subtable(
     ensures homes { λ _. ⌜ now (homes .exit) ≡ subtableLeaves (now (table .entry)) choices flags subtable (lineOf (now (glyphs .entry)) (now (tags .entry)) (now (homes .entry)) used) .homes ⌝ }
 {
     let bytes = parse::from(table, subtable.place);
-    if passes_over(flags, subtable, bytes) {
+    let edition = choices.edition;
+    if passes_over(edition, flags, subtable, bytes) {
         return PassReply {
             answer: Answer::Done,
             used,
@@ -260,7 +325,7 @@ fn visit_subtable(
     }
     let order = subtable.order;
     let turned = chains::should_reverse(order, choices.right_to_left);
-    let kind = kind_of(subtable.kind);
+    let kind = kind_of(edition, subtable.kind);
     let reply = turn_and_work(turned, kind, bytes, glyphs, tags, homes, used);
     let answer = reply.answer;
     PassReply {
@@ -323,12 +388,13 @@ fn run_line(
     ensures tags { λ _. ⌜ now (tags .exit) ≡ ranLeaves (now (table .entry)) start choices (lineOf (now (glyphs .entry)) (now (tags .entry)) (now (homes .entry)) used) (now (requests .entry)) .tags ⌝ }
     ensures homes { λ _. ⌜ now (homes .exit) ≡ ranLeaves (now (table .entry)) start choices (lineOf (now (glyphs .entry)) (now (tags .entry)) (now (homes .entry)) used) (now (requests .entry)) .homes ⌝ }
 {
+    let edition = choices.edition;
     let mut walk = chains::walk_from(table, start);
     let mut flags: u32 = 0;
     let mut heads: u32 = 0;
     let mut length = used;
     while heads < HEADS {
-        let NextHead::At { head, next } = chains::next_head(table, walk) else {
+        let NextHead::At { head, next } = chains::next_head(edition, table, walk) else {
             return RunReply {
                 answer: Answer::Done,
                 used: length,
@@ -349,7 +415,7 @@ fn run_line(
         flags = flags_after(table, head, flags, requests);
         walk = next;
     }
-    let NextHead::At { head: _, next: _ } = chains::next_head(table, walk) else {
+    let NextHead::At { head: _, next: _ } = chains::next_head(edition, table, walk) else {
         return RunReply {
             answer: Answer::Done,
             used: length,
@@ -384,6 +450,7 @@ fn refuse_line(
 
 // The pass over a line, by the subtable at `start`, of whatever kind.
 pub fn pass(
+    edition: Edition,
     table: &[u8],
     start: usize,
     glyphs: &mut [u16],
@@ -391,10 +458,10 @@ pub fn pass(
     homes: &mut [u16],
     used: usize,
 ) -> PassReply
-    ensures reply { λ r. ⌜ r ≡ passReplyOf (passCall anySubtable (now (table .entry)) start (lineOf (now (glyphs .entry)) (now (tags .entry)) (now (homes .entry)) used)) (lineOf (now (glyphs .entry)) (now (tags .entry)) (now (homes .entry)) used) ⌝ }
-    ensures glyphs { λ _. ⌜ now (glyphs .exit) ≡ callLeaves anySubtable (now (table .entry)) start (lineOf (now (glyphs .entry)) (now (tags .entry)) (now (homes .entry)) used) .glyphs ⌝ }
-    ensures tags { λ _. ⌜ now (tags .exit) ≡ callLeaves anySubtable (now (table .entry)) start (lineOf (now (glyphs .entry)) (now (tags .entry)) (now (homes .entry)) used) .tags ⌝ }
-    ensures homes { λ _. ⌜ now (homes .exit) ≡ callLeaves anySubtable (now (table .entry)) start (lineOf (now (glyphs .entry)) (now (tags .entry)) (now (homes .entry)) used) .homes ⌝ }
+    ensures reply { λ r. ⌜ r ≡ passReplyOf (passCall (anySubtable edition) (now (table .entry)) start (lineOf (now (glyphs .entry)) (now (tags .entry)) (now (homes .entry)) used)) (lineOf (now (glyphs .entry)) (now (tags .entry)) (now (homes .entry)) used) ⌝ }
+    ensures glyphs { λ _. ⌜ now (glyphs .exit) ≡ callLeaves (anySubtable edition) (now (table .entry)) start (lineOf (now (glyphs .entry)) (now (tags .entry)) (now (homes .entry)) used) .glyphs ⌝ }
+    ensures tags { λ _. ⌜ now (tags .exit) ≡ callLeaves (anySubtable edition) (now (table .entry)) start (lineOf (now (glyphs .entry)) (now (tags .entry)) (now (homes .entry)) used) .tags ⌝ }
+    ensures homes { λ _. ⌜ now (homes .exit) ≡ callLeaves (anySubtable edition) (now (table .entry)) start (lineOf (now (glyphs .entry)) (now (tags .entry)) (now (homes .entry)) used) .homes ⌝ }
 {
     if let Check::Refused(why) = refuse_line(table.len(), glyphs, tags, homes, used) {
         return PassReply {
@@ -403,7 +470,7 @@ pub fn pass(
         };
     }
     let bytes = parse::from(table, start);
-    work(kind_at(bytes), bytes, glyphs, tags, homes, used)
+    work(kind_at(edition, bytes), bytes, glyphs, tags, homes, used)
 }
 
 // The tests before a run: TABLE, REQUEST, LINE, HEAD.

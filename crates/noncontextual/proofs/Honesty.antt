@@ -23,17 +23,21 @@ unfolding historyOf editsOf inserted
 quiet-writes place (Found′.At glyph) = refl
 quiet-writes place (Found′.Nothing why) = refl
 
-quiet-below : (body glyphs : List ℕ) (n : ℕ) → Quiet (writesBelow body glyphs n)
+quiet-below : (lookup : ℕ → Found) (glyphs : List ℕ) (n : ℕ) → Quiet (writesBelow lookup glyphs n)
 unfolding writesBelow
-quiet-below body glyphs zero = quiet-none
-quiet-below body glyphs (suc n) =
-    quiet-append (writesBelow body glyphs n) (writesOf n (lookupAt body (getD glyphs n 0)))
-    (quiet-below body glyphs n) (quiet-writes n (lookupAt body (getD glyphs n 0)))
+quiet-below lookup glyphs zero = quiet-none
+quiet-below lookup glyphs (suc n) =
+    quiet-append (writesBelow lookup glyphs n) (writesOf n (lookup (getD glyphs n 0)))
+    (quiet-below lookup glyphs n) (quiet-writes n (lookup (getD glyphs n 0)))
+
+-- by any lookup
+pub quiet-pass : (lookup : ℕ → Found) (l : Line) → Quiet (passed lookup l .changes)
+unfolding passed
+quiet-pass lookup l = quiet-below lookup (l .glyphs) (l .used)
 
 pub worked-fits : (bytes : List ℕ) (l : Line) → Valid l → Fits (noncontextual .worked bytes l .changes) l
-unfolding passed
 worked-fits bytes l v = quiet-fits _ l v (go (hasKind bytes 4))
   where
-    go : (kind : Bool) → Quiet (cond kind (passed (bodyOf bytes) l) (refusedPass Refusal′.Head) .changes)
-    go true = quiet-below (bodyOf bytes) (l .glyphs) (l .used)
+    go : (kind : Bool) → Quiet (cond kind (passed (lookupAt (bodyOf bytes)) l) (refusedPass Refusal′.Head) .changes)
+    go true = quiet-pass (lookupAt (bodyOf bytes)) l
     go false = quiet-none

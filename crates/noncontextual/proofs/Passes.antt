@@ -50,35 +50,46 @@ unfolding written
 becomes-replaced used place (Found′.At glyph) glyphs h = rw (lt-ltb place used h)
 becomes-replaced used place (Found′.Nothing why) glyphs h = set-getD glyphs place 0
 
-module _ (body glyphs₀ tags homes : List ℕ) (used : ℕ) where
+module _ (lookup : ℕ → Found) (glyphs₀ tags homes : List ℕ) (used : ℕ) where
   -- what the loop knows at place i
   pub record Going (glyphs : List ℕ) (i : ℕ) : Type 0 where
     pub within : i ≤ used
-    pub made : lineOf glyphs tags homes used ≡ applyAll (writesBelow body glyphs₀ i) (lineOf glyphs₀ tags homes used)
+    pub made : lineOf glyphs tags homes used ≡ applyAll (writesBelow lookup glyphs₀ i) (lineOf glyphs₀ tags homes used)
     pub ahead : (k : ℕ) → i ≤ k → getD glyphs k 0 ≡ getD glyphs₀ k 0
     pub long : length glyphs ≡ length glyphs₀
 
   pub going-step : {glyphs glyphs′ : List ℕ} {i : ℕ} → Going glyphs i → i < used
-      → glyphs′ ≡ replaced used i (lookupAt body (getD glyphs i 0)) glyphs → length glyphs′ ≡ length glyphs → Going glyphs′ (i + 1)
+      → glyphs′ ≡ replaced used i (lookup (getD glyphs i 0)) glyphs → length glyphs′ ≡ length glyphs → Going glyphs′ (i + 1)
   unfolding writesBelow
   going-step {glyphs} {glyphs′} {i} g h e len =
-      let found = lookupAt body (getD glyphs₀ i 0) in
-      let e′ : glyphs′ ≡ replaced used i found glyphs = e ∙ ap (λ (x : ℕ). replaced used i (lookupAt body x) glyphs) (g .ahead i (omega arith)) in
+      let found = lookup (getD glyphs₀ i 0) in
+      let e′ : glyphs′ ≡ replaced used i found glyphs = e ∙ ap (λ (x : ℕ). replaced used i (lookup x) glyphs) (g .ahead i (omega arith)) in
       record {
         within = omega arith;
         made =
             ap (λ (x : List ℕ). lineOf x tags homes used) e′
             ∙ replaced-line i found glyphs tags homes used
             ∙ ap (applyAll (writesOf i found)) (g .made)
-            ∙ sym (applyAll-append (writesBelow body glyphs₀ i) (writesOf i found) (lineOf glyphs₀ tags homes used))
-            ∙ ap (λ (n : ℕ). applyAll (writesBelow body glyphs₀ n) (lineOf glyphs₀ tags homes used)) (sym (add-one i));
+            ∙ sym (applyAll-append (writesBelow lookup glyphs₀ i) (writesOf i found) (lineOf glyphs₀ tags homes used))
+            ∙ ap (λ (n : ℕ). applyAll (writesBelow lookup glyphs₀ n) (lineOf glyphs₀ tags homes used)) (sym (add-one i));
         ahead = λ k p. ap (λ (x : List ℕ). getD x k 0) e′ ∙ replaced-other i found glyphs used h k (omega arith) ∙ g .ahead k (omega arith);
         long = len ∙ g .long;
       }
 
+  pub going-done : {glyphs : List ℕ} {i : ℕ} → Going glyphs i → used ≤ i → glyphs ≡ passedLeaves lookup (lineOf glyphs₀ tags homes used) .glyphs
+  unfolding passedLeaves passed
+  going-done {glyphs} {i} g h =
+      let n : i ≡ used = omega (arith, g .within) in
+      ap (λ (l : Line). l .glyphs) (g .made ∙ ap (λ (n : ℕ). applyAll (writesBelow lookup glyphs₀ n) (lineOf glyphs₀ tags homes used)) n)
+
+pub going-start : (lookup : ℕ → Found) (glyphs tags homes : List ℕ) (used : ℕ) → Going lookup glyphs tags homes used glyphs 0
+unfolding writesBelow applyAll
+going-start lookup glyphs tags homes used = record { within = omega arith; made = refl; ahead = λ k p. refl; long = refl }
+
+module _ (body glyphs₀ tags homes : List ℕ) (used : ℕ) where
   -- a lookup that was opened
-  pub going-found : {glyphs glyphs′ : List ℕ} {i : ℕ} {opened : Opened} → opened ≡ openedOf body → Going glyphs i → i < used
-      → glyphs′ ≡ replaced used i (foundIn body opened (getD glyphs i 0)) glyphs → length glyphs′ ≡ length glyphs → Going glyphs′ (i + 1)
+  pub going-found : {glyphs glyphs′ : List ℕ} {i : ℕ} {opened : Opened} → opened ≡ openedOf body → Going (lookupAt body) glyphs₀ tags homes used glyphs i → i < used
+      → glyphs′ ≡ replaced used i (foundIn body opened (getD glyphs i 0)) glyphs → length glyphs′ ≡ length glyphs → Going (lookupAt body) glyphs₀ tags homes used glyphs′ (i + 1)
   going-found {glyphs} {glyphs′} {i} o g h e len =
       let glyph = getD glyphs i 0 in
       let e′ : glyphs′ ≡ replaced used i (lookupAt body glyph) glyphs =
@@ -86,22 +97,12 @@ module _ (body glyphs₀ tags homes : List ℕ) (used : ℕ) where
       ∙ ap (λ (x : Opened). replaced used i (foundIn body x glyph) glyphs) o
       ∙ ap (λ (found : Found). replaced used i found glyphs) (opened-same body glyph)
       ∙ replaced-plain used i (lookupAt body glyph) glyphs in
-      going-step g h e′ len
+      going-step (lookupAt body) glyphs₀ tags homes used g h e′ len
 
   -- what becomes of the glyph
-  pub going-becomes : {glyphs : List ℕ} {i becoming : ℕ} → Going glyphs i → i < used → becoming ≡ becomesBy body (getD glyphs i 0) → Going (set glyphs i becoming) (i + 1)
+  pub going-becomes : {glyphs : List ℕ} {i becoming : ℕ} → Going (lookupAt body) glyphs₀ tags homes used glyphs i → i < used → becoming ≡ becomesBy body (getD glyphs i 0) → Going (lookupAt body) glyphs₀ tags homes used (set glyphs i becoming) (i + 1)
   unfolding becomesBy
   going-becomes {glyphs} {i} {becoming} g h e =
-      going-step g h
+      going-step (lookupAt body) glyphs₀ tags homes used g h
       (ap (set glyphs i) e ∙ becomes-replaced used i (lookupAt body (getD glyphs i 0)) glyphs h)
       (length-set glyphs i becoming)
-
-  pub going-done : {glyphs : List ℕ} {i : ℕ} → Going glyphs i → used ≤ i → glyphs ≡ passedLeaves body (lineOf glyphs₀ tags homes used) .glyphs
-  unfolding passedLeaves passed
-  going-done {glyphs} {i} g h =
-      let n : i ≡ used = omega (arith, g .within) in
-      ap (λ (l : Line). l .glyphs) (g .made ∙ ap (λ (n : ℕ). applyAll (writesBelow body glyphs₀ n) (lineOf glyphs₀ tags homes used)) n)
-
-pub going-start : (body glyphs tags homes : List ℕ) (used : ℕ) → Going body glyphs tags homes used glyphs 0
-unfolding writesBelow applyAll
-going-start body glyphs tags homes used = record { within = omega arith; made = refl; ahead = λ k p. refl; long = refl }

@@ -19,19 +19,19 @@ abbrev pub writesOf : (place : ℕ) → Found → List Change
 writesOf place (Found′.At glyph) = Change.write place glyph ∷ []
 writesOf place (Found′.Nothing why) = []
 
--- what is written at the first n places, each by the glyph that stands there; deleted glyphs are looked up like any other
-unfoldable pub writesBelow : List ℕ → (glyphs : List ℕ) → (n : ℕ) → List Change
-writesBelow body glyphs zero = []
-writesBelow body glyphs (suc n) = writesBelow body glyphs n ++ writesOf n (lookupAt body (getD glyphs n 0))
+-- what is written at the first n places by any lookup, each by the glyph that stands there; deleted glyphs are looked up like any other
+unfoldable pub writesBelow : (lookup : ℕ → Found) → (glyphs : List ℕ) → (n : ℕ) → List Change
+writesBelow lookup glyphs zero = []
+writesBelow lookup glyphs (suc n) = writesBelow lookup glyphs n ++ writesOf n (lookup (getD glyphs n 0))
 
 -- the pass over a line: always DONE, and no end call
-unfoldable pub passed : List ℕ → Line → Passed
-passed body l = record { answer = Answer′.Done; changes = writesBelow body (l .glyphs) (l .used) }
+unfoldable pub passed : (lookup : ℕ → Found) → Line → Passed
+passed lookup l = record { answer = Answer′.Done; changes = writesBelow lookup (l .glyphs) (l .used) }
 
 -- by the lookup right behind the head of a subtable of this kind; HEAD where it is none
 abbrev pub noncontextual : Subtable
 noncontextual =
     record {
       isOpen = λ bytes. hasKind bytes 4;
-      worked = λ bytes l. cond (hasKind bytes 4) (passed (bodyOf bytes) l) (refusedPass Refusal′.Head);
+      worked = λ bytes l. cond (hasKind bytes 4) (passed (lookupAt (bodyOf bytes)) l) (refusedPass Refusal′.Head);
     }

@@ -19,8 +19,8 @@ replaced used place (Found′.At glyph) glyphs = written used place glyph glyphs
 replaced used place (Found′.Nothing why) glyphs = glyphs
 
 -- the line that a pass leaves
-unfoldable pub passedLeaves : List ℕ → Line → Line
-passedLeaves body l = applyAll (passed body l .changes) l
+unfoldable pub passedLeaves : (lookup : ℕ → Found) → Line → Line
+passedLeaves lookup l = applyAll (passed lookup l .changes) l
 
 -- what becomes of a glyph
 unfoldable pub becomesBy : List ℕ → (glyph : ℕ) → ℕ

@@ -12,12 +12,15 @@ ghost use mathlib.Core.Path.{_≡_};
 ghost use Prim.Native.Nat.{_≤_};
 ghost use lib.ListN.{length};
 ghost use Rattle.line.specs.Line.{lineOf};
+ghost use Rattle.tables.specs.Lookup.{lookupAt};
 ghost use Rattle.tables.specs.Opened.{foundIn, LiesIn};
 ghost use Rattle.tables.specs.Whole.{recordsOf};
 ghost use Rattle.noncontextual.specs.NonContextual.{noncontextual};
 ghost use Rattle.machine.specs.Machine.{passCall, callLeaves};
 ghost use Rattle.machine.specs.Work.{workLeaves};
 ghost use Rattle.noncontextual.specs.Work.{replaced, passedLeaves, becomesBy, Remembers, noted};
+
+pub mod sized;
 
 // The kind of a non-contextual subtable.
 pub const KIND: u32 = 4;
@@ -36,7 +39,7 @@ fn replace(body: &[u8], opened: Opened, glyphs: &mut [u16], used: usize, place: 
 // The pass by a lookup of any format.
 fn by_lookup(body: &[u8], glyphs: &mut [u16], tags: &[u16], homes: &[u16], used: usize)
     requires { ⌜ used ≤ length (now glyphs) ⌝ }
-    ensures { λ _. ⌜ now (glyphs .exit) ≡ passedLeaves (now (body .entry)) (lineOf (now (glyphs .entry)) (now (tags .entry)) (now (homes .entry)) used) .glyphs ⌝ }
+    ensures { λ _. ⌜ now (glyphs .exit) ≡ passedLeaves (lookupAt (now (body .entry))) (lineOf (now (glyphs .entry)) (now (tags .entry)) (now (homes .entry)) used) .glyphs ⌝ }
 {
     let opened = opened::open(body);
     let mut place = 0;
@@ -75,7 +78,7 @@ fn by_records(
     used: usize,
 )
     requires { ⌜ (recordsOf (now body) ≡ Records.Whole kind count) × (used ≤ length (now glyphs)) ⌝ }
-    ensures { λ _. ⌜ now (glyphs .exit) ≡ passedLeaves (now (body .entry)) (lineOf (now (glyphs .entry)) (now (tags .entry)) (now (homes .entry)) used) .glyphs ⌝ }
+    ensures { λ _. ⌜ now (glyphs .exit) ≡ passedLeaves (lookupAt (now (body .entry))) (lineOf (now (glyphs .entry)) (now (tags .entry)) (now (homes .entry)) used) .glyphs ⌝ }
 {
     let mut memo = [0; 64];
     let mut place: usize = 0;
@@ -89,7 +92,7 @@ fn by_records(
 // The pass over a line that LINE has taken, with the bytes of the lookup.
 fn pass_line(body: &[u8], glyphs: &mut [u16], tags: &[u16], homes: &[u16], used: usize)
     requires { ⌜ used ≤ length (now glyphs) ⌝ }
-    ensures { λ _. ⌜ now (glyphs .exit) ≡ passedLeaves (now (body .entry)) (lineOf (now (glyphs .entry)) (now (tags .entry)) (now (homes .entry)) used) .glyphs ⌝ }
+    ensures { λ _. ⌜ now (glyphs .exit) ≡ passedLeaves (lookupAt (now (body .entry))) (lineOf (now (glyphs .entry)) (now (tags .entry)) (now (homes .entry)) used) .glyphs ⌝ }
 {
     let Records::Whole { kind, count } = whole::records_of(body) else {
         return by_lookup(body, glyphs, tags, homes, used);

@@ -15,6 +15,8 @@ use Rattle.insertion.proofs.Turns.{insertion-turns}
 use Rattle.kerning_machine.proofs.Turns.{kerning-turns}
 use Rattle.anchor_machine.proofs.Turns.{anchor-turns}
 use Rattle.morx.proofs.Heads.{heads-counted}
+use Rattle.mort.proofs.Passes.{rearranges, ends-closed, substitutes}
+use Rattle.morx.proofs.Older.{old-homes, old-used, old-run-homes, old-run-used}
 use Rattle.morx.proofs.Requests.{no-requests, any-order, flags-as-manual}
 use Rattle.stored.specs.Entries.{newestVersion}
 use Rattle.stored.specs.Reading.{readLine}
@@ -44,7 +46,7 @@ use Rattle.ligature.proofs.Manual.{action-by-manual, action-past-manual, compon
 use Rattle.insertion.proofs.Manual.{glyphs-by-manual, list-by-manual, list-past-manual, list-at-end}
 use Rattle.chains.proofs.ManualWalk.{walk-as-manual}
 use Rattle.chains.proofs.ManualFlags.{features-ended}
-use Rattle.chains.proofs.Manual.{order-as-manual, reverse-as-manual, vertical-as-manual, chain-as-manual, chains-end, feature-as-manual, features-end, subtable-as-manual, subtables-end}
+use Rattle.chains.proofs.Manual.{order-as-manual, reverse-as-manual, orders-as-manual, reverses-as-manual, vertical-as-manual, chain-as-manual, chains-end, feature-as-manual, features-end, subtable-as-manual, subtables-end}
 use Rattle.pairs.proofs.Reasons.{pair-passes-on, absent-uncovered, left-speaks-first, right-speaks-next, number-speaks-last, pass-drops}
 use Rattle.pairs.proofs.Joined.{neighbours-all, joined-pairs, joined-without-deleted}
 use Rattle.kerning.proofs.Choosing.{unnamed-bits, crate-chosen}
@@ -65,7 +67,7 @@ use Rattle.anchors.proofs.Manual.{points-as-manual}
 use Rattle.anchor_machine.proofs.Manual.{record-by-manual, record-past-manual}
 use Rattle.anchor_machine.proofs.Exactly.{offset-exact}
 use Rattle.promises.specs.Demand1.{Demand1}
-use Rattle.promises.specs.Demand2.{Lookups, Reasons, Mends, StateTables, Verbs, SubtableLists, Chains, Features, Kerning, Choosing, Marks, Demand2}
+use Rattle.promises.specs.Demand2.{Lookups, Reasons, Mends, StateTables, Verbs, SubtableLists, Chains, Older, Features, Kerning, Choosing, Marks, Demand2}
 use Rattle.promises.specs.Demand3.{Stored, Demand3}
 use Rattle.promises.proofs.Known.{known-answers, known-reasons, known-pairs}
 use Rattle.promises.proofs.KnownMarks.{known-marks}
@@ -176,6 +178,8 @@ chains =
     record {
       order-as-manual = order-as-manual;
       reverse-as-manual = reverse-as-manual;
+      orders-as-manual = orders-as-manual;
+      reverses-as-manual = reverses-as-manual;
       vertical-as-manual = vertical-as-manual;
       chain-as-manual = chain-as-manual;
       chains-end = chains-end;
@@ -184,6 +188,18 @@ chains =
       subtable-as-manual = subtable-as-manual;
       subtables-end = subtables-end;
       walk-as-manual = walk-as-manual;
+    }
+
+older : Older
+older =
+    record {
+      rearranges = rearranges;
+      ends-closed = ends-closed;
+      substitutes = substitutes;
+      old-homes = old-homes;
+      old-used = old-used;
+      old-run-homes = old-run-homes;
+      old-run-used = old-run-used;
     }
 
 features : Features
@@ -246,6 +262,7 @@ demand2 =
       verbs = verbs;
       subtable-lists = subtable-lists;
       chains = chains;
+      older = older;
       features = features;
       kerning = kerning;
       choosing = choosing;

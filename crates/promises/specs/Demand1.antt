@@ -64,7 +64,7 @@ pub record Demand1 : Type 0 where
       → Ligature.ran bytes states index glyph class (more + 18) state stack cycles made ≡ Ligature.ran bytes states index glyph class 18 state stack cycles made
   pub action-turns : (bytes places : List ℕ) (depth more number at sum cycles : ℕ) (glyphs : List ℕ) (made : List Ligature.Ligation) → cycles ≤ 33
       → Ligature.acts bytes places depth (more + 34) number at sum cycles glyphs made ≡ Ligature.acts bytes places depth 34 number at sum cycles glyphs made
-  -- a run of morx counts the heads of the walk: all of them (DONE), 65,535 of more (LIMIT), or those up to the subtable that ran full (FULL)
+  -- a run of morx or of mort counts the heads of the walk: all of them (DONE), 65,535 of more (LIMIT), or those up to the subtable that ran full (FULL)
   pub heads-counted : (table : List ℕ) (start : ℕ) (choices : Choices) (l : Line) (requests : List ℕ)
       → Counted table start choices l requests (ran table start choices l requests)
   -- followed from a list's start, kern's cursor gives exactly the subtables of the run's walk, in the places of the whole table; so does kerx's

@@ -9,7 +9,7 @@ use lib.IntN.{ℤ}
 use lib.ListN.{length, getD, take, drop}
 use Rattle.laws.specs.Choose.{ifLt}
 use Rattle.answers.specs.Limits.{tableLimit, headLimit}
-use Rattle.answers.specs.declared.Answer.the-variants.{Done, Refused}
+use Rattle.answers.specs.declared.Answer.the-variants.{Done, Ended, Refused}
 use Rattle.answers.specs.declared.Refusal.{Refusal}
 use Rattle.answers.specs.declared.Refusal.the-variants.{Overlap}
 use Rattle.parse.specs.Reads.{u8At, u16At, u32At, readU16}
@@ -32,6 +32,7 @@ use Rattle.tables.specs.declared.records.Keys.the-variants.{Glyphs, Pairs}
 use Rattle.tables.specs.declared.records.Spot.the-variants as Spot
 use Rattle.tables.specs.declared.lookup.Why.{Why}
 use Rattle.tables.specs.declared.lookup.Why.the-variants.{NotCovered, CutShort}
+use Rattle.tables.specs.declared.lookup.Found.{Found}
 use Rattle.tables.specs.declared.lookup.Found.the-variants as Found
 use Rattle.tables.specs.declared.survey.Surveyed.{Surveyed}
 use Rattle.tables.specs.declared.survey.Surveyed.the-variants.{Sorted, Bad}
@@ -44,11 +45,12 @@ use Rattle.state_tables.specs.Classes.{classOf}
 use Rattle.state_tables.specs.Manual as StateTable
 use Rattle.state_tables.specs.Manual.{ClassIs, LookupGives, ArrayGives, classTable, extended, classic}
 use Rattle.state_tables.specs.declared.States.{States}
-use Rattle.state_tables.specs.declared.Made.the-variants.{Ready}
+use Rattle.state_tables.specs.declared.Made.the-variants.{Ready, Short}
 use Rattle.ltag.specs.Ltag.{languageIndex}
 use Rattle.ltag.specs.Manual as Ltag
 use Rattle.verbs.specs.Verbs.{placeOf, fromOf, rearranged}
 use Rattle.verbs.specs.Drawn.{AsDrawn}
+use Rattle.noncontextual.specs.NonContextual as NonContextual
 use Rattle.noncontextual.specs.NonContextual.{writesBelow}
 use Rattle.contextual.specs.Substitutes.{substituteOf, substituteBy}
 use Rattle.contextual.specs.Manual.{lookupNumber}
@@ -58,18 +60,25 @@ use Rattle.ligature.specs.Manual.{actionNumber, componentNumber, ligatureNumber
 use Rattle.insertion.specs.Lists.{glyphList, glyphsAt}
 use Rattle.insertion.specs.Manual.{glyphsFrom}
 use Rattle.insertion.specs.declared.Listed.the-variants as Listed
-use Rattle.chains.specs.Orders.{orderOf, isReversed, isVertical}
+use Rattle.chains.specs.Orders.{orderOf, orderIn, isReversed, isVertical}
 use Rattle.chains.specs.Lists.{chainsFrom, nextChain, nextFeature, nextSubtable}
 use Rattle.chains.specs.Followed.{afterChains, afterFeatures, afterSubtables}
 use Rattle.chains.specs.Walk.{walkOf}
 use Rattle.chains.specs.Features.{isAsked}
-use Rattle.chains.specs.Manual.{manualOrder, manualReversed, onlyVertical, Lie, EndsAt, chainTotal, chainPlace, featureTotal, featurePlace, subtableTotal, subtablePlace, manualChain, manualFeature, manualSubtable, manualHeads, manualFlags}
+use Rattle.chains.specs.Manual.{manualOrder, manualReversed, onlyVertical, Lie, EndsAt, chainHeadSize, chainTotal, chainPlace, featureTotal, featurePlace}
+use Rattle.chains.specs.Manual.{subtableHeadSize, subtableTotal, subtablePlace, manualChain, manualFeature, manualSubtable, manualHeads, manualFlags}
+use Rattle.chains.specs.declared.Edition.{Edition}
+use Rattle.chains.specs.declared.Edition.the-variants.{Morx, Mort}
 use Rattle.chains.specs.declared.NextChain.the-variants as Chain
 use Rattle.chains.specs.declared.NextFeature.the-variants as Feature
 use Rattle.chains.specs.declared.NextSubtable.the-variants as Subtable
 use Rattle.line.specs.Line.{Line}
+use Rattle.machine.specs.Machine.{passed, callLeaves}
+use Rattle.rearrangement.specs.Calls.{rearrangement}
+use Rattle.mort.specs.Mort.{hasKind, oldRearrangement, oldNonContextual}
+use Rattle.morx.specs.Kinds.{anySubtable}
 use Rattle.morx.specs.Run.{choosing}
-use Rattle.morx.specs.Calls.{requestLimit, runCall}
+use Rattle.morx.specs.Calls.{requestLimit, runCall, runLeaves}
 use Rattle.morx.specs.Defaults.{callByDefaults}
 use Rattle.morx.specs.declared.Choices.{Choices}
 use Rattle.pairs.specs.Pairs.{keyOf, numberAt, pairNumber}
@@ -191,8 +200,8 @@ pub record Reasons : Type 0 where
       → u32At bytes 16 + number * 4 + 4 ≤ length bytes → (why : Why) → lookupAt (lookupNumber bytes number) glyph ≡ Found.Nothing why
       → substituteOf bytes number glyph ≡ Substitute.None
   -- non-contextual substitution drops it: nothing is written at the glyph's place
-  pub noncontextual-drops : (body glyphs : List ℕ) (place : ℕ) (why : Why) → lookupAt body (getD glyphs place 0) ≡ Found.Nothing why
-      → writesBelow body glyphs (suc place) ≡ writesBelow body glyphs place
+  pub noncontextual-drops : (lookup : ℕ → Found) (glyphs : List ℕ) (place : ℕ) (why : Why) → lookup (getD glyphs place 0) ≡ Found.Nothing why
+      → writesBelow lookup glyphs (suc place) ≡ writesBelow lookup glyphs place
   -- the pair pass drops it: two neighbours add nothing
   pub pass-drops : (number : (left right : ℕ) → Number) (glyphs : List ℕ) (place : ℕ) (why : Why)
       → number (getD glyphs place 0) (getD glyphs (suc place) 0) ≡ Number.Nothing why
@@ -283,36 +292,60 @@ pub record SubtableLists : Type 0 where
   pub list-at-end : (bytes : List ℕ) (number count : ℕ) → (number ≡ 0xFFFF → ⊥) → 20 ≤ length bytes
       → length bytes ≤ u32At bytes 16 + number * 2 → glyphList bytes number count ≡ Listed.Short
 
--- morx's coverage, chains, features and subtables.
+-- The coverage, chains, features and subtables of morx and of mort.
 pub record Chains : Type 0 where
   -- order, reversal and vertical-only are what the manual's table says of the coverage's bits
-  pub order-as-manual : (coverage : ℕ) → orderOf coverage ≡ manualOrder coverage
-  pub reverse-as-manual : (coverage : ℕ) (rightToLeft : Bool) → isReversed (orderOf coverage) rightToLeft ≡ manualReversed coverage rightToLeft
-  pub vertical-as-manual : (coverage : ℕ) → isVertical coverage ≡ onlyVertical coverage
+  pub order-as-manual : (coverage : ℕ) → orderOf coverage ≡ manualOrder Morx coverage
+  pub reverse-as-manual : (coverage : ℕ) (rightToLeft : Bool) → isReversed (orderOf coverage) rightToLeft ≡ manualReversed Morx coverage rightToLeft
+  pub orders-as-manual : (edition : Edition) (coverage : ℕ) → orderIn edition coverage ≡ manualOrder edition coverage
+  pub reverses-as-manual : (edition : Edition) (coverage : ℕ) (rightToLeft : Bool)
+      → isReversed (orderIn edition coverage) rightToLeft ≡ manualReversed edition coverage rightToLeft
+  pub vertical-as-manual : (edition : Edition) (coverage : ℕ) → isVertical edition coverage ≡ onlyVertical edition coverage
   -- chain i is the manual's, and the list ends where the manual's does: at its count, or at the first head that does not lie in the table
-  pub chain-as-manual : (table : List ℕ) (start : ℕ) → start + 8 ≤ length table → (i : ℕ) → i < chainTotal table start
-      → Lie table 16 (chainPlace table start) (suc i)
-      → nextChain table (afterChains table i (chainsFrom table start))
-      ≡ Chain.At (manualChain table (chainPlace table start i) (chainTotal table start - suc i))
-  pub chains-end : (table : List ℕ) (start : ℕ) → start + 8 ≤ length table → (n : ℕ)
-      → EndsAt table 16 (chainPlace table start) (chainTotal table start) n
-      → nextChain table (afterChains table n (chainsFrom table start)) ≡ Chain.End
+  pub chain-as-manual : (edition : Edition) (table : List ℕ) (start : ℕ) → start + 8 ≤ length table → (i : ℕ) → i < chainTotal table start
+      → Lie table (chainHeadSize edition) (chainPlace table start) (suc i)
+      → nextChain edition table (afterChains table edition i (chainsFrom table start))
+      ≡ Chain.At (manualChain edition table (chainPlace table start i) (chainTotal table start - suc i))
+  pub chains-end : (edition : Edition) (table : List ℕ) (start : ℕ) → start + 8 ≤ length table → (n : ℕ)
+      → EndsAt table (chainHeadSize edition) (chainPlace table start) (chainTotal table start) n
+      → nextChain edition table (afterChains table edition n (chainsFrom table start)) ≡ Chain.End
   -- so are feature j of a chain
-  pub feature-as-manual : (table : List ℕ) (chain j : ℕ) → j < featureTotal table chain → Lie table 12 (featurePlace table chain) (suc j)
-      → nextFeature table (afterFeatures table j (manualChain table chain 0 .features))
-      ≡ Feature.At (manualFeature table (featurePlace table chain j) (featureTotal table chain - suc j))
-  pub features-end : (table : List ℕ) (chain n : ℕ) → EndsAt table 12 (featurePlace table chain) (featureTotal table chain) n
-      → nextFeature table (afterFeatures table n (manualChain table chain 0 .features)) ≡ Feature.End
+  pub feature-as-manual : (edition : Edition) (table : List ℕ) (chain j : ℕ) → j < featureTotal edition table chain → Lie table 12 (featurePlace edition chain) (suc j)
+      → nextFeature table (afterFeatures table j (manualChain edition table chain 0 .features))
+      ≡ Feature.At (manualFeature table (featurePlace edition chain j) (featureTotal edition table chain - suc j))
+  pub features-end : (edition : Edition) (table : List ℕ) (chain n : ℕ) → EndsAt table 12 (featurePlace edition chain) (featureTotal edition table chain) n
+      → nextFeature table (afterFeatures table n (manualChain edition table chain 0 .features)) ≡ Feature.End
   -- and subtable k
-  pub subtable-as-manual : (table : List ℕ) (chain k : ℕ) → k < subtableTotal table chain → Lie table 12 (subtablePlace table chain) (suc k)
-      → nextSubtable table (afterSubtables table k (manualChain table chain 0 .subtables))
-      ≡ Subtable.At (manualSubtable table (subtablePlace table chain k) (subtableTotal table chain - suc k))
-  pub subtables-end : (table : List ℕ) (chain n : ℕ) → EndsAt table 12 (subtablePlace table chain) (subtableTotal table chain) n
-      → nextSubtable table (afterSubtables table n (manualChain table chain 0 .subtables)) ≡ Subtable.End
+  pub subtable-as-manual : (edition : Edition) (table : List ℕ) (chain k : ℕ) → k < subtableTotal edition table chain
+      → Lie table (subtableHeadSize edition) (subtablePlace edition table chain) (suc k)
+      → nextSubtable edition table (afterSubtables table edition k (manualChain edition table chain 0 .subtables))
+      ≡ Subtable.At (manualSubtable edition table (subtablePlace edition table chain k) (subtableTotal edition table chain - suc k))
+  pub subtables-end : (edition : Edition) (table : List ℕ) (chain n : ℕ)
+      → EndsAt table (subtableHeadSize edition) (subtablePlace edition table chain) (subtableTotal edition table chain) n
+      → nextSubtable edition table (afterSubtables table edition n (manualChain edition table chain 0 .subtables)) ≡ Subtable.End
   -- the heads that a run walks over are the manual's, chain 0, its subtables, chain 1, and so on: as many of them as a run may count, and one more
-  pub walk-as-manual : (table : List ℕ) (start : ℕ) → walkOf table start ≡ take (suc headLimit) (manualHeads table start)
+  pub walk-as-manual : (edition : Edition) (table : List ℕ) (start : ℕ) → walkOf edition table start ≡ take (suc headLimit) (manualHeads edition table start)
 
--- The features that a run of morx is asked for.
+-- The passes by a mort subtable. The classic state table's classes and entries are the manual's, as `StateTables` says, and so is what a lookup finds in the
+-- manual's reading.
+pub record Older : Type 0 where
+  -- kind 0: the rearrangement machine of morx, by the classic state table behind the head
+  pub rearranges : (bytes : List ℕ) (l : Line) {states : States} → hasKind bytes 0 ≡ true → classicAt (drop 8 bytes) ≡ Ready states
+      → oldRearrangement .worked bytes l ≡ passed rearrangement (drop 8 bytes) states l
+  -- where that can't be opened the pass is ENDED, and changes nothing
+  pub ends-closed : (bytes : List ℕ) (l : Line) → hasKind bytes 0 ≡ true → classicAt (drop 8 bytes) ≡ Short
+      → oldRearrangement .worked bytes l ≡ record { answer = Ended; changes = [] }
+  -- kind 4: the non-contextual pass of morx, by the lookup behind the head in the manual's reading
+  pub substitutes : (bytes : List ℕ) (l : Line) → hasKind bytes 4 ≡ true → oldNonContextual .worked bytes l ≡ NonContextual.passed (lookupBy Manual (drop 8 bytes)) l
+  -- no pass and no run changes homes or the used length
+  pub old-homes : (table : List ℕ) (start : ℕ) (l : Line) → callLeaves (anySubtable Mort) table start l .homes ≡ l .homes
+  pub old-used : (table : List ℕ) (start : ℕ) (l : Line) → callLeaves (anySubtable Mort) table start l .used ≡ l .used
+  pub old-run-homes : (table : List ℕ) (start : ℕ) (l : Line) (rightToLeft : Bool) (requests : List ℕ)
+      → runLeaves table start (record { «right_to_left» = rightToLeft; edition = Mort }) l requests .homes ≡ l .homes
+  pub old-run-used : (table : List ℕ) (start : ℕ) (l : Line) (rightToLeft : Bool) (requests : List ℕ)
+      → runLeaves table start (record { «right_to_left» = rightToLeft; edition = Mort }) l requests .used ≡ l .used
+
+-- The features that a run is asked for.
 pub record Features : Type 0 where
   -- with no requests the run is that of document 01, by a chain's default flags alone
   pub no-requests : (table : List ℕ) (start : ℕ) (choices : Choices) (l : Line) → runCall table start choices l [] ≡ callByDefaults table start choices l
@@ -320,10 +353,11 @@ pub record Features : Type 0 where
   pub any-order : (table : List ℕ) (start : ℕ) (choices : Choices) (l : Line) (xs ys : List ℕ) → ((request : ℕ) → isAsked xs request ≡ isAsked ys request)
       → length xs ≤ requestLimit → length ys ≤ requestLimit → runCall table start choices l xs ≡ runCall table start choices l ys
   -- a chain's flags are the manual's, over the features that lie where it says, up to the first that does not
-  pub flags-as-manual : (table requests : List ℕ) (chain left n : ℕ) → EndsAt table 12 (featurePlace table chain) (featureTotal table chain) n
-      → choosing table requests (manualChain table chain left) ≡ manualFlags table requests chain n
+  pub flags-as-manual : (edition : Edition) (table requests : List ℕ) (chain left n : ℕ)
+      → EndsAt table 12 (featurePlace edition chain) (featureTotal edition table chain) n
+      → choosing table requests (manualChain edition table chain left) ≡ manualFlags edition table requests chain n
   -- and in every table there is such an end
-  pub features-ended : (table : List ℕ) (chain : ℕ) → (n : ℕ) × EndsAt table 12 (featurePlace table chain) (featureTotal table chain) n
+  pub features-ended : (edition : Edition) (table : List ℕ) (chain : ℕ) → (n : ℕ) × EndsAt table 12 (featurePlace edition chain) (featureTotal edition table chain) n
 
 -- kern and kerx.
 pub record Kerning : Type 0 where
@@ -450,6 +484,7 @@ pub record Demand2 : Type 0 where
   pub verbs : Verbs
   pub subtable-lists : SubtableLists
   pub chains : Chains
+  pub older : Older
   pub features : Features
   pub kerning : Kerning
   pub choosing : Choosing

@@ -49,7 +49,7 @@ pub record Stored : Type 0 where
 
 pub record Demand3 : Type 0 where
   -- Demand 3 itself: from a fresh line, over any sequence of lone verbs, passes of every kind, steps that write the line and whole runs with any
-  -- requests, refused and cut-short ones included, on any tables
+  -- requests, of morx and of mort in any mixture, refused and cut-short ones included, on any tables
   pub fresh-demand3 : (glyphs tags homes : List ℕ) → refuse (freshTests glyphs tags homes) ≡ Passed → (calls : List Call)
       → FromFresh (length glyphs) (length homes)
       (historyBy leaves makes calls (freshOf glyphs tags homes)) (leftBy leaves makes calls (freshOf glyphs tags homes))

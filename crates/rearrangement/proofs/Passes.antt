@@ -248,3 +248,9 @@ going-start bytes states glyphs tags homes used {opened} {memo} o m e =
       long-glyphs = refl;
       long-tags = refl;
     })
+
+-- a class that was read where it lies is that of the class table as it is opened
+pub class-lent : (bytes : List ℕ) (states : States) (glyph : ℕ) {class : ℕ} → class ≡ classHere (classOf bytes states) glyph false
+    → class ≡ classBy bytes (openedClasses bytes (states .edition)) glyph
+unfolding classHere
+class-lent bytes states glyph e = e ∙ sym (classes-same bytes states glyph)

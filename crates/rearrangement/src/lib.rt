@@ -26,6 +26,8 @@ ghost use Rattle.machine.specs.Call.{stepTests};
 ghost use Rattle.machine.specs.Machine.{passed, subtableOf, passCall, callLeaves};
 ghost use Rattle.machine.specs.Work.{passedLeaves, workLeaves};
 
+pub mod lent;
+
 // The state of a pass: the state table's state, the marked window, and how many steps in a row did not advance.
 pub struct RearrangementState {
     pub first: usize,

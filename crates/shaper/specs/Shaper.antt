@@ -11,6 +11,7 @@ use Rattle.parse.specs.Use.{onU16, onU32}
 use Rattle.line.specs.Line.{Line}
 use Rattle.line.specs.Changes.{glyphsOf}
 use Rattle.line.specs.Entries.{freshOf}
+use Rattle.chains.specs.declared.Edition.the-variants.{Morx}
 use Rattle.morx.specs.Run.{Ran}
 use Rattle.morx.specs.Calls.{runCall, runLeaves}
 use Rattle.morx.specs.declared.Choices.{Choices}
@@ -42,9 +43,9 @@ inputOf input =
     (λ size. ifLt shaperTable size (Refused Refusal′.Table) (lineIn input (4 + size)))
     (Refused Refusal′.Line)
 
--- left to right
+-- left to right, by a morx table
 abbrev pub leftToRight : Choices
-leftToRight = record { «right_to_left» = false }
+leftToRight = record { «right_to_left» = false; edition = Morx }
 
 -- the fresh line of as many characters as there are homes, whose glyphs are those of the bytes `new`; the rest of the room is as it was
 unfoldable pub startLine : (new glyphs tags homes : List ℕ) → Line

@@ -1,6 +1,7 @@
 // The shaper: takes its input apart into a morx table and a line of glyphs, and runs the one over the other.
 use answers::Answer;
 use answers::Refusal;
+use chains::Edition;
 use morx::Choices;
 use morx::RunReply;
 ghost use mathlib.Core.Path.{_≡_};
@@ -76,6 +77,7 @@ fn shape_line(
     line::edits::number(homes, 0, 0, characters);
     let choices = Choices {
         right_to_left: false,
+        edition: Edition::Morx,
     };
     morx::run(table, 0, choices, glyphs, tags, homes, characters, &[])
 }

@@ -111,8 +111,25 @@ impl Surveyor<'_> {
         Some(())
     }
 
-    /// A classic state table.
+    /// A classic state table and its lists.
     fn classic(&mut self, body: usize) -> Option<()> {
+        let reached = self.classic_machine(body)?;
+        self.holds("its head", body, 10)?;
+        let values = word(self.table, body + 8)?;
+        for list in reached.iter().map(|entry| entry.flags & 0x3FFF).filter(|list| *list != 0) {
+            self.holds("a list of numbers", body + usize::from(list), 2);
+            if list < values || (list - values) % 2 != 0 {
+                self.fault(
+                    "values",
+                    format!("its list at {} is none of its value table", body + usize::from(list) - ALONE_AT),
+                );
+            }
+        }
+        Some(())
+    }
+
+    /// A classic state table: the entries that are reached.
+    pub fn classic_machine(&mut self, body: usize) -> Option<Vec<Reached>> {
         self.holds("its state table", body, 8)?;
         let [classes, array, rows, entries] = [0, 2, 4, 6].map(|field| word(self.table, body + field).unwrap_or(0));
         let array = body + usize::from(array);
@@ -129,7 +146,7 @@ impl Surveyor<'_> {
         })?;
         let (rows_at, entries_at) = (body + usize::from(rows), body + usize::from(entries));
         let layout = Layout { rows: rows_at, width: classes.into(), cell: 1, entries: entries_at, size: 4 };
-        let reached = self.walk(layout, |surveyor, at| {
+        self.walk(layout, |surveyor, at| {
             let (next, flags) = (word(surveyor.table, at)?, word(surveyor.table, at + 2)?);
             let place = at - ALONE_AT;
             let past = match next.checked_sub(rows) {
@@ -143,18 +160,6 @@ impl Surveyor<'_> {
                 surveyor.fault("rounded", format!("the entry at {} leads to no whole row (row 7)", place));
             }
             Some((past / classes.max(1), Reached { flags, words: [NONE; 2] }))
-        })?;
-        self.holds("its head", body, 10)?;
-        let values = word(self.table, body + 8)?;
-        for list in reached.iter().map(|entry| entry.flags & 0x3FFF).filter(|list| *list != 0) {
-            self.holds("a list of numbers", body + usize::from(list), 2);
-            if list < values || (list - values) % 2 != 0 {
-                self.fault(
-                    "values",
-                    format!("its list at {} is none of its value table", body + usize::from(list) - ALONE_AT),
-                );
-            }
-        }
-        Some(())
+        })
     }
 }

@@ -1,6 +1,7 @@
 //! What a font's tables for shaping hold, and what in them is out of order. Lookup tables are surveyed by the box.
 
 mod kerning;
+mod mort;
 mod morx;
 
 use crate::font::sfnt::{long, word, Font};
@@ -41,6 +42,7 @@ pub fn list(font: &Font, tables: &Tables, the_box: &mut TheBox) -> Result<Invent
         };
         match name {
             "morx" => surveyor.morx(),
+            "mort" => surveyor.mort(),
             "kerx" => surveyor.kerning(Kerning::Kerx),
             "kern" => surveyor.kerning(Kerning::Kern),
             _ => surveyor.ltag(),

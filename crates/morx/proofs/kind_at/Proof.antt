@@ -1,53 +1,28 @@
-use mathlib.Core.Path.{sym, _∙_}
-use native.Mathlib.Omega.{arith}
-use Rattle.parse.proofs.Laws.{part-short, part-inside, inside-fits, readU32-got}
-use Rattle.morx.proofs.Machines.{kind-cut, kind-unread, kind-is}
-use Rattle.morx.specs.Kinds.{kindAt}
 use borrow.Author.Needs.{needs}
 use Rattle.morx.proofs.kind_at.Statement.{statement}
 use Rattle.morx.proofs.kind_at.Tie as tie
-
-read-part-requires : tie.Need-read-part-requires
-read-part-requires c κs = search needs
+use Rattle.morx.proofs.new_kind_at.Reads as new-kind-at-reads
+use Rattle.morx.proofs.old_kind_at.Reads as old-kind-at-reads
 
 enum-told : tie.Need-enum-told
 enum-told c = search needs
 
+new-kind-at-requires : tie.Need-new-kind-at-requires
+new-kind-at-requires c κs = search needs
+
 enum-told-2 : tie.Need-enum-told-2
 enum-told-2 c = search needs
 
+old-kind-at-requires : tie.Need-old-kind-at-requires
+old-kind-at-requires c κs = search needs
+
 returns : tie.Need-returns
-returns c = search kind-cut
-
-read-u32-requires : tie.Need-read-u32-requires
-read-u32-requires c κs = search needs
-
-enum-known-coverage : tie.Need-enum-known-coverage
-enum-known-coverage c = search needs
-
-enum-told-3 : tie.Need-enum-told-3
-enum-told-3 c = search needs
+returns c = rw (c .before .enum-told .given .1, c .new-kind-at .ensures)
 
 returns-2 : tie.Need-returns-2
-returns-2 c = search kind-unread
-
-kind-of-requires : tie.Need-kind-of-requires
-kind-of-requires c κs = search needs
-
-returns-3 : tie.Need-returns-3
-returns-3 c = search kind-is
+returns-2 c = rw (c .before .enum-told2 .given .1, c .old-kind-at .ensures)
 
 pub kind-at-spec : {M : Type 1} → statement M
 kind-at-spec =
     tie.close
-    (tie.spec
-    read-part-requires
-    enum-told
-    enum-told-2
-    returns
-    read-u32-requires
-    enum-known-coverage
-    enum-told-3
-    returns-2
-    kind-of-requires
-    returns-3)
+    (tie.spec enum-told new-kind-at-requires enum-told-2 old-kind-at-requires returns returns-2)

@@ -1,31 +1,28 @@
-use borrow.Author.Tests.{eq-eqb, ne-eqb}
-use Rattle.morx.specs.Kinds.{kindOf}
+use borrow.Author.Needs.{needs}
 use Rattle.morx.proofs.kind_of.Statement.{statement}
 use Rattle.morx.proofs.kind_of.Tie as tie
+use Rattle.morx.proofs.new_kind.Reads as new-kind-reads
+use Rattle.morx.proofs.old_kind.Reads as old-kind-reads
+
+enum-told : tie.Need-enum-told
+enum-told c = search needs
+
+new-kind-requires : tie.Need-new-kind-requires
+new-kind-requires c κs = search needs
+
+enum-told-2 : tie.Need-enum-told-2
+enum-told-2 c = search needs
+
+old-kind-requires : tie.Need-old-kind-requires
+old-kind-requires c κs = search needs
 
 returns : tie.Need-returns
-unfolding kindOf
-returns c = rw (eq-eqb _ _ (c .if1 .taken), kindOf)
+returns c = rw (c .before .enum-told .given .1, c .new-kind .ensures)
 
 returns-2 : tie.Need-returns-2
-unfolding kindOf
-returns-2 c = rw (ne-eqb _ _ (c .before .if1 .left), eq-eqb _ _ (c .if2 .taken), kindOf)
-
-returns-3 : tie.Need-returns-3
-unfolding kindOf
-returns-3 c = rw (ne-eqb _ _ (c .before .before .if1 .left), ne-eqb _ _ (c .before .if2 .left), eq-eqb _ _ (c .if3 .taken), kindOf)
-
-returns-4 : tie.Need-returns-4
-unfolding kindOf
-returns-4 c = rw (ne-eqb _ _ (c .before .before .before .if1 .left), ne-eqb _ _ (c .before .before .if2 .left), ne-eqb _ _ (c .before .if3 .left), eq-eqb _ _ (c .if4 .taken), kindOf)
-
-returns-5 : tie.Need-returns-5
-unfolding kindOf
-returns-5 c = rw (ne-eqb _ _ (c .before .before .before .before .if1 .left), ne-eqb _ _ (c .before .before .before .if2 .left), ne-eqb _ _ (c .before .before .if3 .left), ne-eqb _ _ (c .before .if4 .left), eq-eqb _ _ (c .if5 .taken), kindOf)
-
-returns-6 : tie.Need-returns-6
-unfolding kindOf
-returns-6 c = rw (ne-eqb _ _ (c .before .before .before .before .if1 .left), ne-eqb _ _ (c .before .before .before .if2 .left), ne-eqb _ _ (c .before .before .if3 .left), ne-eqb _ _ (c .before .if4 .left), ne-eqb _ _ (c .if5 .left), kindOf)
+returns-2 c = rw (c .before .enum-told2 .given .1, c .old-kind .ensures)
 
 pub kind-of-spec : {M : Type 1} → statement M
-kind-of-spec = tie.close (tie.spec returns returns-2 returns-3 returns-4 returns-5 returns-6)
+kind-of-spec =
+    tie.close
+    (tie.spec enum-told new-kind-requires enum-told-2 old-kind-requires returns returns-2)

@@ -68,9 +68,29 @@ returns-5 c = rw (c .before .before .enum-told5 .given .1, c .is-ready4 .ensures
 enum-told-6 : tie.Need-enum-told-6
 enum-told-6 c = search needs
 
+has-kind-requires-2 : tie.Need-has-kind-requires-2
+has-kind-requires-2 c κs = search needs
+
 returns-6 : tie.Need-returns-6
 unfolding subtableOfKind
-returns-6 c = rw (c .enum-told6 .given .1, subtableOfKind)
+returns-6 c = rw (c .before .enum-told6 .given .1, c .has-kind2 .ensures, subtableOfKind)
+
+enum-told-7 : tie.Need-enum-told-7
+enum-told-7 c = search needs
+
+has-kind-requires-3 : tie.Need-has-kind-requires-3
+has-kind-requires-3 c κs = search needs
+
+returns-7 : tie.Need-returns-7
+unfolding subtableOfKind
+returns-7 c = rw (c .before .enum-told7 .given .1, c .has-kind3 .ensures, subtableOfKind)
+
+enum-told-8 : tie.Need-enum-told-8
+enum-told-8 c = search needs
+
+returns-8 : tie.Need-returns-8
+unfolding subtableOfKind
+returns-8 c = rw (c .enum-told8 .given .1, subtableOfKind)
 
 pub opens-spec : {M : Type 1} → statement M
 opens-spec =
@@ -96,4 +116,10 @@ opens-spec =
     is-ready-requires-4
     returns-5
     enum-told-6
-    returns-6)
+    has-kind-requires-2
+    returns-6
+    enum-told-7
+    has-kind-requires-3
+    returns-7
+    enum-told-8
+    returns-8)

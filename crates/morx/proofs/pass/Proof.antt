@@ -26,7 +26,7 @@ same-length-3 c = search needs
 
 returns : tie.Need-returns
 unfolding callLeaves
-returns c = to-post (passCall anySubtable _ _ (lineOf _ _ _ _)) (lineOf _ _ _ _) _ _ _ _ (pass-refused _ _ (lineOf _ _ _ _) (c .before .before .before .refuse-line .ensures) (c .before .why .given .1))
+returns c = to-post (passCall (anySubtable _) _ _ (lineOf _ _ _ _)) (lineOf _ _ _ _) _ _ _ _ (pass-refused _ _ _ (lineOf _ _ _ _) (c .before .before .before .refuse-line .ensures) (c .before .why .given .1))
 
 enum-told : tie.Need-enum-told
 enum-told c = search needs
@@ -60,7 +60,7 @@ returns-2 c =
     let at-from = at-kind-at .before in
     let at-enum-told = at-from .before in
     let at-refuse-line = at-enum-told .before .before in
-    to-post (passCall anySubtable _ _ (lineOf _ _ _ _)) (lineOf _ _ _ _) _ _ _ _ (pass-worked _ _ (lineOf _ _ _ _) (at-refuse-line .refuse-line .ensures) (at-enum-told .enum-told .given .1) (at-from .from .ensures) (at-kind-at .kind-at .ensures) (of-post (subtableOfKind _ .worked _ (lineOf _ _ _ _)) (lineOf _ _ _ _) _ _ _ _ (at-work .work .ensures)))
+    to-post (passCall (anySubtable _) _ _ (lineOf _ _ _ _)) (lineOf _ _ _ _) _ _ _ _ (pass-worked _ _ _ (lineOf _ _ _ _) (at-refuse-line .refuse-line .ensures) (at-enum-told .enum-told .given .1) (at-from .from .ensures) (at-kind-at .kind-at .ensures) (of-post (subtableOfKind _ .worked _ (lineOf _ _ _ _)) (lineOf _ _ _ _) _ _ _ _ (at-work .work .ensures)))
 
 pub pass-spec : {M : Type 1} → statement M
 pass-spec =

@@ -14,11 +14,11 @@ use Rattle.morx.proofs.run_line.Statement.{statement}
 use Rattle.morx.proofs.run_line.Tie as tie
 
 abbrev Inv-loop : tie.InvT-loop
-Inv-loop table start choices glyphs₀ tags₀ homes₀ used requests walk₀ flags₀ heads₀ length₀ glyphs tags homes walk flags heads length =
+Inv-loop table start choices glyphs₀ tags₀ homes₀ used requests edition walk₀ flags₀ heads₀ length₀ glyphs tags homes walk flags heads length =
     Going table choices requests (lineOf glyphs₀ tags₀ homes₀ used) (ran table start choices (lineOf glyphs₀ tags₀ homes₀ used) requests) glyphs tags homes walk flags heads length
 
 abbrev μ-loop : tie.MeasureT-loop
-μ-loop table start choices glyphs₀ tags₀ homes₀ used requests walk₀ flags₀ heads₀ length₀ glyphs tags homes walk flags heads length =
+μ-loop table start choices glyphs₀ tags₀ homes₀ used requests edition walk₀ flags₀ heads₀ length₀ glyphs tags homes walk flags heads length =
     65535 - heads
 
 walk-from-requires : tie.Need-walk-from-requires Inv-loop μ-loop

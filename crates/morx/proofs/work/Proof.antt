@@ -3,7 +3,7 @@ use Rattle.line.specs.Line.{lineOf}
 use Rattle.morx.specs.Kinds.{subtableOfKind}
 use Rattle.machine.specs.Work.{workLeaves}
 use Rattle.morx.proofs.Leaves.{to-post, valid-line, fits-tags}
-use Rattle.morx.proofs.Machines.{by-rearrangement, by-contextual, by-ligature, by-noncontextual, by-insertion, by-none}
+use Rattle.morx.proofs.Machines.{by-rearrangement, by-contextual, by-ligature, by-noncontextual, by-insertion, by-old-rearrangement, by-old-noncontextual, by-none}
 use borrow.Author.Needs.{needs}
 use Rattle.morx.proofs.work.Statement.{statement}
 use Rattle.morx.proofs.work.Tie as tie
@@ -134,9 +134,58 @@ returns-5 c =
 enum-told-6 : tie.Need-enum-told-6
 enum-told-6 c = search needs
 
+rearrange-requires : tie.Need-rearrange-requires
+rearrange-requires c κs =
+    let start = c .before .before .before .before .before .before .before .before .before in
+    let v = valid-line (start .pre) in
+    (v .within, fits-tags v, omega (arith, v .within, v .limited))
+
+same-length-16 : tie.Need-same-length-16
+same-length-16 c = search needs
+
+same-length-17 : tie.Need-same-length-17
+same-length-17 c = search needs
+
+same-length-18 : tie.Need-same-length-18
+same-length-18 c = search needs
+
 returns-6 : tie.Need-returns-6
 unfolding workLeaves
-returns-6 c = to-post (subtableOfKind _ .worked _ (lineOf _ _ _ _)) (lineOf _ _ _ _) _ _ _ _ (by-none _ _ _ _ _ _ (c .enum-told6 .given .1))
+returns-6 c =
+    let at-rearrange = c .before .before .before .before in
+    let at-enum-told6 = at-rearrange .before .before .before .before in
+    to-post (subtableOfKind _ .worked _ (lineOf _ _ _ _)) (lineOf _ _ _ _) _ _ _ _ (by-old-rearrangement _ _ _ _ _ _ (at-enum-told6 .enum-told6 .given .1) (at-rearrange .rearrange .ensures .0) (at-rearrange .rearrange .ensures .1 .0) (at-rearrange .rearrange .ensures .1 .1))
+
+enum-told-7 : tie.Need-enum-told-7
+enum-told-7 c = search needs
+
+substitute-requires : tie.Need-substitute-requires
+substitute-requires c κs =
+    let start = c .before .before .before .before .before .before .before .before .before in
+    valid-line (start .pre) .within
+
+same-length-19 : tie.Need-same-length-19
+same-length-19 c = search needs
+
+same-length-20 : tie.Need-same-length-20
+same-length-20 c = search needs
+
+same-length-21 : tie.Need-same-length-21
+same-length-21 c = search needs
+
+returns-7 : tie.Need-returns-7
+unfolding workLeaves
+returns-7 c =
+    let at-substitute = c .before .before in
+    let at-enum-told7 = at-substitute .before .before .before .before in
+    to-post (subtableOfKind _ .worked _ (lineOf _ _ _ _)) (lineOf _ _ _ _) _ _ _ _ (by-old-noncontextual _ _ _ _ _ _ (at-enum-told7 .enum-told7 .given .1) (at-substitute .substitute .ensures .0) (at-substitute .substitute .ensures .1))
+
+enum-told-8 : tie.Need-enum-told-8
+enum-told-8 c = search needs
+
+returns-8 : tie.Need-returns-8
+unfolding workLeaves
+returns-8 c = to-post (subtableOfKind _ .worked _ (lineOf _ _ _ _)) (lineOf _ _ _ _) _ _ _ _ (by-none _ _ _ _ _ _ (c .enum-told8 .given .1))
 
 pub work-spec : {M : Type 1} → statement M
 work-spec =
@@ -173,4 +222,16 @@ work-spec =
     same-length-15
     returns-5
     enum-told-6
-    returns-6)
+    rearrange-requires
+    same-length-16
+    same-length-17
+    same-length-18
+    returns-6
+    enum-told-7
+    substitute-requires
+    same-length-19
+    same-length-20
+    same-length-21
+    returns-7
+    enum-told-8
+    returns-8)

@@ -1,6 +1,7 @@
 use borrow.Author.Needs.{needs}
 use Prim.Native.Nat.{_-_}
 use native.Mathlib.Omega.{arith}
+use Rattle.tables.specs.Lookup.{lookupAt}
 use Rattle.noncontextual.proofs.Passes.{Going, going-start, going-found, going-done, opened-inside}
 use Rattle.noncontextual.proofs.by_lookup.Statement.{statement}
 use Rattle.noncontextual.proofs.by_lookup.Tie as tie
@@ -10,7 +11,7 @@ use Rattle.noncontextual.proofs.replace.Reads as replace-reads
 use Rattle.tables.proofs.opened.open.Reads as open-reads
 
 abbrev Inv-loop : tie.InvT-loop
-Inv-loop body glyphs₀ tags homes used opened place₀ glyphs place = Going body glyphs₀ tags homes used glyphs place
+Inv-loop body glyphs₀ tags homes used opened place₀ glyphs place = Going (lookupAt body) glyphs₀ tags homes used glyphs place
 
 abbrev μ-loop : tie.MeasureT-loop
 μ-loop body glyphs₀ tags homes used opened place₀ glyphs place = used - place

@@ -1,6 +1,7 @@
 use borrow.Author.Needs.{needs}
 use Prim.Native.Nat.{_-_}
 use native.Mathlib.Omega.{arith}
+use Rattle.tables.specs.Lookup.{lookupAt}
 use Rattle.noncontextual.specs.Work.{becomesBy, Remembers}
 use Rattle.noncontextual.proofs.Memos.{nothing-remembered, still-remembers}
 use Rattle.noncontextual.proofs.Passes.{Going, going-start, going-becomes, going-done}
@@ -11,7 +12,7 @@ use Rattle.noncontextual.proofs.by_records.Lts as lts
 use Rattle.noncontextual.proofs.remembered.Reads as remembered-reads
 
 abbrev Inv-loop : tie.InvT-loop
-Inv-loop body kind count glyphs₀ tags homes used memo₀ place₀ glyphs memo place = Going body glyphs₀ tags homes used glyphs place × Remembers (becomesBy body) memo
+Inv-loop body kind count glyphs₀ tags homes used memo₀ place₀ glyphs memo place = Going (lookupAt body) glyphs₀ tags homes used glyphs place × Remembers (becomesBy body) memo
 
 abbrev μ-loop : tie.MeasureT-loop
 μ-loop body kind count glyphs₀ tags homes used memo₀ place₀ glyphs memo place = used - place

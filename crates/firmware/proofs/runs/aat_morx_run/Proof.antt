@@ -1,6 +1,6 @@
 use Rattle.firmware.proofs.Stepping.{numbered, kept, put}
 use Rattle.firmware.specs.Runs.{morxRun, morxLeaves}
-use Rattle.firmware.specs.Features.{morxRunWith, morxLeavesWith}
+use Rattle.firmware.specs.Features.{runOf, leavesOf, morxRunWith, morxLeavesWith}
 use Rattle.morx.specs.declared.RunReply.{RunReply}
 use Rattle.morx.specs.Calls.{runLeaves}
 use mathlib.Core.Path.{_∙_, ap, refl}
@@ -33,7 +33,7 @@ same-length-3 : tie.Need-same-length-3
 same-length-3 c = search needs
 
 returns : tie.Need-returns
-unfolding morxRun morxLeaves morxRunWith morxLeavesWith runLeaves
+unfolding morxRun morxLeaves morxRunWith morxLeavesWith runOf leavesOf runLeaves
 returns c =
     let at-if1 = c .before in
     let at-is-refused = at-if1 .before in
@@ -54,7 +54,7 @@ same-length-6 : tie.Need-same-length-6
 same-length-6 c = search needs
 
 returns-2 : tie.Need-returns-2
-unfolding morxRun morxLeaves morxRunWith morxLeavesWith runLeaves
+unfolding morxRun morxLeaves morxRunWith morxLeavesWith runOf leavesOf runLeaves
 returns-2 c =
     let at-if1 = c .before in
     let at-is-refused = at-if1 .before in

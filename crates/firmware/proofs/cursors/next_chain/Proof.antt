@@ -4,8 +4,8 @@ use Rattle.firmware.specs.Cursors.{chainCursor, chainFields}
 use Rattle.chains.specs.Entries.{chainAnswer}
 use mathlib.Core.Path.{refl}
 use borrow.Author.Needs.{needs}
-use Rattle.firmware.proofs.cursors.aat_morx_next_chain.Statement.{statement}
-use Rattle.firmware.proofs.cursors.aat_morx_next_chain.Tie as tie
+use Rattle.firmware.proofs.cursors.next_chain.Statement.{statement}
+use Rattle.firmware.proofs.cursors.next_chain.Tie as tie
 
 cursor-from-requires : tie.Need-cursor-from-requires
 cursor-from-requires c κs = search needs
@@ -30,7 +30,7 @@ returns c =
     let at-next = c .before .before .before .before in
     let at-next-chain = at-next .before .before in
     let at-cursor-from = at-next-chain .before in
-    let e = chain-after _ _ (at-cursor-from .cursor-from .ensures) (at-next-chain .next-chain .ensures) (at-next .next .given .1) in
+    let e = chain-after _ _ _ (at-cursor-from .cursor-from .ensures) (at-next-chain .next-chain .ensures) (at-next .next .given .1) in
     (numbered chainAnswer e refl, (leaves chainCursor _ e (c .put-chain .ensures .0), leaves chainFields _ e (c .put-chain .ensures .1)))
 
 returns-2 : tie.Need-returns-2
@@ -38,11 +38,11 @@ returns-2 c =
     let at-why = c .before .before in
     let at-next-chain = at-why .before .before in
     let at-cursor-from = at-next-chain .before in
-    let e = chain-after _ _ (at-cursor-from .cursor-from .ensures) (at-next-chain .next-chain .ensures) (at-why .why .given .1) in
+    let e = chain-after _ _ _ (at-cursor-from .cursor-from .ensures) (at-next-chain .next-chain .ensures) (at-why .why .given .1) in
     (numbered chainAnswer e (c .refusal-number .ensures), (leaves chainCursor _ e refl, leaves chainFields _ e refl))
 
-pub aat-morx-next-chain-spec : {M : Type 1} → statement M
-aat-morx-next-chain-spec =
+pub next-chain-spec : {M : Type 1} → statement M
+next-chain-spec =
     tie.close
     (tie.spec
     cursor-from-requires

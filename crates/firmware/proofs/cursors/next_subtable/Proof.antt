@@ -4,8 +4,8 @@ use Rattle.firmware.specs.Cursors.{subtableCursor, subtableFields}
 use Rattle.chains.specs.Entries.{subtableAnswer}
 use mathlib.Core.Path.{refl}
 use borrow.Author.Needs.{needs}
-use Rattle.firmware.proofs.cursors.aat_morx_next_subtable.Statement.{statement}
-use Rattle.firmware.proofs.cursors.aat_morx_next_subtable.Tie as tie
+use Rattle.firmware.proofs.cursors.next_subtable.Statement.{statement}
+use Rattle.firmware.proofs.cursors.next_subtable.Tie as tie
 
 cursor-from-requires : tie.Need-cursor-from-requires
 cursor-from-requires c κs = search needs
@@ -30,7 +30,7 @@ returns c =
     let at-next = c .before .before .before .before in
     let at-next-subtable = at-next .before .before in
     let at-cursor-from = at-next-subtable .before in
-    let e = subtable-after _ _ (at-cursor-from .cursor-from .ensures) (at-next-subtable .next-subtable .ensures) (at-next .next .given .1) in
+    let e = subtable-after _ _ _ (at-cursor-from .cursor-from .ensures) (at-next-subtable .next-subtable .ensures) (at-next .next .given .1) in
     (numbered subtableAnswer e refl, (leaves subtableCursor _ e (c .put-subtable .ensures .0), leaves subtableFields _ e (c .put-subtable .ensures .1)))
 
 returns-2 : tie.Need-returns-2
@@ -38,11 +38,11 @@ returns-2 c =
     let at-why = c .before .before in
     let at-next-subtable = at-why .before .before in
     let at-cursor-from = at-next-subtable .before in
-    let e = subtable-after _ _ (at-cursor-from .cursor-from .ensures) (at-next-subtable .next-subtable .ensures) (at-why .why .given .1) in
+    let e = subtable-after _ _ _ (at-cursor-from .cursor-from .ensures) (at-next-subtable .next-subtable .ensures) (at-why .why .given .1) in
     (numbered subtableAnswer e (c .refusal-number .ensures), (leaves subtableCursor _ e refl, leaves subtableFields _ e refl))
 
-pub aat-morx-next-subtable-spec : {M : Type 1} → statement M
-aat-morx-next-subtable-spec =
+pub next-subtable-spec : {M : Type 1} → statement M
+next-subtable-spec =
     tie.close
     (tie.spec
     cursor-from-requires

@@ -3,8 +3,8 @@ use Rattle.machine.specs.Machine.{callLeaves}
 use Rattle.answers.specs.Numbers.{numberOf}
 use mathlib.Core.Path.{_∙_, ap}
 use borrow.Author.Needs.{needs}
-use Rattle.firmware.proofs.runs.aat_morx_pass.Statement.{statement}
-use Rattle.firmware.proofs.runs.aat_morx_pass.Tie as tie
+use Rattle.firmware.proofs.runs.pass_of.Statement.{statement}
+use Rattle.firmware.proofs.runs.pass_of.Tie as tie
 use Rattle.answers.proofs.number.Reads as number-reads
 use Rattle.morx.proofs.pass.Reads as pass-reads
 
@@ -30,7 +30,7 @@ returns c =
     let e = at-pass .pass .ensures in
     (c .number .ensures ∙ ap (λ (r : PassReply). numberOf (r .answer)) (e .0), (e .1 .0, (e .1 .1 .0, (e .1 .1 .1, ap (λ (r : PassReply). r .used) (e .0)))))
 
-pub aat-morx-pass-spec : {M : Type 1} → statement M
-aat-morx-pass-spec =
+pub pass-of-spec : {M : Type 1} → statement M
+pass-of-spec =
     tie.close
     (tie.spec pass-requires number-requires same-length same-length-2 same-length-3 returns)

@@ -1,0 +1,21 @@
+use Rattle.chains.specs.Orders.{kindNumber}
+use borrow.Author.Needs.{needs}
+use Rattle.chains.proofs.kind_number.Statement.{statement}
+use Rattle.chains.proofs.kind_number.Tie as tie
+
+enum-told : tie.Need-enum-told
+enum-told c = search needs
+
+enum-told-2 : tie.Need-enum-told-2
+enum-told-2 c = search needs
+
+returns : tie.Need-returns
+unfolding kindNumber
+returns c = rw (c .enum-told .given .1, kindNumber)
+
+returns-2 : tie.Need-returns-2
+unfolding kindNumber
+returns-2 c = rw (c .enum-told2 .given .1, kindNumber)
+
+pub kind-number-spec : {M : Type 1} → statement M
+kind-number-spec = tie.close (tie.spec enum-told enum-told-2 returns returns-2)

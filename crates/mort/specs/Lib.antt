@@ -1,0 +1,2 @@
+-- mort's subtables.
+pub mod Mort
