@@ -11,7 +11,7 @@
      subtable (its head included), state table or list of glyphs begins. Longer than AAT_LONGEST_TABLE is AAT_TABLE. Where a
      whole kern or kerx table is asked for, start 0 is no table, which has no subtables; elsewhere it is a start as any other.
    - glyph 0xFFFF is a deleted glyph. Flags told as uint32_t are set where they are not 0.
-   - The refusals are tested in this order, and where several apply, the answer is the first: AAT_TABLE, AAT_ANCHOR,
+   - The refusals are tested in this order, and where several apply, the answer is the first: AAT_REEL, AAT_TABLE, AAT_ANCHOR,
      AAT_REQUEST, AAT_RECORD_VERSION, AAT_RECORD, AAT_LINE, AAT_PLACE, AAT_STATE, AAT_HEAD, AAT_TUPLES, AAT_OVERLAP, AAT_SPACE.
 
    The most work of a call, for a watchdog. A turn is one entry of a state table that is looked at.
@@ -25,7 +25,7 @@
    - A run makes AAT_MOST_HEADS passes at most, by a table of any length: a subtable of size 0 is visited again and again, so
      that 400 bytes can ask for 65,534 passes, and for hours. Whenever it visits a chain, a run with requests compares every
      feature that lies in the table with each of them: 1,398,099 features of a chain that is visited again and again, and
-     AAT_MOST_REQUESTS, make some 6 x 10^12 looks.
+     AAT_MOST_REQUESTS, make some 6 x 10^12 looks. A reel makes a run for each of its lines, one after the other.
    - A turn is a class and an entry. Besides, at most: rearrangement moves the glyphs and tags of the line; contextual
      substitution makes two lookups; kerning adds 8 numbers; anchored marks make two lookups; insertion puts in 62 glyphs and
      moves the line, as long as there is room. The 18 turns of a ligature's step share 34 actions; each has 31 components at
@@ -49,7 +49,7 @@ typedef __SIZE_TYPE__ size_t;
 #endif
 
 /* Rises with every entry or value that is added; what is there stays. */
-#define AAT_VERSION 12
+#define AAT_VERSION 13
 
 #ifdef __cplusplus
 extern "C" {
@@ -71,6 +71,7 @@ enum aat_answer {
     AAT_RECORD = 11, /* the bytes are no record of a line */
     AAT_RECORD_VERSION = 12, /* they begin as a record, of another version */
     AAT_TUPLES = 13, /* the kerx subtable has tuples, and the manual's reading of it is chosen */
+    AAT_REEL = 15,   /* what is lent is no reel: too many lines, not a number for each, or parts that do not add up to the slices */
     AAT_ANCHOR = 16, /* the ankr table is longer than AAT_LONGEST_TABLE */
     AAT_OVERLAP = 17, /* two records that a mended table would keep share a glyph */
     AAT_SPACE = 18,  /* what is to be written does not fit where it is lent */
@@ -92,7 +93,7 @@ enum aat_why {
 };
 
 enum { AAT_LONGEST_TABLE = 16777216, AAT_LARGEST_ROOM = 32768, AAT_MOST_HEADS = 65535, AAT_DELETED = 0xFFFF };
-enum { AAT_MOST_REQUESTS = 64 };
+enum { AAT_MOST_REQUESTS = 64, AAT_MOST_LINES = 256 };
 
 /* A feature as a run is asked for it: its type times 65,536 plus its setting, both of 16 bits. */
 #define AAT_FEATURE(type, setting) ((uint32_t)(type) * 65536 + (uint32_t)(setting))
@@ -300,6 +301,42 @@ uint32_t aat_morx_run(const uint8_t *table, size_t table_len, size_t start, uint
 uint32_t aat_morx_run_with(const uint8_t *table, size_t table_len, size_t start, uint32_t right_to_left,
                            const uint32_t *requests, size_t requests_len, uint16_t *glyphs, size_t glyphs_len, uint16_t *tags,
                            size_t tags_len, uint16_t *homes, size_t homes_len, size_t *used, uint32_t *heads);
+
+/* Reels: many lines by one table
+
+   The lines of a reel lie one behind the other in glyphs, tags and homes, and have one number each in rooms, characters, used,
+   answers and heads. A reel of three lines, with rooms of 5, 3 and 4 places, and 3, 2 and 1 characters:
+
+       line           0           1       2
+       rooms          5           3       4                      3 of each: rooms_len, characters_len, used_len,
+       characters     3           2       1                      answers_len and heads_len
+       used           3           2       1
+       answers, heads .           .       .
+       glyphs, tags   0 1 2 3 4 | 0 1 2 | 0 1 2 3                12 of each: glyphs_len and tags_len
+       homes          0 1 2     | 0 1   | 0                      6: homes_len
+
+   Each line is run as by a call of its own on its part of the slices, with the same table, start, direction and requests; a
+   line's neighbours make no difference to it. A line that is refused keeps all that was lent for it, the number for its heads,
+   too. No answer of a line stops the rest, and heads are counted afresh for each.
+   A line's answer is written to answers: as aat_morx_run_with, AAT_TABLE and AAT_REQUEST, too.
+   Answers: AAT_DONE, whatever the lines' answers are, and with no lines at all; AAT_REEL, before every other test: more than
+   AAT_MOST_LINES lines, numbers for lines of different length, rooms that do not add up to glyphs_len or to tags_len, or
+   characters that do not add up to homes_len, where no sum is cut to 64 bits.
+   Writes: used, answers, heads, glyphs, tags, homes. */
+
+/* By the morx table at start. */
+uint32_t aat_morx_reel(const uint8_t *table, size_t table_len, size_t start, uint32_t right_to_left, const uint32_t *requests,
+                       size_t requests_len, const size_t *rooms, size_t rooms_len, const size_t *characters,
+                       size_t characters_len, size_t *used, size_t used_len, uint32_t *answers, size_t answers_len,
+                       uint32_t *heads, size_t heads_len, uint16_t *glyphs, size_t glyphs_len, uint16_t *tags, size_t tags_len,
+                       uint16_t *homes, size_t homes_len);
+
+/* By the mort table at start. */
+uint32_t aat_mort_reel(const uint8_t *table, size_t table_len, size_t start, uint32_t right_to_left, const uint32_t *requests,
+                       size_t requests_len, const size_t *rooms, size_t rooms_len, const size_t *characters,
+                       size_t characters_len, size_t *used, size_t used_len, uint32_t *answers, size_t answers_len,
+                       uint32_t *heads, size_t heads_len, uint16_t *glyphs, size_t glyphs_len, uint16_t *tags, size_t tags_len,
+                       uint16_t *homes, size_t homes_len);
 
 /* The lists of a morx table: its chains, and each chain's features and subtables
 

@@ -81,11 +81,17 @@
       54 mort_pass             as 8                              as 12
       55 mort_next_chain       as 28                             as 28
       56 mort_next_subtable    as 28                             as 28
+      57 morx_reel             start 8, direction 4, requests,   answer 4, used, answers, heads, glyphs, tags, homes
+                               rooms, characters, used,
+                               answers, heads, glyphs, tags,
+                               homes, of all lines
+      58 mort_reel             as 57                             as 57
 
    A name or a buffer is its length 4 and the bytes. Glyphs, tags, homes and new numbers of records are each a count 4 and so many
    numbers 2, and so are distances back; the adjustments along the line are a count 4 and so many numbers 8, x and y each a count
    4 and so many numbers 4; a reply has the bytes or numbers alone. Requests are a count 4 and so many numbers 4. An ankr table is
-   its length 4, then a count 4 and so many bytes, which it begins with; the others are 0. The record that is read is the table.
+   its length 4, then a count 4 and so many bytes, which it begins with; the others are 0. The record that is read is the table. Of
+   a reel, rooms, characters and used are each a count 4 and so many numbers 8, answers and heads a count 4 and so many numbers 4.
 
    Replies are sent when the input runs dry. Exit status 0 when it ends between calls, 1 for anything out of this form. */
 
@@ -132,6 +138,23 @@ static uint16_t numbers[65536 + 64];
 
 /* More requests than are taken, so that the refusal can be asked for. */
 static uint32_t requests[1024];
+
+/* The lines of a reel: more than are taken, so that the refusal can be asked for. */
+struct reel {
+    size_t rooms[512], characters[512], used[512];
+    uint32_t answers[512], heads[512];
+    size_t rooms_len, characters_len, used_len, answers_len, heads_len;
+};
+
+static struct reel reel;
+
+/* Their glyphs, tags or homes: more than the largest reel has. */
+struct reel_slice {
+    uint16_t numbers[(AAT_MOST_LINES + 1) * AAT_LARGEST_ROOM];
+    size_t len;
+};
+
+static struct reel_slice reel_glyphs, reel_tags, reel_homes;
 
 /* A step's state, what it is told, and what it hands over. */
 static uint64_t state[AAT_LIGATURE_STATE], edits[AAT_EDITS];
@@ -195,6 +218,10 @@ static size_t take_words(uint32_t *words, size_t most) {
     if (len > most) exit(1);
     for (size_t i = 0; i < len; i++) words[i] = (uint32_t)take(4);
     return len;
+}
+
+static void put_words(const uint32_t *words, size_t len) {
+    for (size_t i = 0; i < len; i++) put(words[i], 4);
 }
 
 static void take_slice(struct slice *slice) {
@@ -400,6 +427,51 @@ static void run_with(run_with_requests *entry) {
 static void mort_pass(void) {
     take_pass();
     put_growing_pass(aat_mort_pass(TABLE_AND_LINE, &used));
+}
+
+static size_t take_sizes(size_t *sizes) {
+    size_t len = take(4);
+    if (len > sizeof reel.rooms / sizeof reel.rooms[0]) exit(1);
+    for (size_t i = 0; i < len; i++) sizes[i] = take(8);
+    return len;
+}
+
+static void take_reel_slice(struct reel_slice *slice) {
+    slice->len = take(4);
+    if (slice->len > sizeof slice->numbers / sizeof slice->numbers[0]) exit(1);
+    for (size_t i = 0; i < slice->len; i++) slice->numbers[i] = (uint16_t)take(2);
+}
+
+static void put_reel_slice(const struct reel_slice *slice) {
+    for (size_t i = 0; i < slice->len; i++) put(slice->numbers[i], 2);
+}
+
+typedef uint32_t reel_entry(const uint8_t *, size_t, size_t, uint32_t, const uint32_t *, size_t, const size_t *, size_t, const size_t *,
+                            size_t, size_t *, size_t, uint32_t *, size_t, uint32_t *, size_t, uint16_t *, size_t, uint16_t *, size_t,
+                            uint16_t *, size_t);
+
+static void run_reel(reel_entry *entry) {
+    start = take(8);
+    uint32_t right_to_left = (uint32_t)take(4);
+    size_t requests_len = take_words(requests, sizeof requests / sizeof requests[0]);
+    reel.rooms_len = take_sizes(reel.rooms);
+    reel.characters_len = take_sizes(reel.characters);
+    reel.used_len = take_sizes(reel.used);
+    reel.answers_len = take_words(reel.answers, sizeof reel.answers / sizeof reel.answers[0]);
+    reel.heads_len = take_words(reel.heads, sizeof reel.heads / sizeof reel.heads[0]);
+    take_reel_slice(&reel_glyphs);
+    take_reel_slice(&reel_tags);
+    take_reel_slice(&reel_homes);
+    put(entry(table, table_len, start, right_to_left, requests, requests_len, reel.rooms, reel.rooms_len, reel.characters,
+              reel.characters_len, reel.used, reel.used_len, reel.answers, reel.answers_len, reel.heads, reel.heads_len,
+              reel_glyphs.numbers, reel_glyphs.len, reel_tags.numbers, reel_tags.len, reel_homes.numbers, reel_homes.len),
+        4);
+    for (size_t i = 0; i < reel.used_len; i++) put(reel.used[i], 8);
+    put_words(reel.answers, reel.answers_len);
+    put_words(reel.heads, reel.heads_len);
+    put_reel_slice(&reel_glyphs);
+    put_reel_slice(&reel_tags);
+    put_reel_slice(&reel_homes);
 }
 
 static void rearrangement_step(void) {
@@ -740,6 +812,8 @@ static void answer(uint8_t call) {
     case 54: mort_pass(); break;
     case 55: next(aat_mort_next_chain, 2, 6); break;
     case 56: next(aat_mort_next_subtable, 2, 6); break;
+    case 57: run_reel(aat_morx_reel); break;
+    case 58: run_reel(aat_mort_reel); break;
     default: exit(1);
     }
 }

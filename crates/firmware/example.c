@@ -1,6 +1,7 @@
 /* Shapes a line and kerns it: the glyphs 3, 5 and 6 by a morx table, then by a kern table, which sets a 9 closer to the 7 before it.
    Stores the shaped line as a record, and reads it back. Then puts glyphs behind the 3 by an insertion subtable, once by single
-   steps and once by the pass, which leave the same line. Last it mends a lookup table, and anchors a mark by a kerx and an ankr table.
+   steps and once by the pass, which leave the same line. Runs a reel of three lines, of which one is refused. Last it mends a
+   lookup table, and anchors a mark by a kerx and an ankr table.
 
    The tables lie in one block, as in a font file, and each entry is told where its table begins. */
 
@@ -138,6 +139,29 @@ static void insert_both_ways(void)
     printf("\n");
 }
 
+/* Three lines in one call, in rooms of 4, 2 and 4 places. The second says that more places are used than it has. */
+static void run_reel(void)
+{
+    enum { LINES = 3, PLACES = 10, HOMES = 6 };
+    static const uint32_t no_requests[1] = {0};
+    static const size_t rooms[LINES] = {4, 2, 4}, characters[LINES] = {3, 1, 2};
+    size_t used[LINES] = {3, 3, 2}, line, place, begin = 0;
+    uint16_t glyphs[PLACES] = {3, 5, 6, 0, 5, 6, 6, 5, 0, 0}, tags[PLACES] = {0, 1, 2, 0, 0, 1, 0, 1, 0, 0};
+    uint16_t homes[HOMES] = {0, 1, 2, 0, 0, 1};
+    uint32_t answers[LINES] = {0}, heads[LINES] = {0};
+
+    expect_done(aat_morx_reel(font, sizeof font, MORX, 0, no_requests, 0, rooms, LINES, characters, LINES, used, LINES, answers, LINES,
+                              heads, LINES, glyphs, PLACES, tags, PLACES, homes, HOMES),
+                "reel");
+    for (line = 0; line < LINES; line++) {
+        printf("line %u of the reel: answer %u, heads read %u:", (unsigned)line, (unsigned)answers[line], (unsigned)heads[line]);
+        for (place = begin; place < begin + rooms[line]; place++)
+            printf(" %u", glyphs[place]);
+        printf("\n");
+        begin += rooms[line];
+    }
+}
+
 /* A lookup table out of order, mended into a buffer that is one byte short, and into one that is not. */
 static void mend_lookup(void)
 {
@@ -198,6 +222,7 @@ int main(void)
                 printf("character %u is at place %u\n", (unsigned)character, (unsigned)place);
     store_and_read(&line);
     insert_both_ways();
+    run_reel();
     mend_lookup();
     anchor_mark();
     return EXIT_SUCCESS;

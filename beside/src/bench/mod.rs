@@ -6,6 +6,7 @@ mod text;
 mod timed_kerning;
 mod timed_mending;
 mod timed_passes;
+mod timed_reels;
 mod timed_shaping;
 mod timed_storing;
 mod timed_text;
@@ -121,6 +122,7 @@ fn groups(random: &mut Random) -> Vec<Group> {
         Group::new("Mended lookup tables", timed_mending::subjects(random)),
         Group::new("Stored lines", timed_storing::subjects(random)),
         Group::new("Runs of morx that are asked for features", timed_passes::featured(random)),
+        Group::new("Reels", timed_reels::subjects(random)),
     ]
 }
 

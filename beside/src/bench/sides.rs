@@ -71,6 +71,7 @@ pub mod ours {
     use crate::reference::anchored::Marks;
     use crate::reference::kerning::{Kerning, ALONE_AT};
     use crate::reference::kerning_choices::JOINED_PAIRS;
+    use crate::reference::reel::Reel;
     use crate::wire::entries::Entry;
 
     extern "C" {
@@ -139,6 +140,30 @@ pub mod ours {
             homes_len: usize,
             used: *mut u64,
             characters: *mut usize,
+        ) -> u32;
+        fn aat_morx_reel(
+            table: *const u8,
+            table_len: usize,
+            start: usize,
+            right_to_left: u32,
+            requests: *const u32,
+            requests_len: usize,
+            rooms: *const u64,
+            rooms_len: usize,
+            characters: *const u64,
+            characters_len: usize,
+            used: *mut u64,
+            used_len: usize,
+            answers: *mut u32,
+            answers_len: usize,
+            heads: *mut u32,
+            heads_len: usize,
+            glyphs: *mut u16,
+            glyphs_len: usize,
+            tags: *mut u16,
+            tags_len: usize,
+            homes: *mut u16,
+            homes_len: usize,
         ) -> u32;
     }
 
@@ -273,6 +298,69 @@ pub mod ours {
         let (mut heads, asked, count) = (0, requests.as_ptr(), requests.len());
         call!(aat_morx_run_with, table, 0, [0, asked, count], line, [&mut line.used, &mut heads]);
     }
+
+    /// A reel's run by a morx table, from left to right; each of its lines has to be DONE.
+    pub fn reel(reel: &mut Reel, table: &[u8]) {
+        let Reel { rooms, characters, used, answers, heads, glyphs, tags, homes } = reel;
+        let lines = rooms.len();
+        let answer = unsafe {
+            aat_morx_reel(
+                table.as_ptr(),
+                table.len(),
+                0,
+                0,
+                NO_REQUESTS.as_ptr(),
+                0,
+                rooms.as_ptr(),
+                lines,
+                characters.as_ptr(),
+                lines,
+                used.as_mut_ptr(),
+                lines,
+                answers.as_mut_ptr(),
+                lines,
+                heads.as_mut_ptr(),
+                lines,
+                glyphs.as_mut_ptr(),
+                glyphs.len(),
+                tags.as_mut_ptr(),
+                tags.len(),
+                homes.as_mut_ptr(),
+                homes.len(),
+            )
+        };
+        assert!(answer == 0 && answers.iter().all(|answer| *answer == 0), "a reel of lines");
+    }
+
+    /// The same by a call for each line.
+    pub fn runs_of_reel(reel: &mut Reel, table: &[u8]) {
+        let (mut place, mut home) = (0, 0);
+        for line in 0..reel.rooms.len() {
+            let (room, characters) = (reel.rooms[line] as usize, reel.characters[line] as usize);
+            reel.answers[line] = unsafe {
+                aat_morx_run_with(
+                    table.as_ptr(),
+                    table.len(),
+                    0,
+                    0,
+                    NO_REQUESTS.as_ptr(),
+                    0,
+                    reel.glyphs[place..].as_mut_ptr(),
+                    room,
+                    reel.tags[place..].as_mut_ptr(),
+                    room,
+                    reel.homes[home..].as_mut_ptr(),
+                    characters,
+                    &mut reel.used[line],
+                    &mut reel.heads[line],
+                )
+            };
+            (place, home) = (place + room, home + characters);
+        }
+        assert!(reel.answers.iter().all(|answer| *answer == 0), "runs of lines");
+    }
+
+    const NO_REQUESTS: [u32; 1] = [0];
 
     /// The mended lookup table that the table begins with.
     #[inline(always)]

@@ -139,7 +139,7 @@ pub fn run_over(random: &mut Random, name: String, glyphs: &[Vec<u16>]) -> Subje
 }
 
 /// A table of so many subtables.
-fn with_subtables(random: &mut Random, count: usize) -> Vec<u8> {
+pub fn with_subtables(random: &mut Random, count: usize) -> Vec<u8> {
     morx(&[chain(1, &[], &subtables(random, count))])
 }
 

@@ -62,14 +62,14 @@ impl Case {
         }
         let (table, start) = (&self.table[..], self.start as u32);
         match self.question.entry() {
-            Entry::MorxRun | Entry::MorxRunWith => {
+            Entry::MorxRun | Entry::MorxRunWith | Entry::MorxReel => {
                 let mut left = MOST_HEADS;
                 chains(table, start).any(|chain| {
                     left = left.saturating_sub(1 + chain.subtables().take(left).count());
                     left == 0
                 })
             }
-            Entry::MortRun => {
+            Entry::MortRun | Entry::MortReel => {
                 let mut left = MOST_HEADS;
                 let mut chains = chains_from(table, self.start);
                 while let Some((chain, behind)) = mort::next_chain(table, chains) {

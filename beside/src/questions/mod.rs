@@ -25,6 +25,7 @@ pub mod mort_passes;
 pub mod mort_runs;
 pub mod passes;
 pub mod reasons;
+pub mod reels;
 pub mod runs;
 pub mod steps;
 pub mod stored;
@@ -155,6 +156,7 @@ pub static PARTS: &[&dyn Part] = &[
     &mort_lists::Lists,
     &mort_passes::Passes,
     &mort_runs::Runs,
+    &reels::Reels,
 ];
 
 /// The part that an entry belongs to.

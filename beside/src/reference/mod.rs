@@ -22,6 +22,7 @@ pub mod pass;
 pub mod passes_by_crate;
 pub mod rearrange;
 pub mod reasons;
+pub mod reel;
 pub mod run;
 pub mod shaper;
 pub mod step;

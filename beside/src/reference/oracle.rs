@@ -43,6 +43,7 @@ pub enum Answer<T> {
     Version,
     Tuples,
     Anchor,
+    Reel,
     Overlap,
     Space,
 }
@@ -71,6 +72,7 @@ impl<T: Copy> Answer<T> {
             Answer::Version => 12,
             Answer::Tuples => 13,
             Answer::Anchor => 16,
+            Answer::Reel => 15,
             Answer::Overlap => 17,
             Answer::Space => 18,
         }
@@ -94,6 +96,7 @@ impl<T: Copy> Answer<T> {
             Answer::Version => Answer::Version,
             Answer::Tuples => Answer::Tuples,
             Answer::Anchor => Answer::Anchor,
+            Answer::Reel => Answer::Reel,
             Answer::Overlap => Answer::Overlap,
             Answer::Space => Answer::Space,
         }

@@ -72,4 +72,6 @@ entries! {
     MortPass "aat_mort_pass",
     MortNextChain "aat_mort_next_chain",
     MortNextSubtable "aat_mort_next_subtable",
+    MorxReel "aat_morx_reel",
+    MortReel "aat_mort_reel",
 }

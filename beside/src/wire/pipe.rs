@@ -65,6 +65,12 @@ pub fn add_numbers(numbers: &[u16], batch: &mut Vec<u8>) {
     batch.extend(numbers.iter().flat_map(|number| number.to_le_bytes()));
 }
 
+/// Adds the count of numbers of 64 bits, one for each line, and these.
+pub fn lend_longs(numbers: &[u64], batch: &mut Vec<u8>) {
+    batch.extend((numbers.len() as u32).to_le_bytes());
+    batch.extend(numbers.iter().flat_map(|number| number.to_le_bytes()));
+}
+
 /// Adds the count of the features that are asked for, and these.
 pub fn lend_requests(requests: &[u32], batch: &mut Vec<u8>) {
     batch.extend((requests.len() as u32).to_le_bytes());

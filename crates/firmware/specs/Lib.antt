@@ -4,6 +4,7 @@ pub mod Reasons
 pub mod Steps
 pub mod Features
 pub mod Runs
+pub mod Reels
 pub mod Cursors
 pub mod KernCursors
 pub mod KernSteps

@@ -32,6 +32,7 @@ mod mends;
 mod older;
 mod reasons;
 mod records;
+mod reels;
 mod runs;
 mod steps;
 

@@ -69,6 +69,7 @@ use Rattle.anchor_machine.proofs.Exactly.{offset-exact}
 use Rattle.promises.specs.Demand1.{Demand1}
 use Rattle.promises.specs.Demand2.{Lookups, Reasons, Mends, StateTables, Verbs, SubtableLists, Chains, Older, Features, Kerning, Choosing, Marks, Demand2}
 use Rattle.promises.specs.Demand3.{Stored, Demand3}
+use Rattle.promises.proofs.Reels.{reels}
 use Rattle.promises.proofs.Known.{known-answers, known-reasons, known-pairs}
 use Rattle.promises.proofs.KnownMarks.{known-marks}
 
@@ -301,4 +302,5 @@ demand3 =
       over-changes = over-changes;
       known-edits = Edits.known;
       stored = stored;
+      reels = reels;
     }

@@ -1,5 +1,6 @@
 pub mod Known
 mod Lists
 mod Alike
+mod Reels
 pub mod Demands
 pub mod KnownMarks

@@ -3,11 +3,11 @@
 use Prim.Native.Nat.{ℕ, _<_}
 use mathlib.Core.Path.{_≡_}
 use mathlib.Core.List.{List, [], map, _++_}
-use lib.ListN.{length, take, drop}
+use lib.ListN.{length, take, drop, getD}
 use Rattle.answers.specs.Refuse.{refuse}
 use Rattle.answers.specs.declared.Check.the-variants.{Passed}
 use Rattle.answers.specs.declared.Refusal.the-variants as Refusal
-use Rattle.line.specs.Line.{Line, Valid, Belongs, lineOf}
+use Rattle.line.specs.Line.{Line, Valid, Belongs, lineOf, OnceEach}
 use Rattle.line.specs.Changes.{Change, applyAll, historyOf}
 use Rattle.line.specs.Entries.{freshOf, freshTests}
 use Rattle.line.specs.History.{FromLine, FromFresh, Fits, Honest, leftBy, historyBy}
@@ -19,6 +19,13 @@ use Rattle.stored.specs.declared.ReadLine.the-variants as Read
 use Rattle.stored.specs.Known as Records
 use Rattle.morx.specs.Sequence.{Call, leaves, makes}
 use Rattle.morx.specs.Memory.{inMemory}
+use mathlib.Core.Bool.{false}
+use Rattle.line.specs.Test.{Decides}
+use Rattle.morx.specs.declared.Choices.{Choices}
+use Rattle.reel.specs.Reel.{Reel, Lent, isLent, linesOf, partsOf, ranPart}
+use Rattle.reel.specs.Runs.{runLine, runLines}
+use Rattle.reel.specs.Morx.{runBy, tableLeaves}
+use Rattle.reel.specs.Through.{Step, stepsLeave, callsOf}
 
 -- Stored lines: each legal line has one record, and what is accepted as a record writes back to the same bytes
 pub record Stored : Type 0 where
@@ -47,6 +54,41 @@ pub record Stored : Type 0 where
   -- known records by computation: of document 01's shaped example, and of an empty line
   pub known-records : (recordOf Records.shaped ≡ Records.shapedRecord) × (recordOf Records.empty ≡ Records.emptyRecord)
 
+-- Reels: a reel is its lines' runs, each by itself, and demand 3 holds of each line
+pub record Reels : Type 0 where
+  -- REEL is given exactly when it should be
+  pub lent-exact : (r : Reel) → Decides (Lent r) (isLent r)
+  -- and leaves everything that was lent
+  pub reel-refused : (table : List ℕ) (start : ℕ) (choices : Choices) (requests : List ℕ) (r : Reel) → isLent r ≡ false
+      → tableLeaves table start choices requests r ≡ r
+  -- answers and every slice after a reel are those of calls on each line alone, in any order that has each line once
+  pub reel-is-runs : (table : List ℕ) (start : ℕ) (choices : Choices) (requests : List ℕ) (r : Reel) → Lent r → (order : List ℕ)
+      → OnceEach order (linesOf r)
+      → runLines (runBy table start choices requests) (λ j. getD order j 0) (linesOf r) r ≡ tableLeaves table start choices requests r
+  -- what a reel leaves of a line is what the run of that line alone leaves, whatever the others are
+  pub reel-leaves-others : (table : List ℕ) (start : ℕ) (choices : Choices) (requests : List ℕ) (r : Reel) → Lent r → (k : ℕ) → k < linesOf r
+      → partsOf (tableLeaves table start choices requests r) k ≡ ranPart (runBy table start choices requests) (partsOf r k)
+  -- and a call on one line leaves the others as they are
+  pub neighbours-stay : (table : List ℕ) (start : ℕ) (choices : Choices) (requests : List ℕ) (r : Reel) → Lent r → (k : ℕ) → k < linesOf r → (j : ℕ)
+      → (j ≡ k → ⊥) → partsOf (runLine (runBy table start choices requests) k r) j ≡ partsOf r j
+  -- through any sequence of reels by any tables, any calls on one line, and whatever is done to the others, that line is what its calls leave of it: a
+  -- reel counts as its run
+  pub line-through : (r : Reel) (k : ℕ) → k < linesOf r → Lent r → (steps : List (Step r k)) → Valid (partsOf r k .line)
+      → partsOf (stepsLeave r k steps r) k .line ≡ leftBy leaves makes (callsOf r k steps) (partsOf r k .line)
+  -- so demand 3 holds of each line: from any valid one
+  pub reel-demand3 : (r : Reel) (k : ℕ) → k < linesOf r → Lent r → (steps : List (Step r k)) → Valid (partsOf r k .line)
+      → FromLine (partsOf r k .line) (historyBy leaves makes (callsOf r k steps) (partsOf r k .line)) (partsOf (stepsLeave r k steps r) k .line)
+  -- from a fresh one
+  pub reel-fresh-demand3 : (r : Reel) (k : ℕ) → k < linesOf r → Lent r → (steps : List (Step r k)) → (glyphs tags homes : List ℕ)
+      → refuse (freshTests glyphs tags homes) ≡ Passed → partsOf r k .line ≡ freshOf glyphs tags homes
+      → FromFresh (length glyphs) (length homes)
+      (historyBy leaves makes (callsOf r k steps) (freshOf glyphs tags homes)) (partsOf (stepsLeave r k steps r) k .line)
+  -- and from one just read
+  pub reel-read-demand3 : (r : Reel) (k : ℕ) → k < linesOf r → Lent r → (steps : List (Step r k)) → (bytes glyphs tags homes : List ℕ)
+      → refuse (readTests newestVersion bytes glyphs tags homes) ≡ Passed → partsOf r k .line ≡ readLine bytes glyphs tags
+      → FromLine (readLine bytes glyphs tags)
+      (historyBy leaves makes (callsOf r k steps) (readLine bytes glyphs tags)) (partsOf (stepsLeave r k steps r) k .line)
+
 pub record Demand3 : Type 0 where
   -- Demand 3 itself: from a fresh line, over any sequence of lone verbs, passes of every kind, steps that write the line and whole runs with any
   -- requests, of morx and of mort in any mixture, refused and cut-short ones included, on any tables
@@ -74,3 +116,5 @@ pub record Demand3 : Type 0 where
   pub known-edits : map Known.computed Known.cases ≡ map Known.said Known.cases
   -- stored lines
   pub stored : Stored
+  -- reels: each line by itself
+  pub reels : Reels
