@@ -74,8 +74,8 @@ is_stale() { # FILE SOURCE..
     [ ! -e "$1" ] || [ -n "$(find "${@:2}" -newer "$1" -print -quit)" ]
 }
 
-# Copies the crate with the fields of the states, of what a step hands over, of morx's lists and of class pairs made public, and with every read
-# that fails noted.
+# Copies the crate with the fields of the states, of what a step hands over, of morx's lists and of class pairs made public, with every read
+# that fails noted, and with an index asked for a glyph's class before the class table is.
 open_crate() {
     local opened='RearrangementState|ContextualState|LigatureState|InsertionState|Format1State|Format4State|Rearrange|Array' file
     opened+='|Chains|Chain|Features|Subtables|Subtable|Format2'
@@ -83,6 +83,7 @@ open_crate() {
         sed -E "/^ *pub struct ($opened)\\b/,/\}/ s/^( *)([a-z_]+:)/\\1pub \\2/" "$top/docs/src/$file" >"$built/$file"
     done
     sed -i '/fn from_be_data(/,/^    }/ s/^\( *\)None$/\1super::failed_read()/' "$built/parse.rs"
+    sed -i 's/^\( *\)\(lookup::<u16>(&self.data, self.class_table .*.unwrap_or(1)\)$/\1super::indexed(glyph_id).unwrap_or_else(|| \2)/' "$built/aat.rs"
 }
 
 # What a program is linked with besides the library; its age tells nothing.

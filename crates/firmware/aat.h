@@ -12,7 +12,8 @@
      whole kern or kerx table is asked for, start 0 is no table, which has no subtables; elsewhere it is a start as any other.
    - glyph 0xFFFF is a deleted glyph. Flags told as uint32_t are set where they are not 0.
    - The refusals are tested in this order, and where several apply, the answer is the first: AAT_REEL, AAT_TABLE, AAT_ANCHOR,
-     AAT_REQUEST, AAT_RECORD_VERSION, AAT_RECORD, AAT_LINE, AAT_PLACE, AAT_STATE, AAT_HEAD, AAT_TUPLES, AAT_OVERLAP, AAT_SPACE.
+     AAT_REQUEST, AAT_RECORD_VERSION, AAT_RECORD, AAT_LINE, AAT_PLACE, AAT_STATE, AAT_HEAD, AAT_TUPLES, AAT_INDEX, AAT_OVERLAP,
+     AAT_SPACE.
 
    The most work of a call, for a watchdog. A turn is one entry of a state table that is looked at.
    - A lookup, class or pair looks at 16 records at most, a pair of kerx at 32; aat_survey at 65,535; aat_mend at as many, with
@@ -49,7 +50,7 @@ typedef __SIZE_TYPE__ size_t;
 #endif
 
 /* Rises with every entry or value that is added; what is there stays. */
-#define AAT_VERSION 13
+#define AAT_VERSION 14
 
 #ifdef __cplusplus
 extern "C" {
@@ -71,6 +72,7 @@ enum aat_answer {
     AAT_RECORD = 11, /* the bytes are no record of a line */
     AAT_RECORD_VERSION = 12, /* they begin as a record, of another version */
     AAT_TUPLES = 13, /* the kerx subtable has tuples, and the manual's reading of it is chosen */
+    AAT_INDEX = 14, /* an index has more than AAT_MOST_ENTRIES, is another class table's, or the subtable has no class table */
     AAT_REEL = 15,   /* what is lent is no reel: too many lines, not a number for each, or parts that do not add up to the slices */
     AAT_ANCHOR = 16, /* the ankr table is longer than AAT_LONGEST_TABLE */
     AAT_OVERLAP = 17, /* two records that a mended table would keep share a glyph */
@@ -93,7 +95,7 @@ enum aat_why {
 };
 
 enum { AAT_LONGEST_TABLE = 16777216, AAT_LARGEST_ROOM = 32768, AAT_MOST_HEADS = 65535, AAT_DELETED = 0xFFFF };
-enum { AAT_MOST_REQUESTS = 64, AAT_MOST_LINES = 256 };
+enum { AAT_MOST_REQUESTS = 64, AAT_MOST_ENTRIES = 65535, AAT_MOST_LINES = 256 };
 
 /* A feature as a run is asked for it: its type times 65,536 plus its setting, both of 16 bits. */
 #define AAT_FEATURE(type, setting) ((uint32_t)(type) * 65536 + (uint32_t)(setting))
@@ -498,6 +500,31 @@ uint32_t aat_kerx_run_anchored(const uint8_t *table, size_t table_len, size_t st
                                size_t tags_len, const uint16_t *homes, size_t homes_len, size_t used, int64_t *along,
                                size_t along_len, int32_t *x, size_t x_len, int32_t *y, size_t y_len, uint16_t *back,
                                size_t back_len, uint32_t *heads);
+
+/* Classes by an index
+
+   Most of a pass goes to the search of each glyph's class. Whoever shapes by the same subtable again and again keeps an index:
+   a class for each glyph from 0 up to its length, of all glyphs of the font or of those that are frequent.
+   - Fill it once: start is the state table's, 12 bytes behind that of its morx or kerx subtable, whatever the version, and choices
+     are those of the passes to come, 0 for morx. class_start is where the class table begins in table.
+   - Lend both to the passes by that subtable, as found by the cursors: what each does is then what the pass without an index
+     does, only sooner. Glyphs above the index are searched for as before, and 0xFFFF has its own class 2 in any case.
+   - An index that holds other numbers, or those of another font, is no fault: the pass goes by them, and ends.
+   - Runs take none, since they go by many class tables; kern's classes are an array already.
+   Answers of aat_index_classes: AAT_DONE, AAT_TABLE, AAT_HEAD, AAT_INDEX. Writes: index, *class_start.
+   Those of the passes: as without an index (aat_morx_pass, aat_kerx_pass_anchored), and AAT_INDEX behind all other refusals, for
+   an index_len above AAT_MOST_ENTRIES, a class_start that is not that of the subtable's class table, and a subtable that has none:
+   non-contextual substitution, and pairs. */
+uint32_t aat_index_classes(const uint8_t *table, size_t table_len, size_t start, uint32_t choices, uint16_t *index,
+                           size_t index_len, size_t *class_start);
+uint32_t aat_morx_pass_indexed(const uint8_t *table, size_t table_len, size_t start, uint16_t *glyphs, size_t glyphs_len,
+                               uint16_t *tags, size_t tags_len, uint16_t *homes, size_t homes_len, size_t *used,
+                               const uint16_t *index, size_t index_len, size_t class_start);
+uint32_t aat_kerx_pass_indexed(const uint8_t *table, size_t table_len, size_t start, uint16_t version, uint32_t choices,
+                               const uint8_t *ankr, size_t ankr_len, const uint16_t *glyphs, size_t glyphs_len,
+                               const uint16_t *tags, size_t tags_len, const uint16_t *homes, size_t homes_len, size_t used,
+                               int64_t *along, size_t along_len, int32_t *x, size_t x_len, int32_t *y, size_t y_len,
+                               uint16_t *back, size_t back_len, const uint16_t *index, size_t index_len, size_t class_start);
 
 /* The list of a kern or kerx table's subtables
 

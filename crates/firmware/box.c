@@ -86,12 +86,18 @@
                                answers, heads, glyphs, tags,
                                homes, of all lines
       58 mort_reel             as 57                             as 57
+      59 index_classes         start 8, choices 4, length 4,     answer 4, index, class start 8
+                               number 2, class start 8
+      60 morx_pass_indexed     as 8, then index, class start 8   answer 4, glyphs, tags, homes, sum 8, used 8
+      61 kerx_pass_indexed     as 50, then index, class start 8  as 50, then sum 8
 
    A name or a buffer is its length 4 and the bytes. Glyphs, tags, homes and new numbers of records are each a count 4 and so many
    numbers 2, and so are distances back; the adjustments along the line are a count 4 and so many numbers 8, x and y each a count
    4 and so many numbers 4; a reply has the bytes or numbers alone. Requests are a count 4 and so many numbers 4. An ankr table is
-   its length 4, then a count 4 and so many bytes, which it begins with; the others are 0. The record that is read is the table. Of
-   a reel, rooms, characters and used are each a count 4 and so many numbers 8, answers and heads a count 4 and so many numbers 4.
+   its length 4, then a count 4 and so many bytes, which it begins with; the others are 0. Of a reel, rooms, characters and used
+   are each a count 4 and so many numbers 8, answers and heads a count 4 and so many numbers 4. An index of classes is its length 4,
+   then a count 4 and so many numbers 2, which it begins with; the others are 0. One that is to be filled holds the number told in
+   each entry, and in a reply it is its first 64 numbers 2, and a sum 8 of all. The record that is read is the table.
 
    Replies are sent when the input runs dry. Exit status 0 when it ends between calls, 1 for anything out of this form. */
 
@@ -128,6 +134,10 @@ static size_t x_len, y_len;
 static struct slice back;
 static uint8_t ankr[AAT_LONGEST_TABLE + 4096];
 static size_t ankr_len, ankr_told; /* all bytes behind those told are 0 */
+
+/* An index of classes: more entries than are taken. */
+static uint16_t classes[65536 + 64];
+static size_t classes_len, class_start;
 
 /* Bytes that an entry may write: longer than a table, so that it can be seen that no length is refused. */
 static uint8_t buffer[AAT_LONGEST_TABLE + 4096];
@@ -690,6 +700,54 @@ static void anchor_step(void) {
     put(advance, 8);
 }
 
+static void take_index(void) {
+    classes_len = take(4);
+    size_t told = take(4);
+    if (classes_len > sizeof classes / sizeof classes[0] || told > classes_len) exit(1);
+    for (size_t i = 0; i < classes_len; i++) classes[i] = i < told ? (uint16_t)take(2) : 0;
+    class_start = take(8);
+}
+
+static void put_sum(void) {
+    uint64_t sum = 0;
+    for (size_t i = 0; i < classes_len; i++) sum = sum * 31 + classes[i] + 1;
+    put(sum, 8);
+}
+
+static void index_classes(void) {
+    start = take(8);
+    uint32_t choices = (uint32_t)take(4);
+    classes_len = take(4);
+    if (classes_len > sizeof classes / sizeof classes[0]) exit(1);
+    uint16_t number = (uint16_t)take(2);
+    for (size_t i = 0; i < classes_len; i++) classes[i] = number;
+    class_start = take(8);
+    put(aat_index_classes(table, table_len, start, choices, classes, classes_len, &class_start), 4);
+    for (size_t i = 0; i < classes_len && i < 64; i++) put(classes[i], 2);
+    put_sum();
+    put(class_start, 8);
+}
+
+static void morx_pass_indexed(void) {
+    take_pass();
+    take_index();
+    put_pass(aat_morx_pass_indexed(TABLE_AND_LINE, &used, classes, classes_len, class_start));
+    put_sum();
+    put(used, 8);
+}
+
+static void kerx_pass_indexed(void) {
+    take_kerning();
+    take_marks();
+    version = (uint16_t)take(2);
+    uint32_t choices = (uint32_t)take(4);
+    take_index();
+    put_anchored(aat_kerx_pass_indexed(table, table_len, start, version, choices, ankr, ankr_len, glyphs.numbers, glyphs.len,
+                                       tags.numbers, tags.len, homes.numbers, homes.len, used, along, along_len, MARKS, classes,
+                                       classes_len, class_start));
+    put_sum();
+}
+
 typedef uint32_t start_of_list(const uint8_t *, size_t, size_t, uint64_t *);
 
 /* The cursor at a list, of so many numbers. */
@@ -814,6 +872,9 @@ static void answer(uint8_t call) {
     case 56: next(aat_mort_next_subtable, 2, 6); break;
     case 57: run_reel(aat_morx_reel); break;
     case 58: run_reel(aat_mort_reel); break;
+    case 59: index_classes(); break;
+    case 60: morx_pass_indexed(); break;
+    case 61: kerx_pass_indexed(); break;
     default: exit(1);
     }
 }

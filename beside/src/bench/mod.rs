@@ -3,6 +3,7 @@
 mod harfbuzz;
 mod sides;
 mod text;
+mod timed_indexes;
 mod timed_kerning;
 mod timed_mending;
 mod timed_passes;
@@ -123,6 +124,7 @@ fn groups(random: &mut Random) -> Vec<Group> {
         Group::new("Stored lines", timed_storing::subjects(random)),
         Group::new("Runs of morx that are asked for features", timed_passes::featured(random)),
         Group::new("Reels", timed_reels::subjects(random)),
+        Group::new("Passes by an index of classes", timed_indexes::subjects(&mut Random::new(4))),
     ]
 }
 

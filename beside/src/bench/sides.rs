@@ -77,6 +77,15 @@ pub mod ours {
     extern "C" {
         fn aat_lookup(table: *const u8, table_len: usize, start: usize, glyph: u16, value: *mut u32) -> u32;
         fn aat_class_extended(table: *const u8, table_len: usize, start: usize, glyph: u16, value: *mut u32) -> u32;
+        fn aat_index_classes(
+            table: *const u8,
+            table_len: usize,
+            start: usize,
+            choices: u32,
+            index: *mut u16,
+            index_len: usize,
+            class_start: *mut usize,
+        ) -> u32;
         fn aat_class_classic(table: *const u8, table_len: usize, start: usize, glyph: u16, value: *mut u32) -> u32;
         fn aat_language_index(
             table: *const u8,
@@ -204,6 +213,11 @@ pub mod ours {
             u16, u32, *const u8, usize;
             usize, *mut i64, usize, *mut i32, usize, *mut i32, usize, *mut u16, usize
         );
+        aat_kerx_pass_indexed(
+            u16, u32, *const u8, usize;
+            usize, *mut i64, usize, *mut i32, usize, *mut i32, usize, *mut u16, usize, *const u16, usize, usize
+        );
+        aat_morx_pass_indexed(; *mut u64, *const u16, usize, usize);
         aat_kern_run(; usize, *mut i64, usize, *mut u32);
         aat_kerx_run(u32; usize, *mut i64, usize, *mut u32);
     }
@@ -433,6 +447,47 @@ pub mod ours {
         );
     }
 
+    /// Fills an index by the state table at a start; where its class table begins.
+    #[inline(always)]
+    pub fn index_classes(table: &[u8], start: usize, index: &mut [u16]) -> usize {
+        let (numbers, count, mut begins) = (index.as_mut_ptr(), index.len(), 0);
+        let answer = unsafe { aat_index_classes(table.as_ptr(), table.len(), start, 0, numbers, count, &mut begins) };
+        assert_eq!(answer, 0, "an index that is filled");
+        begins
+    }
+
+    /// A pass over the line by the subtable that the table begins with, and an index.
+    #[inline(always)]
+    pub fn indexed_pass(line: &mut Line, table: &[u8], index: &[u16], start: usize) {
+        let (numbers, count) = (index.as_ptr(), index.len());
+        call!(aat_morx_pass_indexed, table, 0, [], line, [&mut line.used, numbers, count, start]);
+    }
+
+    /// A pass of kerx by the subtable that the table begins with, and an index.
+    #[inline(always)]
+    pub fn indexed_kerx_pass(
+        version: u16,
+        anchored: &mut Anchored,
+        table: &[u8],
+        ankr: &[u8],
+        index: &[u16],
+        start: usize,
+    ) {
+        let Anchored { kerned: Kerned { line, along }, marks: Marks { x, y, back } } = anchored;
+        let (length, room, along) = (line.length(), along.len(), along.as_mut_ptr());
+        let (x, y, back, points, bytes) =
+            (x.as_mut_ptr(), y.as_mut_ptr(), back.as_mut_ptr(), ankr.as_ptr(), ankr.len());
+        let (numbers, count) = (index.as_ptr(), index.len());
+        call!(
+            aat_kerx_pass_indexed,
+            table,
+            0,
+            [version, 0, points, bytes],
+            line,
+            [length, along, room, x, room, y, room, back, room, numbers, count, start]
+        );
+    }
+
     /// A run of the kern or kerx table that begins at a start, from left to right.
     #[inline(always)]
     pub fn kerning_run(kerning: Kerning, kerned: &mut Kerned, table: &[u8], start: usize) {
@@ -478,6 +533,13 @@ pub mod theirs {
     #[inline(never)]
     pub fn class_extended(table: &[u8], glyph: u16) -> Option<u32> {
         ExtendedStateTable::new(&Bytes::new(table)).map(|states| states.class(glyph).into())
+    }
+
+    /// The classes of all glyphs below the length of a slice.
+    #[inline(never)]
+    pub fn classes(table: &[u8], index: &mut [u16]) {
+        let states = ExtendedStateTable::new(&Bytes::new(table)).expect("a state table");
+        index.iter_mut().zip(0..).for_each(|(class, glyph)| *class = states.class(glyph));
     }
 
     /// The class of a glyph in a classic state table.

@@ -42,6 +42,7 @@ impl Part for AnchoredMarks {
 
     fn ask(&self, asked: &mut dyn Ask, random: &mut Random, cases: u64) {
         anchored_answers::known_answers(asked);
+        anchored_refusals::refusals(asked);
         anchored_answers::distances(asked);
         anchored_answers::short_lines(asked);
         anchored_answers::stalls(asked);
@@ -54,7 +55,6 @@ impl Part for AnchoredMarks {
         anchored_tables::cut_subtables(asked);
         anchored_refusals::slots(asked);
         anchored_refusals::lengths(asked);
-        anchored_refusals::refusals(asked);
         anchored_refusals::refused_lines(asked);
         anchored_refusals::large_adjustments(asked);
         anchored_refusals::many_heads(asked);

@@ -1,5 +1,6 @@
 //! Calls of the entries for anchored marks beside the crate's own `next` and a model of the manual's reading.
 
+use crate::questions::indexed_calls::{KerxIndexed, Making};
 use crate::questions::kerning_choices::{count, describe_choices};
 use crate::questions::Question;
 use crate::reference::anchored::{self, Anchored, Mark, Marks, Stepped, STATE};
@@ -99,7 +100,7 @@ impl AnchoredPass {
         };
         let (choices, reading) = (self.choices, self.choices.reading(KERX));
         let mut by_crate = lent.clone();
-        let answer = Kerx { reading, version: self.version, data }.anchored_pass(&self.ankr, choices, lent);
+        let answer = Kerx::new(reading, self.version, data).anchored_pass(&self.ankr, choices, lent);
         let left = (answer, lent.kerned.along.clone(), lent.marks.clone());
         reading.right(left, || {
             let answer = self.made_by_crate(data, &mut by_crate)?;
@@ -171,6 +172,12 @@ impl Question for AnchoredPass {
 
     fn describe_reply(&self, reply: &[u8]) -> String {
         self.lent.describe_reply(reply)
+    }
+
+    fn with_index(&self, table: &[u8], making: &Making) -> Option<Box<dyn Question>> {
+        let AnchoredPass { version, choices, ankr, lent, start, .. } = self.clone();
+        let (index, is_filled) = (making.index(table, start, choices), making.is_filled());
+        Some(Box::new(KerxIndexed { version, choices, ankr, lent, start, index, is_filled }))
     }
 
     fn trace(&self, table: &[u8]) -> Vec<String> {
@@ -325,8 +332,7 @@ impl AnchorStep {
         };
         let (reading, AnchorStep { length, index, glyph, .. }) = (self.choices.reading(KERX), self);
         let Stepped { mut state, mut marks, .. } = lent.clone();
-        let answer =
-            Kerx { reading, version: self.version, data }.anchor_step(&self.ankr, lent, *length, *index, *glyph);
+        let answer = Kerx::new(reading, self.version, data).anchor_step(&self.ankr, lent, *length, *index, *glyph);
         reading.right((answer, lent.state, lent.marks.clone()), || {
             let table = KERX.alone(self.version, data);
             let answer = match open(&table, &self.ankr) {

@@ -4,6 +4,7 @@ use crate::fuzz::case::Chosen;
 use crate::fuzz::seeds::{self, Seed};
 use crate::fuzz::source::Source;
 use crate::questions::anchored_calls::AnchoredPass;
+use crate::questions::indexed_calls::Making;
 use crate::questions::kerning_choices::{count, describe_choices};
 use crate::questions::{Ask, Part, Question};
 use crate::reference::anchored::{Anchored, Marks};
@@ -72,7 +73,7 @@ impl Pass {
         let reading = choices.reading(kerning);
         let mut of_model = lent.clone();
         let (glyphs, along) = of_model.used();
-        let by_model = Kerx { reading, version, data }.pass(choices, glyphs, along);
+        let by_model = Kerx::new(reading, version, data).pass(choices, glyphs, along);
         let by_crate = || Ok((self.made_by_crate(data, lent)?, lent.along.clone()));
         let (answer, along) = reading.right((by_model, of_model.along), by_crate)?;
         lent.along = along;
@@ -136,6 +137,13 @@ impl Question for Pass {
         let Pass { edition: Edition { version, .. }, start, .. } = *self;
         let lent = Anchored { kerned: self.lent.clone(), marks: Marks::of(self.lent.line.glyphs.len()) };
         Some(Box::new(AnchoredPass { version, choices, ankr, lent, start, written: None }))
+    }
+
+    fn with_index(&self, table: &[u8], making: &Making) -> Option<Box<dyn Question>> {
+        if self.edition.kerning == Kerning::Kern {
+            return None;
+        }
+        self.with_marks(self.choices.unwrap_or(Choices::NONE), Rc::from(Vec::new()))?.with_index(table, making)
     }
 
     fn trace(&self, table: &[u8]) -> Vec<String> {

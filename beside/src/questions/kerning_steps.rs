@@ -95,7 +95,7 @@ impl Step {
         let reading = choices.reading(kerning);
         let mut of_model = (*state, along.to_vec());
         let length = self.length as usize;
-        let subtable = Kerx { reading, version, data };
+        let subtable = Kerx::new(reading, version, data);
         let by_model = subtable.step(&mut of_model.0, self.index as usize, self.glyph, &mut of_model.1[..length]);
         let by_crate = || Ok((self.made_by_crate(data, state, along)?, (*state, along.to_vec())));
         let (answer, left) = reading.right((by_model, of_model), by_crate)?;

@@ -8,6 +8,8 @@ pub mod anchored_refusals;
 pub mod anchored_tables;
 pub mod classes;
 pub mod features;
+pub mod indexed;
+pub mod indexed_calls;
 pub mod kerning_choices;
 pub mod kerning_lists;
 pub mod kerning_pairs;
@@ -35,6 +37,7 @@ pub mod verbs;
 use crate::fuzz::case::Chosen;
 use crate::fuzz::seeds::Seed;
 use crate::fuzz::source::Source;
+use crate::questions::indexed_calls::Making;
 use crate::reference::kerning::Kerning::{Kern, Kerx};
 use crate::reference::kerning_choices::Choices;
 use crate::reference::oracle::Fault;
@@ -73,6 +76,10 @@ pub trait Question {
     }
     /// The same question to the entry that also takes an ankr table, by these choices, where there is one.
     fn with_marks(&self, _choices: Choices, _ankr: Rc<[u8]>) -> Option<Box<dyn Question>> {
+        None
+    }
+    /// The same question to the entry that also takes an index of classes, made so, where there is one.
+    fn with_index(&self, _table: &[u8], _making: &Making) -> Option<Box<dyn Question>> {
         None
     }
     /// The same question to the entry that is told what features are asked for, where there is one: some of the table's, or none.
@@ -157,6 +164,7 @@ pub static PARTS: &[&dyn Part] = &[
     &mort_passes::Passes,
     &mort_runs::Runs,
     &reels::Reels,
+    &indexed::Indexes,
 ];
 
 /// The part that an entry belongs to.

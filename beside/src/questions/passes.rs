@@ -3,7 +3,9 @@
 use crate::fuzz::case::Chosen;
 use crate::fuzz::seeds::{self, Seed};
 use crate::fuzz::source::Source;
+use crate::questions::indexed_calls::{Making, MorxIndexed};
 use crate::questions::{Ask, Part, Question};
+use crate::reference::kerning_choices::Choices;
 use crate::reference::line::{Line, DELETED, LARGEST_ROOM};
 use crate::reference::oracle::{caught, Answer, Fault, LONGEST_TABLE};
 use crate::reference::pass::line_of;
@@ -126,6 +128,11 @@ impl Question for Pass {
         } else {
             self.line.describe_reply(reply)
         }
+    }
+
+    fn with_index(&self, table: &[u8], making: &Making) -> Option<Box<dyn Question>> {
+        let index = making.index(table, self.start, Choices::NONE);
+        Some(Box::new(MorxIndexed { line: self.line.clone(), start: self.start, index, is_filled: making.is_filled() }))
     }
 
     fn trace(&self, table: &[u8]) -> Vec<String> {

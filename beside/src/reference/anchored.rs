@@ -211,9 +211,8 @@ const ANCHORS: u64 = 4;
 impl<'a> Kerx<'a> {
     fn anchors(&self, ankr: &'a [u8]) -> Option<(Head, Machine<'a>)> {
         let head = self.head().filter(|head| head.format() == ANCHORS)?;
-        let data = self.data.get(12..)?;
-        let table = States::open(self.reading, data)?;
-        let flags = number(data, 16, 4)?;
+        let table = self.states()?;
+        let flags = number(table.data, 16, 4)?;
         let points = Points { reading: self.reading, ankr };
         Some((head, Machine { table, action: flags >> 30, records: flags & 0xFF_FFFF, points }))
     }
@@ -270,7 +269,7 @@ pub fn run(
         if is_turned {
             lent.reverse();
         }
-        Kerx { reading, version: subtable.version, data: subtable.data }.anchored_pass(ankr, choices, lent);
+        Kerx::new(reading, subtable.version, subtable.data).anchored_pass(ankr, choices, lent);
         if is_turned {
             lent.reverse();
         }

@@ -62,6 +62,8 @@ pub struct Kerx<'a> {
     pub reading: Reading,
     pub version: u16,
     pub data: &'a [u8],
+    /// The classes of the glyphs below its length, which are asked before the class table; empty for none.
+    pub index: &'a [u16],
 }
 
 /// What a subtable's head says.
@@ -79,6 +81,11 @@ enum Opened<'a> {
 }
 
 impl<'a> Kerx<'a> {
+    /// One whose classes are by its class table.
+    pub fn new(reading: Reading, version: u16, data: &'a [u8]) -> Self {
+        Kerx { reading, version, data, index: &[] }
+    }
+
     /// What its head says, where it can be read.
     pub fn head(&self) -> Option<Head> {
         let [size, coverage] = [number(self.data, 0, 4)?, number(self.data, 4, 4)?];
@@ -86,12 +93,17 @@ impl<'a> Kerx<'a> {
         Some(Head { size, coverage, tuples })
     }
 
+    /// The state table of a machine.
+    pub fn states(&self) -> Option<States<'a>> {
+        Some(States { index: self.index, ..States::open(self.reading, self.data.get(12..)?)? })
+    }
+
     fn opened(&self) -> Option<(Head, Opened<'a>)> {
         let head = self.head()?;
         let long = |at| number(self.data, at, 4);
         let opened = match head.format() {
             0 => Opened::Pairs { count: long(12)? },
-            1 => Opened::Machine(Machine::open(self.reading, self.data.get(12..)?, head.tuples)?),
+            1 => Opened::Machine(Machine::open(self.states()?, head.tuples)?),
             2 => Opened::Classes { rows: long(16)?, columns: long(20)?, array: long(24)? },
             _ => return None,
         };
@@ -179,6 +191,7 @@ pub struct States<'a> {
     class_table: u64,
     states: u64,
     entries: u64,
+    index: &'a [u16],
 }
 
 impl<'a> States<'a> {
@@ -186,12 +199,16 @@ impl<'a> States<'a> {
     pub fn open(reading: Reading, data: &'a [u8]) -> Option<Self> {
         let long = |at| number(data, at, 4);
         let [classes, class_table, states, entries] = [long(0)?, long(4)?, long(8)?, long(12)?];
-        Some(States { reading, data, classes, class_table, states, entries })
+        Some(States { reading, data, classes, class_table, states, entries, index: &[] })
     }
 
-    fn class(&self, glyph: u16) -> u64 {
+    /// The class of a glyph.
+    pub fn class(&self, glyph: u16) -> u64 {
         if glyph == DELETED {
             return 2;
+        }
+        if let Some(class) = self.index.get(usize::from(glyph)) {
+            return (*class).into();
         }
         self.reading.lookup(self.data, self.class_table, glyph).unwrap_or(1)
     }
@@ -221,8 +238,8 @@ struct Machine<'a> {
 }
 
 impl<'a> Machine<'a> {
-    fn open(reading: Reading, data: &'a [u8], tuples: u64) -> Option<Self> {
-        Some(Machine { reading, table: States::open(reading, data)?, values: number(data, 16, 4)?, tuples })
+    fn open(table: States<'a>, tuples: u64) -> Option<Self> {
+        Some(Machine { reading: table.reading, values: number(table.data, 16, 4)?, table, tuples })
     }
 
     /// Where number k of the list of this index lies; None where the crate's sums do not fit 64 bits.
@@ -317,7 +334,7 @@ pub fn visit_all(
             Some(data) => data,
             None => break,
         };
-        let subtable = Kerx { reading, version: version as u16, data };
+        let subtable = Kerx::new(reading, version as u16, data);
         let head = match subtable.head() {
             Some(head) => head,
             None => break,

@@ -3,6 +3,7 @@
 pub mod anchored;
 pub mod anchored_by_copy;
 pub mod carried;
+pub mod indexed;
 pub mod kerning;
 pub mod kerning_by_copy;
 pub mod kerning_choices;

@@ -74,4 +74,7 @@ entries! {
     MortNextSubtable "aat_mort_next_subtable",
     MorxReel "aat_morx_reel",
     MortReel "aat_mort_reel",
+    IndexClasses "aat_index_classes",
+    MorxPassIndexed "aat_morx_pass_indexed",
+    KerxPassIndexed "aat_kerx_pass_indexed",
 }

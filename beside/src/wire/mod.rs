@@ -3,6 +3,7 @@
 pub mod along;
 pub mod entries;
 pub mod hex;
+pub mod index;
 pub mod line;
 pub mod marks;
 pub mod pipe;

@@ -17,12 +17,14 @@ use Rattle.state_tables.specs.declared.opened.Classes.{Classes}
 use Rattle.state_tables.specs.Classes.{classOf}
 use Rattle.state_tables.specs.Entries.{entryOf}
 use Rattle.state_tables.specs.Opened.{openedClasses, classBy, LiesIn, Remembers, nothingFound}
-use Rattle.state_tables.proofs.Openings.{classes-same, classes-lie, deleted-class, nothing-remembered}
+use Rattle.state_tables.proofs.Openings.{classes-lie, deleted-class, nothing-remembered}
 use Rattle.machine.specs.Pass.{isDone}
 use Rattle.machine.specs.Stall.{stalled, Falls}
 use Rattle.machine.proofs.Stalls.{stall-falls}
+use Rattle.indexes.specs.Index.{classesBy}
+use Rattle.indexes.proofs.Laws.{opened-index}
 use Rattle.anchor_machine.specs.Writes.{Write, writesAt, Anchored, after, nothingWritten}
-use Rattle.anchor_machine.specs.Machine.{fresh, stopped, acted, next, stepAt, passFrom, rest, passedBy, passed}
+use Rattle.anchor_machine.specs.Machine.{fresh, stopped, acted, next, stepAt, passFrom, rest, passedBy, passedIndexed}
 use Rattle.anchor_machine.specs.Small.{IsOffset}
 use Rattle.anchor_machine.specs.declared.Anchoring.{Anchoring}
 use Rattle.anchor_machine.specs.declared.Written.{Written}
@@ -67,9 +69,9 @@ more-turns : (n m : ℕ) → m ≤ n → 0 < m → (k : ℕ) × (n ≡ suc k)
 more-turns zero m h p = absurd (omega arith)
 more-turns (suc n) m h p = (n, refl)
 
-module _ (ankr bytes : List ℕ) (anchoring : Anchoring) (glyphs : List ℕ) (used : ℕ) (x₀ y₀ : List ℤ) (back₀ : List ℕ) where
+module _ (index ankr bytes : List ℕ) (anchoring : Anchoring) (glyphs : List ℕ) (used : ℕ) (x₀ y₀ : List ℤ) (back₀ : List ℕ) where
   abbrev classes : ℕ → ℕ
-  classes = classOf bytes (anchoring .states)
+  classes = classesBy index (classOf bytes (anchoring .states))
 
   abbrev from : ℕ → AnchorState → ℕ → Anchored
   from turns s i = passFrom classes ankr bytes anchoring glyphs used turns s i
@@ -82,14 +84,14 @@ module _ (ankr bytes : List ℕ) (anchoring : Anchoring) (glyphs : List ℕ) (us
     pub enough : rest used s i ≤ turns
     pub done : List Write
     pub wrote : Wrote done x₀ y₀ back₀ x y back
-    pub same : after done (from turns s i) ≡ passed ankr bytes anchoring glyphs used
+    pub same : after done (from turns s i) ≡ passedIndexed index ankr bytes anchoring glyphs used
     pub cycles : s .cycles ≤ 17
     pub within : i ≤ used
 
   -- what a pass that ends here answers and leaves
   pub record Ends (answer : Answer) (x y : List ℤ) (back : List ℕ) : Type 0 where
-    pub answers : answer ≡ passed ankr bytes anchoring glyphs used .answer
-    pub wrote : Wrote (passed ankr bytes anchoring glyphs used .writes) x₀ y₀ back₀ x y back
+    pub answers : answer ≡ passedIndexed index ankr bytes anchoring glyphs used .answer
+    pub wrote : Wrote (passedIndexed index ankr bytes anchoring glyphs used .writes) x₀ y₀ back₀ x y back
 
   module _ {opened : Classes} {memo : List ℕ} {x y : List ℤ} {back : List ℕ} {s : AnchorState} {i : ℕ} (g : Going opened memo x y back s i) where
     pub going-lies : LiesIn bytes opened
@@ -98,10 +100,10 @@ module _ (ankr bytes : List ℕ) (anchoring : Anchoring) (glyphs : List ℕ) (us
     one-more : (k : ℕ) × (g .turns ≡ suc k)
     one-more = more-turns (g .turns) (rest used s i) (g .enough) (omega (arith, g .cycles))
 
-    whole-is : (k : ℕ) → g .turns ≡ suc k → (r : Anchored) → from (suc k) s i ≡ r → after (g .done) r ≡ passed ankr bytes anchoring glyphs used
+    whole-is : (k : ℕ) → g .turns ≡ suc k → (r : Anchored) → from (suc k) s i ≡ r → after (g .done) r ≡ passedIndexed index ankr bytes anchoring glyphs used
     whole-is k e r f = ap (after (g .done)) (sym (rw e f)) ∙ g .same
 
-    ends : (r : Anchored) → after (g .done) r ≡ passed ankr bytes anchoring glyphs used → {x′ y′ : List ℤ} {back′ : List ℕ} → Wrote (r .writes) x y back x′ y′ back′
+    ends : (r : Anchored) → after (g .done) r ≡ passedIndexed index ankr bytes anchoring glyphs used → {x′ y′ : List ℤ} {back′ : List ℕ} → Wrote (r .writes) x y back x′ y′ back′
         → Ends (r .answer) x′ y′ back′
     ends r e {x′} {y′} {back′} w =
         record {
@@ -116,13 +118,13 @@ module _ (ankr bytes : List ℕ) (anchoring : Anchoring) (glyphs : List ℕ) (us
         ends (nothingWritten Answer′.Done) (whole-is k f (nothingWritten Answer′.Done) (turn-ends classes ankr bytes anchoring glyphs used k s i h)) (wrote-none x y back)
 
     -- by what the code reads there
-    module _ (h : i < used) {class : ℕ} {entered : Entered} (k : class ≡ classBy bytes opened (getD glyphs i 0))
+    module _ (h : i < used) {class : ℕ} {entered : Entered} (k : class ≡ classesBy index (classBy bytes opened) (getD glyphs i 0))
         (r : entered ≡ entryOf bytes (anchoring .states) (s .state) class 2) where
       abbrev at : AnchorStep
       at = next classes ankr bytes anchoring s i (getD glyphs i 0)
 
       class-here : class ≡ classes (getD glyphs i 0)
-      class-here = k ∙ ap (λ (t : Classes). classBy bytes t (getD glyphs i 0)) (g .table) ∙ classes-same bytes (anchoring .states) (getD glyphs i 0)
+      class-here = k ∙ ap (λ (f : ℕ → ℕ). f (getD glyphs i 0)) (opened-index index bytes (anchoring .states) (g .table))
 
       sound : Sound (s .cycles) at
       sound = next-sound classes ankr bytes anchoring s i (getD glyphs i 0)
@@ -202,30 +204,30 @@ module _ (ankr bytes : List ℕ) (anchoring : Anchoring) (glyphs : List ℕ) (us
               (at-goes m (subst (λ (t : AnchorStep). Wrote (writesAt used i (t .written)) x y back x′ y′ back′) acted-at w)))
 
 -- the steps at one place lead on, whatever the pass began with
-pub record Staying (ankr bytes : List ℕ) (anchoring : Anchoring) (glyphs : List ℕ) (used : ℕ) (opened : Classes) (place : ℕ) (memo₁ : List ℕ) (x₁ y₁ : List ℤ)
+pub record Staying (index ankr bytes : List ℕ) (anchoring : Anchoring) (glyphs : List ℕ) (used : ℕ) (opened : Classes) (place : ℕ) (memo₁ : List ℕ) (x₁ y₁ : List ℤ)
     (back₁ : List ℕ) (s₁ : AnchorState) (memo : List ℕ) (x y : List ℤ) (back : List ℕ) (s : AnchorState) (stays : Bool) : Type 0 where
-  pub leads : (x₀ y₀ : List ℤ) (back₀ : List ℕ) → Going ankr bytes anchoring glyphs used x₀ y₀ back₀ opened memo₁ x₁ y₁ back₁ s₁ place
-      → Going ankr bytes anchoring glyphs used x₀ y₀ back₀ opened memo x y back s (placeAfter stays place)
+  pub leads : (x₀ y₀ : List ℤ) (back₀ : List ℕ) → Going index ankr bytes anchoring glyphs used x₀ y₀ back₀ opened memo₁ x₁ y₁ back₁ s₁ place
+      → Going index ankr bytes anchoring glyphs used x₀ y₀ back₀ opened memo x y back s (placeAfter stays place)
 
-module _ {ankr bytes : List ℕ} {anchoring : Anchoring} {glyphs : List ℕ} {used : ℕ} {opened : Classes} {place : ℕ} {memo₁ : List ℕ} {x₁ y₁ : List ℤ} {back₁ : List ℕ}
+module _ {index ankr bytes : List ℕ} {anchoring : Anchoring} {glyphs : List ℕ} {used : ℕ} {opened : Classes} {place : ℕ} {memo₁ : List ℕ} {x₁ y₁ : List ℤ} {back₁ : List ℕ}
     {s₁ : AnchorState} {memo : List ℕ} {x y : List ℤ} {back : List ℕ} {s : AnchorState} {stays : Bool}
-    (t : Staying ankr bytes anchoring glyphs used opened place memo₁ x₁ y₁ back₁ s₁ memo x y back s stays) {x₀ y₀ : List ℤ} {back₀ : List ℕ}
-    (g : Going ankr bytes anchoring glyphs used x₀ y₀ back₀ opened memo₁ x₁ y₁ back₁ s₁ place) where
-  led : (b : Bool) → stays ≡ b → Going ankr bytes anchoring glyphs used x₀ y₀ back₀ opened memo x y back s (placeAfter b place)
-  led b e = subst (λ (v : Bool). Going ankr bytes anchoring glyphs used x₀ y₀ back₀ opened memo x y back s (placeAfter v place)) e (t .leads x₀ y₀ back₀ g)
+    (t : Staying index ankr bytes anchoring glyphs used opened place memo₁ x₁ y₁ back₁ s₁ memo x y back s stays) {x₀ y₀ : List ℤ} {back₀ : List ℕ}
+    (g : Going index ankr bytes anchoring glyphs used x₀ y₀ back₀ opened memo₁ x₁ y₁ back₁ s₁ place) where
+  led : (b : Bool) → stays ≡ b → Going index ankr bytes anchoring glyphs used x₀ y₀ back₀ opened memo x y back s (placeAfter b place)
+  led b e = subst (λ (v : Bool). Going index ankr bytes anchoring glyphs used x₀ y₀ back₀ opened memo x y back s (placeAfter v place)) e (t .leads x₀ y₀ back₀ g)
 
-  pub still-here : stays ≡ true → Going ankr bytes anchoring glyphs used x₀ y₀ back₀ opened memo x y back s place
+  pub still-here : stays ≡ true → Going index ankr bytes anchoring glyphs used x₀ y₀ back₀ opened memo x y back s place
   still-here = led true
 
-  pub moved-on : stays ≡ false → Going ankr bytes anchoring glyphs used x₀ y₀ back₀ opened memo x y back s (place + 1)
+  pub moved-on : stays ≡ false → Going index ankr bytes anchoring glyphs used x₀ y₀ back₀ opened memo x y back s (place + 1)
   moved-on = led false
 
-pub going-start : (ankr bytes : List ℕ) (anchoring : Anchoring) (glyphs : List ℕ) (used : ℕ) (x y : List ℤ) (back : List ℕ) {opened : Classes} {memo : List ℕ}
+pub going-start : (index ankr bytes : List ℕ) (anchoring : Anchoring) (glyphs : List ℕ) (used : ℕ) (x y : List ℤ) (back : List ℕ) {opened : Classes} {memo : List ℕ}
     {s : AnchorState} → opened ≡ openedClasses bytes (anchoring .states .edition) → memo ≡ nothingFound → s ≡ fresh
-    → Going ankr bytes anchoring glyphs used x y back opened memo x y back s 0
-unfolding passed passedBy
-going-start ankr bytes anchoring glyphs used x y back {opened} {memo} o m e =
-    subst⁻¹ (λ (t : AnchorState). Going ankr bytes anchoring glyphs used x y back opened memo x y back t 0) e
+    → Going index ankr bytes anchoring glyphs used x y back opened memo x y back s 0
+unfolding passedIndexed passedBy
+going-start index ankr bytes anchoring glyphs used x y back {opened} {memo} o m e =
+    subst⁻¹ (λ (t : AnchorState). Going index ankr bytes anchoring glyphs used x y back opened memo x y back t 0) e
     (record {
       table = o;
       remembers = subst⁻¹ (Remembers (classBy bytes opened)) m (nothing-remembered (deleted-class bytes opened));

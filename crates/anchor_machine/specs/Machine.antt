@@ -23,6 +23,7 @@ use Rattle.state_tables.specs.declared.Made.{Made}
 use Rattle.state_tables.specs.declared.Made.the-variants as Made′
 use Rattle.state_tables.specs.declared.entries.Entry.{Entry}
 use Rattle.state_tables.specs.Classes.{classOf}
+use Rattle.indexes.specs.Index.{classesBy}
 use Rattle.state_tables.specs.Entries.{entryOf, onEntry}
 use Rattle.state_tables.specs.States.{extendedBy}
 use Rattle.machine.specs.Stall.{stalled}
@@ -169,6 +170,10 @@ passedBy classes ankr bytes anchoring glyphs used = passFrom classes ankr bytes 
 abbrev pub ownClasses : List ℕ → Anchoring → ℕ → ℕ
 ownClasses bytes anchoring = classOf bytes (anchoring .states)
 
+-- the pass over a line, by the classes of an index
+unfoldable pub passedIndexed : (index ankr bytes : List ℕ) → Anchoring → (glyphs : List ℕ) → (used : ℕ) → Anchored
+passedIndexed index ankr bytes anchoring glyphs used = passedBy (classesBy index (ownClasses bytes anchoring)) ankr bytes anchoring glyphs used
+
 -- the pass over a line
 unfoldable pub passed : (ankr bytes : List ℕ) → Anchoring → (glyphs : List ℕ) → (used : ℕ) → Anchored
 passed ankr bytes anchoring glyphs used = passedBy (ownClasses bytes anchoring) ankr bytes anchoring glyphs used
@@ -178,6 +183,12 @@ unfoldable pub workedBy : (ankr bytes : List ℕ) → Opened → (glyphs : List 
 workedBy ankr bytes (Opened′.Ready anchoring) glyphs used = passed ankr bytes anchoring glyphs used
 workedBy ankr bytes Opened′.Short glyphs used = nothingWritten (Answer′.Refused Refusal′.Head)
 workedBy ankr bytes Opened′.Tupled glyphs used = nothingWritten (Answer′.Refused Refusal′.Tuples)
+
+-- the same by the classes of an index
+unfoldable pub workedIndexed : (index ankr bytes : List ℕ) → Opened → (glyphs : List ℕ) → (used : ℕ) → Anchored
+workedIndexed index ankr bytes (Opened′.Ready anchoring) glyphs used = passedIndexed index ankr bytes anchoring glyphs used
+workedIndexed index ankr bytes Opened′.Short glyphs used = nothingWritten (Answer′.Refused Refusal′.Head)
+workedIndexed index ankr bytes Opened′.Tupled glyphs used = nothingWritten (Answer′.Refused Refusal′.Tuples)
 
 abbrev pub isShort : Opened → Bool
 isShort (Opened′.Ready anchoring) = false

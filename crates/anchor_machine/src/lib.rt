@@ -20,9 +20,10 @@ ghost use lib.ListN.{length};
 ghost use Rattle.answers.specs.Limits.{roomLimit};
 ghost use Rattle.answers.specs.Refuse.{refuse};
 ghost use Rattle.state_tables.specs.Opened.{classBy, LiesIn, Remembers};
+ghost use Rattle.indexes.specs.Index.{classesBy};
 ghost use Rattle.anchor_machine.specs.Writes.{writeX, writeY, writeBack, writesAt, areLong};
 ghost use Rattle.anchor_machine.specs.Small.{IsPoint, IsOffset};
-ghost use Rattle.anchor_machine.specs.Machine.{opened, barred, fresh, marked, numbersAt, numbersOf, offset, writtenBy, stopped, settled, areShort, settledBy, acted, next, ownClasses, passed, workedBy, isShort, isTupled, isRoomy, stepTests, stepCall, stepWrites};
+ghost use Rattle.anchor_machine.specs.Machine.{opened, barred, fresh, marked, numbersAt, numbersOf, offset, writtenBy, stopped, settled, areShort, settledBy, acted, next, ownClasses, passedIndexed, workedBy, workedIndexed, isShort, isTupled, isRoomy, stepTests, stepCall, stepWrites};
 
 // A machine, as its subtable's head gives it: by a reading, with an action type and where its control table begins.
 pub struct Anchoring {
@@ -534,6 +535,18 @@ fn class_now(bytes: &[u8], opened: Classes, memo: &mut [u32; 64], glyph: u16) ->
     opened::class_in_words(bytes, base, first, count, glyph)
 }
 
+// The same by an index, where that reaches the glyph.
+fn class_by(bytes: &[u8], opened: Classes, memo: &mut [u32; 64], glyph: u16, index: &[u16]) -> u16
+    requires { ⌜ LiesIn (now bytes) opened × Remembers (classBy (now bytes) opened) (now memo) ⌝ }
+    ensures class { λ r. ⌜ r ≡ classesBy (now (index .entry)) (classBy (now (bytes .entry)) opened) glyph ⌝ }
+    ensures memo { λ _. ⌜ Remembers (classBy (now (bytes .entry)) opened) (now (memo .exit)) ⌝ }
+{
+    if (glyph as usize) < index.len() {
+        return index[glyph as usize];
+    }
+    class_now(bytes, opened, memo, glyph)
+}
+
 // The pass over a line that LINE has taken.
 fn pass_line(
     ankr: &[u8],
@@ -544,12 +557,13 @@ fn pass_line(
     x: &mut [i32],
     y: &mut [i32],
     back: &mut [u16],
+    index: &[u16],
 ) -> Answer
     requires { ⌜ (used ≤ length (now glyphs)) × (used ≤ length (now x)) × (used ≤ length (now y)) × (used ≤ length (now back)) × (used ≤ roomLimit) ⌝ }
-    ensures answer { λ r. ⌜ r ≡ passed (now (ankr .entry)) (now (bytes .entry)) anchoring (now (glyphs .entry)) used .answer ⌝ }
-    ensures x { λ _. ⌜ now (x .exit) ≡ writeX (passed (now (ankr .entry)) (now (bytes .entry)) anchoring (now (glyphs .entry)) used .writes) (now (x .entry)) ⌝ }
-    ensures y { λ _. ⌜ now (y .exit) ≡ writeY (passed (now (ankr .entry)) (now (bytes .entry)) anchoring (now (glyphs .entry)) used .writes) (now (y .entry)) ⌝ }
-    ensures back { λ _. ⌜ now (back .exit) ≡ writeBack (passed (now (ankr .entry)) (now (bytes .entry)) anchoring (now (glyphs .entry)) used .writes) (now (back .entry)) ⌝ }
+    ensures answer { λ r. ⌜ r ≡ passedIndexed (now (index .entry)) (now (ankr .entry)) (now (bytes .entry)) anchoring (now (glyphs .entry)) used .answer ⌝ }
+    ensures x { λ _. ⌜ now (x .exit) ≡ writeX (passedIndexed (now (index .entry)) (now (ankr .entry)) (now (bytes .entry)) anchoring (now (glyphs .entry)) used .writes) (now (x .entry)) ⌝ }
+    ensures y { λ _. ⌜ now (y .exit) ≡ writeY (passedIndexed (now (index .entry)) (now (ankr .entry)) (now (bytes .entry)) anchoring (now (glyphs .entry)) used .writes) (now (y .entry)) ⌝ }
+    ensures back { λ _. ⌜ now (back .exit) ≡ writeBack (passedIndexed (now (index .entry)) (now (ankr .entry)) (now (bytes .entry)) anchoring (now (glyphs .entry)) used .writes) (now (back .entry)) ⌝ }
 {
     let states = anchoring.states;
     let opened = opened::open(bytes, states);
@@ -561,7 +575,7 @@ fn pass_line(
         let mut stays = true;
         while stays {
             // What `next` does, written out: as a call of its own its answer would go through memory.
-            let class = class_now(bytes, opened, &mut memo, glyphs[place]);
+            let class = class_by(bytes, opened, &mut memo, glyphs[place], index);
             let Entered::At(entry) = entries::entry_of(bytes, states, state.state, class, 2) else {
                 return Answer::Ended;
             };
@@ -580,7 +594,38 @@ fn pass_line(
     Answer::Done
 }
 
-// The pass by what a head gives; HEAD where it gives none, TUPLES where these are refused.
+// The pass by what a head gives and the classes of an index; HEAD where it gives none, TUPLES where these are refused.
+pub fn work_by(
+    ankr: &[u8],
+    bytes: &[u8],
+    opened: Opened,
+    glyphs: &[u16],
+    used: usize,
+    x: &mut [i32],
+    y: &mut [i32],
+    back: &mut [u16],
+    index: &[u16],
+) -> Answer
+    requires { ⌜ (used ≤ length (now glyphs)) × (used ≤ length (now x)) × (used ≤ length (now y)) × (used ≤ length (now back)) × (used ≤ roomLimit) ⌝ }
+    ensures answer { λ r. ⌜ r ≡ workedIndexed (now (index .entry)) (now (ankr .entry)) (now (bytes .entry)) opened (now (glyphs .entry)) used .answer ⌝ }
+    ensures x { λ _. ⌜ now (x .exit) ≡ writeX (workedIndexed (now (index .entry)) (now (ankr .entry)) (now (bytes .entry)) opened (now (glyphs .entry)) used .writes) (now (x .entry)) ⌝ }
+    ensures y { λ _. ⌜ now (y .exit) ≡ writeY (workedIndexed (now (index .entry)) (now (ankr .entry)) (now (bytes .entry)) opened (now (glyphs .entry)) used .writes) (now (y .entry)) ⌝ }
+    ensures back { λ _. ⌜ now (back .exit) ≡ writeBack (workedIndexed (now (index .entry)) (now (ankr .entry)) (now (bytes .entry)) opened (now (glyphs .entry)) used .writes) (now (back .entry)) ⌝ }
+{
+    match opened {
+        Opened::Ready(anchoring) => {
+            return pass_line(ankr, bytes, anchoring, glyphs, used, x, y, back, index);
+        }
+        Opened::Short => {
+            return Answer::Refused(Refusal::Head);
+        }
+        Opened::Tupled => {
+            return Answer::Refused(Refusal::Tuples);
+        }
+    }
+}
+
+// The same by the machine's own classes.
 pub fn work(
     ankr: &[u8],
     bytes: &[u8],
@@ -597,15 +642,6 @@ pub fn work(
     ensures y { λ _. ⌜ now (y .exit) ≡ writeY (workedBy (now (ankr .entry)) (now (bytes .entry)) opened (now (glyphs .entry)) used .writes) (now (y .entry)) ⌝ }
     ensures back { λ _. ⌜ now (back .exit) ≡ writeBack (workedBy (now (ankr .entry)) (now (bytes .entry)) opened (now (glyphs .entry)) used .writes) (now (back .entry)) ⌝ }
 {
-    match opened {
-        Opened::Ready(anchoring) => {
-            return pass_line(ankr, bytes, anchoring, glyphs, used, x, y, back);
-        }
-        Opened::Short => {
-            return Answer::Refused(Refusal::Head);
-        }
-        Opened::Tupled => {
-            return Answer::Refused(Refusal::Tuples);
-        }
-    }
+    let none = [0u16; 0];
+    work_by(ankr, bytes, opened, glyphs, used, x, y, back, &none)
 }

@@ -24,6 +24,8 @@ use Rattle.machine.specs.Call.{isReady, headTest, stepTests}
 use Rattle.machine.specs.Machine.{stepCall, stepLeaves}
 use Rattle.machine.proofs.Calls as Machine′
 use Rattle.machine.proofs.Calls.{table-refused, past-place, head-refused, head-passed}
+use Rattle.indexes.specs.Index.{classesBy}
+use Rattle.indexes.proofs.Laws.{no-index}
 use Rattle.contextual.specs.Contextual.{Ran, next, stepped}
 use Rattle.contextual.specs.Calls.{opened, stateTests, contextual}
 use Rattle.contextual.specs.Work.{writtenAll, stepOf, ranAll}
@@ -90,14 +92,23 @@ module _ (table : List ℕ) (start : ℕ) (s : ContextualState) (glyphs tags hom
   unfolding stepCall applyAll
   step-headless e h = step-ends _ (Machine′.step-headless _ _ table start _ _ _ _ _ b m k e h) refl refl
 
-  pub step-worked : {states : States} {body glyphs′ : List ℕ} {step : ContextualStep} → check ≡ Check′.Passed → made ≡ Made′.Ready states
+  worked : {states : States} {body glyphs′ : List ℕ} {step : ContextualStep} → check ≡ Check′.Passed → made ≡ Made′.Ready states
       → body ≡ drop 12 bytes → step ≡ stepOf (stepped (ranAll (classOf body states) body states used 1 s glyphs index glyph ends))
       → glyphs′ ≡ writtenAll used (ranAll (classOf body states) body states used 1 s glyphs index glyph ends .writes) glyphs → Ends step glyphs′
   unfolding stepCall
-  step-worked {states} {body} e r d a g =
+  worked {states} {body} e r d a g =
       let one = alone (classOf body states) body states used s glyphs index glyph ends in
       step-ends (stepped (next (classOf body states) body states s index glyph ends))
       (Machine′.step-made _ _ table start _ _ _ _ _ b m k e r d)
       (a ∙ ap (λ (x : Ran). stepOf (stepped x)) one)
       (g ∙ ap (λ (x : Ran). writtenAll used (x .writes) glyphs) one
       ∙ ap (λ (x : Line). x .glyphs) (written-line used (next (classOf body states) body states s index glyph ends .writes) glyphs tags homes))
+
+  -- a step is lent no index
+  pub step-worked : {states : States} {body glyphs′ : List ℕ} {step : ContextualStep} (lent : List ℕ) → length lent ≡ 0 → check ≡ Check′.Passed → made ≡ Made′.Ready states
+      → body ≡ drop 12 bytes → step ≡ stepOf (stepped (ranAll (classesBy lent (classOf body states)) body states used 1 s glyphs index glyph ends))
+      → glyphs′ ≡ writtenAll used (ranAll (classesBy lent (classOf body states)) body states used 1 s glyphs index glyph ends .writes) glyphs → Ends step glyphs′
+  step-worked {states} {body} lent z e r d a g =
+      let same = no-index lent z (classOf body states) in
+      worked e r d (a ∙ ap (λ (c : ℕ → ℕ). stepOf (stepped (ranAll c body states used 1 s glyphs index glyph ends))) same)
+      (g ∙ ap (λ (c : ℕ → ℕ). writtenAll used (ranAll c body states used 1 s glyphs index glyph ends .writes) glyphs) same)

@@ -3,19 +3,14 @@ use Prim.Native.Nat.{ℕ, _<_}
 use mathlib.Core.Path.{_≡_, _∙_, ap, subst, subst⁻¹}
 use mathlib.Core.Bool.{Bool, true, false}
 use mathlib.Core.List.{List}
-use Rattle.state_tables.specs.Classes.{classOf}
 use Rattle.state_tables.specs.Opened.{openedClasses, wordClass, classBy, LiesIn, Remembers, noted, nothingFound}
 use Rattle.state_tables.specs.declared.Edition.{Edition}
-use Rattle.state_tables.specs.declared.States.{States}
 use Rattle.state_tables.specs.declared.opened.Classes.{Classes}
 use Rattle.state_tables.specs.declared.opened.Classes.the-variants.{Words}
-use Rattle.state_tables.proofs.Openings.{classes-same, classes-lie, words-class, deleted-class, nothing-remembered, still-remembers}
+use Rattle.state_tables.proofs.Openings.{classes-lie, words-class, deleted-class, nothing-remembered, still-remembers}
 use Rattle.machine.specs.Entry.{classHere}
 
 -- a state table's own class table
-pub own-classes : (bytes : List ℕ) (states : States) {table : Classes} → table ≡ openedClasses bytes (states .edition) → classBy bytes table ≡ classOf bytes states
-own-classes bytes states e = λ i glyph. (ap (λ (t : Classes). classBy bytes t glyph) e ∙ classes-same bytes states glyph) i
-
 pub own-lies : (bytes : List ℕ) (edition : Edition) {table : Classes} → table ≡ openedClasses bytes edition → LiesIn bytes table
 own-lies bytes edition e = subst⁻¹ (λ (t : Classes). LiesIn bytes t) e (classes-lie bytes edition)
 

@@ -20,13 +20,14 @@ use Rattle.machine.specs.Pass.{Passed, deleted, isDone, advanceOf, after, passF
 use Rattle.machine.specs.Machine.{passedBy, passed}
 use Rattle.machine.specs.Work.{passedLeaves, glyphAt}
 use Rattle.machine.proofs.Passing.{turn-goes, turn-stops, turn-ends}
+use Rattle.indexes.specs.Index.{classesBy, indexed}
+use Rattle.indexes.proofs.Laws.{opened-index}
 use Rattle.contextual.specs.Substitutes.{Write, changesOf}
 use Rattle.contextual.specs.Contextual.{fresh, Ran, over, next, stepped}
 use Rattle.contextual.specs.Calls.{contextual}
 use Rattle.contextual.specs.Work.{writtenAll, stepOf, afterWrites, ranAll}
 use Rattle.contextual.specs.declared.ContextualState.{ContextualState}
 use Rattle.contextual.specs.declared.ContextualStep.{ContextualStep}
-use Rattle.contextual.proofs.Classes.{own-classes}
 use Rattle.contextual.proofs.Writes.{written-append, changes-append, written-line}
 use Rattle.contextual.proofs.Runs.{Ends, more}
 use Rattle.contextual.proofs.Turns.{advances}
@@ -77,15 +78,15 @@ module _ (classes : ℕ → ℕ) (bytes : List ℕ) (states : States) (used : �
 
   module _ (glyphs₀ : List ℕ) (whole : Ran) where
     -- what the loop knows with so many steps left
-    pub record Going (memo glyphs : List ℕ) (s : ContextualState) (place glyph : ℕ) (ends : Bool) (left : ℕ) : Type 0 where
+    pub record Going (kept : ℕ → ℕ) (memo glyphs : List ℕ) (s : ContextualState) (place glyph : ℕ) (ends : Bool) (left : ℕ) : Type 0 where
       pub done : List Write
       pub same : afterWrites done (all left s glyphs place glyph ends) ≡ whole
       pub made : glyphs ≡ writtenAll used done glyphs₀
       pub long : length glyphs ≡ length glyphs₀
       pub within : place + left ≤ used + 1
-      pub memory : Remembers classes memo
+      pub memory : Remembers kept memo
 
-    module _ {memo glyphs : List ℕ} {s : ContextualState} {place glyph : ℕ} {ends : Bool} {left : ℕ} (g : Going memo glyphs s place glyph ends left) where
+    module _ {kept : ℕ → ℕ} {memo glyphs : List ℕ} {s : ContextualState} {place glyph : ℕ} {ends : Bool} {left : ℕ} (g : Going kept memo glyphs s place glyph ends left) where
       pub going-out : left ≤ 0 → Ends used glyphs₀ whole (record { answer = Answer′.Done; state = s; advance = 1 }) glyphs
       unfolding ranAll
       going-out h =
@@ -121,8 +122,8 @@ module _ (classes : ℕ → ℕ) (bytes : List ℕ) (states : States) (used : �
               left = made-after ∙ ap (λ (x : Ran). writtenAll used (x .writes) glyphs₀) is;
             }
 
-        pub going-goes : {memo′ : List ℕ} {glyph′ : ℕ} → isDone (step .answer) ≡ true → Remembers classes memo′ → length glyphs′ ≡ length glyphs
-            → glyph′ ≡ glyphAt glyphs′ used (place + 1) → Going memo′ glyphs′ (step .state) (place + 1) glyph′ (leb used (place + 1)) (left - 1)
+        pub going-goes : {memo′ : List ℕ} {glyph′ : ℕ} → isDone (step .answer) ≡ true → Remembers kept memo′ → length glyphs′ ≡ length glyphs
+            → glyph′ ≡ glyphAt glyphs′ used (place + 1) → Going kept memo′ glyphs′ (step .state) (place + 1) glyph′ (leb used (place + 1)) (left - 1)
         going-goes {memo′} {glyph′} f m len q =
             let one = at s place glyph ends in
             let made = g .done ++ one .writes in
@@ -141,8 +142,8 @@ module _ (classes : ℕ → ℕ) (bytes : List ℕ) (states : States) (used : �
               memory = m;
             }
 
-  pub going-start : (memo glyphs : List ℕ) (s : ContextualState) (place glyph : ℕ) (ends : Bool) (steps : ℕ) → place + steps ≤ used + 1
-      → Remembers classes memo → Going glyphs (all steps s glyphs place glyph ends) memo glyphs s place glyph ends steps
+  pub going-start : (memo glyphs : List ℕ) (s : ContextualState) (place glyph : ℕ) (ends : Bool) (steps : ℕ) {kept : ℕ → ℕ}
+      → place + steps ≤ used + 1 → Remembers kept memo → Going glyphs (all steps s glyphs place glyph ends) kept memo glyphs s place glyph ends steps
   unfolding writtenAll
   going-start memo glyphs s place glyph ends steps h m = record { done = []; same = refl; made = refl; long = refl; within = h; memory = m }
 
@@ -204,47 +205,47 @@ module _ (classes : ℕ → ℕ) (bytes : List ℕ) (states : States) (used : �
           ∙ ap passOf (sym (from-inside (suc (suc left)) s glyphs i inside ∙ all-goes (suc left) s glyphs i (getD glyphs i 0) false f))
 
 -- the classes of the table that was opened are the state table's own
-pub own-ends : (bytes : List ℕ) (states : States) (used steps : ℕ) (s : ContextualState) (glyphs₀ : List ℕ) (place glyph : ℕ) (ends : Bool)
+pub own-ends : (lent bytes : List ℕ) (states : States) (used steps : ℕ) (s : ContextualState) (glyphs₀ : List ℕ) (place glyph : ℕ) (ends : Bool)
     {table : Classes} {step : ContextualStep} {glyphs : List ℕ} → table ≡ openedClasses bytes (states .edition)
-    → Ends used glyphs₀ (ranAll (classBy bytes table) bytes states used steps s glyphs₀ place glyph ends) step glyphs
-    → Ends used glyphs₀ (ranAll (classOf bytes states) bytes states used steps s glyphs₀ place glyph ends) step glyphs
-own-ends bytes states used steps s glyphs₀ place glyph ends {step = step} {glyphs = glyphs} e r =
+    → Ends used glyphs₀ (ranAll (classesBy lent (classBy bytes table)) bytes states used steps s glyphs₀ place glyph ends) step glyphs
+    → Ends used glyphs₀ (ranAll (classesBy lent (classOf bytes states)) bytes states used steps s glyphs₀ place glyph ends) step glyphs
+own-ends lent bytes states used steps s glyphs₀ place glyph ends {step = step} {glyphs = glyphs} e r =
     subst (λ (classes : ℕ → ℕ). Ends used glyphs₀ (ranAll classes bytes states used steps s glyphs₀ place glyph ends) step glyphs)
-    (own-classes bytes states e)
+    (opened-index lent bytes states e)
     r
 
 -- what a pass answers and leaves
-pub record PassEnds (bytes : List ℕ) (states : States) (l : Line) (answer : Answer) (glyphs : List ℕ) : Type 0 where
-  pub answers : answer ≡ passed contextual bytes states l .answer
-  pub left : glyphs ≡ passedLeaves contextual bytes states l .glyphs
+pub record PassEnds (index bytes : List ℕ) (states : States) (l : Line) (answer : Answer) (glyphs : List ℕ) : Type 0 where
+  pub answers : answer ≡ passed (indexed index contextual) bytes states l .answer
+  pub left : glyphs ≡ passedLeaves (indexed index contextual) bytes states l .glyphs
 
 at-start : (used : ℕ) → leb used 0 ≡ eqb used 0
 at-start zero = refl
 at-start (suc n) = lt-leb (suc n) 0 (omega arith) ∙ sym (ne-eqb (suc n) 0 (λ e. omega (arith, e)))
 
-module _ (bytes : List ℕ) (states : States) (glyphs tags homes : List ℕ) (used : ℕ) where
+module _ (index bytes : List ℕ) (states : States) (glyphs tags homes : List ℕ) (used : ℕ) where
   abbrev steps : ContextualState → (first : ℕ) → Ran
-  steps s first = ranAll (classOf bytes states) bytes states used (used + 1) s glyphs 0 first (eqb used 0)
+  steps s first = ranAll (classesBy index (classOf bytes states)) bytes states used (used + 1) s glyphs 0 first (eqb used 0)
 
   abbrev line : Line
   line = lineOf glyphs tags homes used
 
-  whole-pass : passed contextual bytes states line ≡ passOf (steps fresh (glyphAt glyphs used 0))
+  whole-pass : passed (indexed index contextual) bytes states line ≡ passOf (steps fresh (glyphAt glyphs used 0))
   unfolding passed passedBy
   whole-pass =
       let n : (used - 0) + 1 ≡ suc used = omega arith in
       let m : suc used ≡ used + 1 = omega arith in
-      let classes = classOf bytes states in
+      let classes = classesBy index (classOf bytes states) in
       ap (λ (k : ℕ). passFrom (contextual .step classes bytes states) k fresh line 0) n
       ∙ all-pass classes bytes states used used fresh glyphs tags homes 0 (omega arith)
       ∙ ap (λ (k : ℕ). passOf (ranAll classes bytes states used k fresh glyphs 0 (glyphAt glyphs used 0) (leb used 0))) m
       ∙ ap (λ (b : Bool). passOf (ranAll classes bytes states used (used + 1) fresh glyphs 0 (glyphAt glyphs used 0) b)) (at-start used)
 
   pub pass-ends : {s : ContextualState} {first : ℕ} {step : ContextualStep} {glyphs′ : List ℕ} → s ≡ fresh → first ≡ glyphAt glyphs used 0
-      → step ≡ stepOf (stepped (steps s first)) → glyphs′ ≡ writtenAll used (steps s first .writes) glyphs → PassEnds bytes states line (step .answer) glyphs′
+      → step ≡ stepOf (stepped (steps s first)) → glyphs′ ≡ writtenAll used (steps s first .writes) glyphs → PassEnds index bytes states line (step .answer) glyphs′
   unfolding passedLeaves
   pass-ends {s} {first} b f e p =
-      let is : passOf (steps s first) ≡ passed contextual bytes states line =
+      let is : passOf (steps s first) ≡ passed (indexed index contextual) bytes states line =
       ap (λ (x : ContextualState). passOf (steps x first)) b ∙ ap (λ (x : ℕ). passOf (steps fresh x)) f ∙ sym whole-pass in
       record {
         answers = ap (λ (x : ContextualStep). x .answer) e ∙ ap (λ (w : Passed). w .answer) is;

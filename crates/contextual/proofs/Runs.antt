@@ -52,12 +52,12 @@ more (suc n) h = omega arith
 
 module _ (classes : ℕ → ℕ) (bytes : List ℕ) (states : States) (index used : ℕ) (glyphs₀ : List ℕ) (whole : Ran) where
   -- what the loop knows with so many entries left
-  pub record Running (memo glyphs : List ℕ) (s : ContextualState) (current : ℕ) (ends : Bool) (left : ℕ) : Type 0 where
+  pub record Running (kept : ℕ → ℕ) (memo glyphs : List ℕ) (s : ContextualState) (current : ℕ) (ends : Bool) (left : ℕ) : Type 0 where
     pub done : List Write
     pub same : ran classes bytes states index left s (classHere classes current ends) current done ≡ whole
     pub made : glyphs ≡ writtenAll used done glyphs₀
     pub long : length glyphs ≡ length glyphs₀
-    pub memory : Remembers classes memo
+    pub memory : Remembers kept memo
 
   -- a step that ends here
   pub record Over (answer : Answer) (s : ContextualState) (glyphs : List ℕ) : Type 0 where
@@ -65,7 +65,7 @@ module _ (classes : ℕ → ℕ) (bytes : List ℕ) (states : States) (index use
     pub is : over answer s writes ≡ whole
     pub left : glyphs ≡ writtenAll used writes glyphs₀
 
-  module _ {memo glyphs : List ℕ} {s : ContextualState} {current : ℕ} {ends : Bool} {left : ℕ} (r : Running memo glyphs s current ends left) where
+  module _ {kept : ℕ → ℕ} {memo glyphs : List ℕ} {s : ContextualState} {current : ℕ} {ends : Bool} {left : ℕ} (r : Running kept memo glyphs s current ends left) where
     pub running-out : left ≤ 0 → Over Answer′.Done s glyphs
     unfolding ran
     running-out h =
@@ -107,8 +107,8 @@ module _ (classes : ℕ → ℕ) (bytes : List ℕ) (states : States) (index use
               left = made-after;
             }
 
-        pub running-goes : {memo′ : List ℕ} → not flag ≡ false → Remembers classes memo′ → length glyphs₁ ≡ length glyphs
-            → length glyphs₂ ≡ length glyphs₁ → Running memo′ glyphs₂ (a .state) (a .current) false (left - 1)
+        pub running-goes : {memo′ : List ℕ} → not flag ≡ false → Remembers kept memo′ → length glyphs₁ ≡ length glyphs
+            → length glyphs₂ ≡ length glyphs₁ → Running kept memo′ glyphs₂ (a .state) (a .current) false (left - 1)
         unfolding classHere
         running-goes n m l₁ l₂ =
             record {
@@ -122,8 +122,8 @@ module _ (classes : ℕ → ℕ) (bytes : List ℕ) (states : States) (index use
             }
 
 pub running-start : (classes : ℕ → ℕ) (bytes : List ℕ) (states : States) (index used : ℕ) (memo glyphs : List ℕ) (s : ContextualState) (current : ℕ) (ends : Bool) (left : ℕ)
-    → Remembers classes memo
-    → Running classes bytes states index used glyphs (ran classes bytes states index left s (classHere classes current ends) current []) memo glyphs s current ends left
+    {kept : ℕ → ℕ} → Remembers kept memo
+    → Running classes bytes states index used glyphs (ran classes bytes states index left s (classHere classes current ends) current []) kept memo glyphs s current ends left
 unfolding writtenAll
 running-start classes bytes states index used memo glyphs s current ends left m = record { done = []; same = refl; made = refl; long = refl; memory = m }
 

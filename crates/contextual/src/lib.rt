@@ -22,6 +22,7 @@ ghost use Rattle.machine.specs.Entry.{classHere};
 ghost use Rattle.machine.specs.Call.{stepTests};
 ghost use Rattle.machine.specs.Machine.{passed, subtableOf, passCall, callLeaves, stepCall, stepLeaves};
 ghost use Rattle.machine.specs.Work.{passedLeaves, workLeaves};
+ghost use Rattle.indexes.specs.Index.{classesBy, indexed};
 ghost use Rattle.line.specs.Line.{lineOf};
 ghost use Rattle.line.specs.Test.{lineTest};
 ghost use Rattle.contextual.specs.Substitutes.{substituteOf, glyphAfter, writesOf};
@@ -126,6 +127,28 @@ fn class_now(bytes: &[u8], table: Classes, memo: &mut [u32; 64], glyph: u16, end
         return opened::remembered(bytes, table, memo, glyph);
     };
     opened::class_in_words(bytes, base, first, count, glyph)
+}
+
+// The same by an index, where that reaches the glyph.
+fn class_by(
+    bytes: &[u8],
+    table: Classes,
+    memo: &mut [u32; 64],
+    glyph: u16,
+    ends: bool,
+    lent: &[u16],
+) -> u16
+    requires { ⌜ LiesIn (now bytes) table × Remembers (classBy (now bytes) table) (now memo) ⌝ }
+    ensures class { λ r. ⌜ r ≡ classHere (classesBy (now (lent .entry)) (classBy (now (bytes .entry)) table)) glyph ends ⌝ }
+    ensures memo { λ _. ⌜ Remembers (classBy (now (bytes .entry)) table) (now (memo .exit)) ⌝ }
+{
+    if ends {
+        return 0;
+    }
+    if (glyph as usize) < lent.len() {
+        return lent[glyph as usize];
+    }
+    class_now(bytes, table, memo, glyph, false)
 }
 
 impl ContextualState {
@@ -236,11 +259,12 @@ impl ContextualState {
         index: usize,
         glyph: u16,
         ends: bool,
+        lent: &[u16],
     ) -> ContextualStep
         requires { ⌜ (used ≤ length (now glyphs)) × LiesIn (now bytes) table × Remembers (classBy (now bytes) table) (now memo) ⌝ }
-        ensures step { λ r. ⌜ r ≡ stepOf (stepped (next (classBy (now (bytes .entry)) table) (now (bytes .entry)) states self index glyph ends)) ⌝ }
+        ensures step { λ r. ⌜ r ≡ stepOf (stepped (next (classesBy (now (lent .entry)) (classBy (now (bytes .entry)) table)) (now (bytes .entry)) states self index glyph ends)) ⌝ }
         ensures memo { λ _. ⌜ Remembers (classBy (now (bytes .entry)) table) (now (memo .exit)) ⌝ }
-        ensures glyphs { λ _. ⌜ now (glyphs .exit) ≡ writtenAll used (next (classBy (now (bytes .entry)) table) (now (bytes .entry)) states self index glyph ends .writes) (now (glyphs .entry)) ⌝ }
+        ensures glyphs { λ _. ⌜ now (glyphs .exit) ≡ writtenAll used (next (classesBy (now (lent .entry)) (classBy (now (bytes .entry)) table)) (now (bytes .entry)) states self index glyph ends .writes) (now (glyphs .entry)) ⌝ }
     {
         if self.idle(ends) {
             return ContextualStep {
@@ -254,7 +278,7 @@ impl ContextualState {
         let mut over = ends;
         let mut left = ContextualState::ENTRIES;
         while 0 < left {
-            let class = class_now(bytes, table, memo, current, over);
+            let class = class_by(bytes, table, memo, current, over, lent);
             let Entered::At(entry) = entries::entry_of(bytes, states, state.state, class, 4) else {
                 return ContextualStep {
                     answer: Answer::Ended,
@@ -298,10 +322,11 @@ impl ContextualState {
         first: u16,
         over: bool,
         steps: usize,
+        lent: &[u16],
     ) -> ContextualStep
         requires { ⌜ (used ≤ length (now glyphs)) × (index + steps ≤ used + 1) ⌝ }
-        ensures step { λ r. ⌜ r ≡ stepOf (stepped (ranAll (classOf (now (bytes .entry)) states) (now (bytes .entry)) states used steps self (now (glyphs .entry)) index first over)) ⌝ }
-        ensures glyphs { λ _. ⌜ now (glyphs .exit) ≡ writtenAll used (ranAll (classOf (now (bytes .entry)) states) (now (bytes .entry)) states used steps self (now (glyphs .entry)) index first over .writes) (now (glyphs .entry)) ⌝ }
+        ensures step { λ r. ⌜ r ≡ stepOf (stepped (ranAll (classesBy (now (lent .entry)) (classOf (now (bytes .entry)) states)) (now (bytes .entry)) states used steps self (now (glyphs .entry)) index first over)) ⌝ }
+        ensures glyphs { λ _. ⌜ now (glyphs .exit) ≡ writtenAll used (ranAll (classesBy (now (lent .entry)) (classOf (now (bytes .entry)) states)) (now (bytes .entry)) states used steps self (now (glyphs .entry)) index first over .writes) (now (glyphs .entry)) ⌝ }
     {
         let table = opened::open(bytes, states);
         let mut memo = opened::nothing_found();
@@ -321,6 +346,7 @@ impl ContextualState {
                 place,
                 glyph,
                 ends,
+                lent,
             );
             let answer = step.answer;
             let after = step.state;
@@ -421,6 +447,7 @@ impl ContextualState {
                 advance: 0,
             };
         };
+        let none = [0u16; 0];
         self.run(
             parse::from(bytes, 12),
             states,
@@ -430,6 +457,7 @@ impl ContextualState {
             glyph,
             ends,
             1,
+            &none,
         )
     }
 }
@@ -452,10 +480,11 @@ fn pass_line(
     tags: &[u16],
     homes: &[u16],
     used: usize,
+    index: &[u16],
 ) -> Answer
     requires { ⌜ used ≤ length (now glyphs) ⌝ }
-    ensures answer { λ r. ⌜ r ≡ passed contextual (now (bytes .entry)) states (lineOf (now (glyphs .entry)) (now (tags .entry)) (now (homes .entry)) used) .answer ⌝ }
-    ensures glyphs { λ _. ⌜ now (glyphs .exit) ≡ passedLeaves contextual (now (bytes .entry)) states (lineOf (now (glyphs .entry)) (now (tags .entry)) (now (homes .entry)) used) .glyphs ⌝ }
+    ensures answer { λ r. ⌜ r ≡ passed (indexed (now (index .entry)) contextual) (now (bytes .entry)) states (lineOf (now (glyphs .entry)) (now (tags .entry)) (now (homes .entry)) used) .answer ⌝ }
+    ensures glyphs { λ _. ⌜ now (glyphs .exit) ≡ passedLeaves (indexed (now (index .entry)) contextual) (now (bytes .entry)) states (lineOf (now (glyphs .entry)) (now (tags .entry)) (now (homes .entry)) used) .glyphs ⌝ }
 {
     let first = machine::glyph_at(glyphs, used, 0);
     let step = ContextualState::new().run(
@@ -467,20 +496,46 @@ fn pass_line(
         first,
         used == 0,
         used + 1,
+        index,
     );
     step.answer
 }
 
-// The pass over a line that LINE has taken, by the subtable that the bytes begin with; HEAD where it can't be opened.
+// The pass over a line that LINE has taken, by the subtable that the bytes begin with and the classes of an index; HEAD where it can't be opened.
+pub fn work_by(
+    bytes: &[u8],
+    glyphs: &mut [u16],
+    tags: &[u16],
+    homes: &[u16],
+    used: usize,
+    index: &[u16],
+) -> Answer
+    requires { ⌜ used ≤ length (now glyphs) ⌝ }
+    ensures answer { λ r. ⌜ r ≡ subtableOf (indexed (now (index .entry)) contextual) .worked (now (bytes .entry)) (lineOf (now (glyphs .entry)) (now (tags .entry)) (now (homes .entry)) used) .answer ⌝ }
+    ensures glyphs { λ _. ⌜ now (glyphs .exit) ≡ workLeaves (subtableOf (indexed (now (index .entry)) contextual)) (now (bytes .entry)) (lineOf (now (glyphs .entry)) (now (tags .entry)) (now (homes .entry)) used) .glyphs ⌝ }
+{
+    let Made::Ready(states) = open(bytes) else {
+        return Answer::Refused(Refusal::Head);
+    };
+    pass_line(
+        parse::from(bytes, 12),
+        states,
+        glyphs,
+        tags,
+        homes,
+        used,
+        index,
+    )
+}
+
+// The same by the subtable's own classes.
 pub fn work(bytes: &[u8], glyphs: &mut [u16], tags: &[u16], homes: &[u16], used: usize) -> Answer
     requires { ⌜ used ≤ length (now glyphs) ⌝ }
     ensures answer { λ r. ⌜ r ≡ subtableOf contextual .worked (now (bytes .entry)) (lineOf (now (glyphs .entry)) (now (tags .entry)) (now (homes .entry)) used) .answer ⌝ }
     ensures glyphs { λ _. ⌜ now (glyphs .exit) ≡ workLeaves (subtableOf contextual) (now (bytes .entry)) (lineOf (now (glyphs .entry)) (now (tags .entry)) (now (homes .entry)) used) .glyphs ⌝ }
 {
-    let Made::Ready(states) = open(bytes) else {
-        return Answer::Refused(Refusal::Head);
-    };
-    pass_line(parse::from(bytes, 12), states, glyphs, tags, homes, used)
+    let none = [0u16; 0];
+    work_by(bytes, glyphs, tags, homes, used, &none)
 }
 
 // The pass over a line, by the subtable at `start`.

@@ -6,3 +6,4 @@ mod KernLists
 mod KernPairs
 mod KernSteps
 mod Anchoring
+mod Indexing

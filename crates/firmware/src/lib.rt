@@ -25,6 +25,7 @@ mod anchored;
 mod choices;
 mod cursors;
 mod features;
+mod indexed;
 mod kern_cursors;
 mod kern_steps;
 mod kerns;

@@ -1,5 +1,6 @@
 -- What an entry that the pass has found does is the step; and one that is quiet leads to its state alone.
-use Prim.Native.Nat.{ℕ, _+_}
+use Prim.Native.Nat.{ℕ, _+_, _≤_}
+use lib.ListN.{length}
 use mathlib.Core.Path.{_≡_, sym, _∙_, ap}
 use mathlib.Core.Bool.{Bool, true, false, not}
 use mathlib.Core.List.{List}
@@ -17,9 +18,10 @@ use Rattle.state_tables.specs.declared.entries.Entry.{Entry}
 use Rattle.state_tables.specs.declared.entries.Entered.{Entered}
 use Rattle.state_tables.specs.declared.entries.Entered.the-variants as Entered′
 use Rattle.state_tables.specs.declared.opened.Classes.{Classes}
-use Rattle.state_tables.proofs.Openings.{classes-same}
 use Rattle.machine.specs.Entry.{classHere}
 use Rattle.machine.specs.Stall.{stalled}
+use Rattle.indexes.specs.Index.{classesBy}
+use Rattle.indexes.proofs.Laws.{opened-index, here-past}
 use Rattle.insertion.specs.Lists.{glyphList, enteredBy}
 use Rattle.insertion.specs.Insertion.{stopped, finished, afterMarked, acted, next}
 use Rattle.insertion.specs.Work.{isQuiet, ledBy}
@@ -42,20 +44,22 @@ module _ (bytes : List ℕ) (s : InsertionState) (entry : Entry) (place used roo
       let goes : isSet (entry .flags) 0x4000 ≡ false = not-true _ (both-left _ _ e) in
       rw (current, marked, goes)
 
+-- past the index a class is what it was, and the end of text is none
+pub still-past : (index : List ℕ) (classes : ℕ → ℕ) (glyph : ℕ) (ends : Bool) → ends ≡ false → length index ≤ glyph
+    → classHere classes glyph ends ≡ classHere (classesBy index classes) glyph ends
+still-past index classes glyph ends e h = ap (classHere classes glyph) e ∙ here-past index classes glyph ends e h
+
 -- what the code reads at a place: a class, then an entry
-module _ (bytes : List ℕ) (states : States) (s : InsertionState) (used room place glyph : ℕ) (ends : Bool) {opened : Classes} {class : ℕ}
-    {entered : Entered} (o : opened ≡ openedClasses bytes (states .edition)) (k : class ≡ classHere (classBy bytes opened) glyph ends)
+module _ (index bytes : List ℕ) (states : States) (s : InsertionState) (used room place glyph : ℕ) (ends : Bool) {opened : Classes} {class : ℕ}
+    {entered : Entered} (o : opened ≡ openedClasses bytes (states .edition)) (k : class ≡ classHere (classesBy index (classBy bytes opened)) glyph ends)
     (r : entered ≡ entryOf bytes states (s .state) class 4) where
   abbrev due : InsertionStep
-  due = next (classOf bytes states) bytes states s used room place glyph ends
+  due = next (classesBy index (classOf bytes states)) bytes states s used room place glyph ends
 
-  same-classes : classBy bytes opened ≡ classOf bytes states
-  same-classes = λ i g. (ap (λ (c : Classes). classBy bytes c g) o ∙ classes-same bytes states g) i
-
-  found : entered ≡ entryOf bytes states (s .state) (classHere (classOf bytes states) glyph ends) 4
+  found : entered ≡ entryOf bytes states (s .state) (classHere (classesBy index (classOf bytes states)) glyph ends) 4
   found =
       r
-      ∙ ap (λ (n : ℕ). entryOf bytes states (s .state) n 4) (k ∙ ap (λ (classes : ℕ → ℕ). classHere classes glyph ends) same-classes)
+      ∙ ap (λ (n : ℕ). entryOf bytes states (s .state) n 4) (k ∙ ap (λ (classes : ℕ → ℕ). classHere classes glyph ends) (opened-index index bytes states o))
 
   pub found-none : entered ≡ Entered′.Ended → stopped Answer′.Ended s Inserted′.None ≡ due
   unfolding next

@@ -28,6 +28,7 @@ use Rattle.machine.specs.Pass.{deleted, isDone}
 use Rattle.machine.specs.Machine.{passedBy, passed}
 use Rattle.machine.specs.Work.{passedLeaves}
 use Rattle.machine.proofs.Passing.{Passing, Over, passing-start, passing-step, passing-stop, passing-end}
+use Rattle.indexes.specs.Index.{classesBy, indexed}
 use Rattle.insertion.specs.Lists.{bothChanges}
 use Rattle.insertion.specs.Insertion.{fresh, acted, next}
 use Rattle.insertion.specs.Calls.{insertion}
@@ -42,15 +43,15 @@ use Rattle.insertion.proofs.Shapes.{Both, Advances, next-shape, next-fi
 abbrev pub LeftBy : List ℕ → Line → InsertionStep → (glyphs tags : List ℕ) → (used : ℕ) → Type 0
 LeftBy bytes l step = Left (bothChanges bytes (step .marked) (step .current)) l
 
-module _ (bytes : List ℕ) (states : States) (l₀ : Line) where
+module _ (index bytes : List ℕ) (states : States) (l₀ : Line) where
   abbrev classes : ℕ → ℕ
-  classes = classOf bytes states
+  classes = classesBy index (classOf bytes states)
 
   -- what the loop knows at place i
   pub record Going (opened : Classes) (memo glyphs tags homes : List ℕ) (used : ℕ) (s : InsertionState) (i : ℕ) : Type 0 where
     pub table : opened ≡ openedClasses bytes (states .edition)
     pub remembers : Remembers (classBy bytes opened) memo
-    pub passing : Passing (insertion .step classes bytes states) (insertion .rest) l₀ (passed insertion bytes states l₀) s (lineOf glyphs tags homes used) i
+    pub passing : Passing (insertion .step classes bytes states) (insertion .rest) l₀ (passed (indexed index insertion) bytes states l₀) s (lineOf glyphs tags homes used) i
     pub cycles : s .cycles ≤ 17
     pub within : i ≤ used
     pub fits : used ≤ length glyphs
@@ -61,10 +62,10 @@ module _ (bytes : List ℕ) (states : States) (l₀ : Line) where
 
   -- what a pass that ends here answers and leaves
   pub record Ends (answer : Answer) (glyphs tags : List ℕ) (used : ℕ) : Type 0 where
-    pub answers : answer ≡ passed insertion bytes states l₀ .answer
-    pub used-left : used ≡ passedLeaves insertion bytes states l₀ .used
-    pub glyphs-left : glyphs ≡ passedLeaves insertion bytes states l₀ .glyphs
-    pub tags-left : tags ≡ passedLeaves insertion bytes states l₀ .tags
+    pub answers : answer ≡ passed (indexed index insertion) bytes states l₀ .answer
+    pub used-left : used ≡ passedLeaves (indexed index insertion) bytes states l₀ .used
+    pub glyphs-left : glyphs ≡ passedLeaves (indexed index insertion) bytes states l₀ .glyphs
+    pub tags-left : tags ≡ passedLeaves (indexed index insertion) bytes states l₀ .tags
 
   module _ {opened : Classes} {memo glyphs tags homes : List ℕ} {used : ℕ} {s : InsertionState} {i : ℕ} (g : Going opened memo glyphs tags homes used s i) where
     abbrev here : Line
@@ -74,7 +75,7 @@ module _ (bytes : List ℕ) (states : States) (l₀ : Line) where
     some = omega (arith, g .cycles)
 
     ends : {answer : Answer} {glyphs′ tags′ : List ℕ} {used′ : ℕ} (step : InsertionStep)
-        → Over (insertion .step classes bytes states) (insertion .rest) l₀ (passed insertion bytes states l₀) answer (applyAll (bothChanges bytes (step .marked) (step .current)) here)
+        → Over (insertion .step classes bytes states) (insertion .rest) l₀ (passed (indexed index insertion) bytes states l₀) answer (applyAll (bothChanges bytes (step .marked) (step .current)) here)
         → LeftBy bytes here step glyphs′ tags′ used′ → Ends answer glyphs′ tags′ used′
     unfolding passedLeaves
     ends step o p =
@@ -106,8 +107,8 @@ module _ (bytes : List ℕ) (states : States) (l₀ : Line) where
           table = g .table;
           remembers = m;
           passing =
-              subst⁻¹ (λ (l : Line). Passing (insertion .step classes bytes states) (insertion .rest) l₀ (passed insertion bytes states l₀) (at .state) l (i + at .advance)) line
-              (passing-step (insertion .step classes bytes states) (insertion .rest) l₀ (passed insertion bytes states l₀) (g .passing) some h done
+              subst⁻¹ (λ (l : Line). Passing (insertion .step classes bytes states) (insertion .rest) l₀ (passed (indexed index insertion) bytes states l₀) (at .state) l (i + at .advance)) line
+              (passing-step (insertion .step classes bytes states) (insertion .rest) l₀ (passed (indexed index insertion) bytes states l₀) (g .passing) some h done
               (subst⁻¹ (λ (n : ℕ). (n - (i + at .advance)) * 18 + (18 - at .state .cycles) < insertion .rest s here i) room (a .less)));
           cycles = a .sound;
           within = omega (arith, a .within, grown);
@@ -162,12 +163,12 @@ module _ (bytes : List ℕ) (states : States) (l₀ : Line) where
 
         abbrev OverBy : InsertionStep → Type 0
         OverBy r =
-            Over (insertion .step classes bytes states) (insertion .rest) l₀ (passed insertion bytes states l₀) (r .answer) (applyAll (bothChanges bytes (r .marked) (r .current)) here)
+            Over (insertion .step classes bytes states) (insertion .rest) l₀ (passed (indexed index insertion) bytes states l₀) (r .answer) (applyAll (bothChanges bytes (r .marked) (r .current)) here)
 
         due-ends : used ≤ i → Ends (step .answer) glyphs′ tags′ used′
         due-ends h =
             ends step
-            (subst⁻¹ OverBy (e ∙ due-last h) (passing-end (insertion .step classes bytes states) (insertion .rest) l₀ (passed insertion bytes states l₀) (g .passing) some h))
+            (subst⁻¹ OverBy (e ∙ due-last h) (passing-end (insertion .step classes bytes states) (insertion .rest) l₀ (passed (indexed index insertion) bytes states l₀) (g .passing) some h))
             p
 
         due-stops : isDone (step .answer) ≡ false → Ends (step .answer) glyphs′ tags′ used′
@@ -177,7 +178,7 @@ module _ (bytes : List ℕ) (states : States) (l₀ : Line) where
             let is = e ∙ due-at h in
             ends step
             (subst⁻¹ OverBy is
-            (passing-stop (insertion .step classes bytes states) (insertion .rest) l₀ (passed insertion bytes states l₀) (g .passing) some h
+            (passing-stop (insertion .step classes bytes states) (insertion .rest) l₀ (passed (indexed index insertion) bytes states l₀) (g .passing) some h
             (subst (λ (r : InsertionStep). isDone (r .answer) ≡ false) is done)))
             p)
             due-ends
@@ -187,18 +188,18 @@ module _ (bytes : List ℕ) (states : States) (l₀ : Line) where
     going-lies = subst⁻¹ (LiesIn bytes) (g .table) (classes-lie bytes (states .edition))
 
     -- what is due, by what the code reads at place i
-    module _ {class : ℕ} {entered : Entered} (k : class ≡ classHere (classBy bytes opened) (getD glyphs i 0) (eqb i used))
+    module _ {class : ℕ} {entered : Entered} (k : class ≡ classHere (classesBy index (classBy bytes opened)) (getD glyphs i 0) (eqb i used))
         (r : entered ≡ entryOf bytes states (s .state) class 4) where
       -- no entry
       pub going-ended : entered ≡ Entered′.Ended → Ends Answer′.Ended glyphs tags used
       going-ended f =
-          due-stops (found-none bytes states s used (length glyphs) i (getD glyphs i 0) (eqb i used) (g .table) k r f) (put-none bytes here) refl
+          due-stops (found-none index bytes states s used (length glyphs) i (getD glyphs i 0) (eqb i used) (g .table) k r f) (put-none bytes here) refl
 
       module _ {entry : Entry} (f : entered ≡ Entered′.At entry) where
         -- one that inserts nothing and advances
         module _ {quiet : Bool} (q : quiet ≡ isQuiet bytes entry) (t : quiet ≡ true) where
           quiet-due : quietStep s entry i ≡ due
-          quiet-due = found-quiet bytes states s used (length glyphs) i (getD glyphs i 0) (eqb i used) (g .table) k r f q t
+          quiet-due = found-quiet index bytes states s used (length glyphs) i (getD glyphs i 0) (eqb i used) (g .table) k r f q t
 
           pub quiet-ends : i ≡ used → Ends Answer′.Done glyphs tags used
           quiet-ends e = due-ends quiet-due (put-none bytes here) (omega arith)
@@ -218,7 +219,7 @@ module _ (bytes : List ℕ) (states : States) (l₀ : Line) where
         -- any other
         module _ {step : InsertionStep} (a : step ≡ acted bytes s entry i used (length glyphs)) where
           act-due : step ≡ due
-          act-due = found-entry bytes states s used (length glyphs) i (getD glyphs i 0) (eqb i used) (g .table) k r f a
+          act-due = found-entry index bytes states s used (length glyphs) i (getD glyphs i 0) (eqb i used) (g .table) k r f a
 
           pub act-fits : Both bytes used (length glyphs) step
           act-fits = due-fits act-due
@@ -239,16 +240,16 @@ module _ (bytes : List ℕ) (states : States) (l₀ : Line) where
                   → (length glyphs′ - (i + step .advance)) * 18 + (18 - step .state .cycles) < (length glyphs - i) * 18 + (18 - s .cycles)
               act-less = due-less act-due p done ne
 
-pub going-start : (bytes : List ℕ) (states : States) (glyphs tags homes : List ℕ) (used : ℕ) {opened : Classes} {memo : List ℕ} {s : InsertionState}
+pub going-start : (index bytes : List ℕ) (states : States) (glyphs tags homes : List ℕ) (used : ℕ) {opened : Classes} {memo : List ℕ} {s : InsertionState}
     → used ≤ length glyphs → length tags ≡ length glyphs → length glyphs ≤ Limits.roomLimit → opened ≡ openedClasses bytes (states .edition) → memo ≡ nothingFound → s ≡ fresh
-    → Going bytes states (lineOf glyphs tags homes used) opened memo glyphs tags homes used s 0
+    → Going index bytes states (lineOf glyphs tags homes used) opened memo glyphs tags homes used s 0
 unfolding passed passedBy
-going-start bytes states glyphs tags homes used {opened} {memo} h p n o m e =
-    subst⁻¹ (λ (r : InsertionState). Going bytes states (lineOf glyphs tags homes used) opened memo glyphs tags homes used r 0) e
+going-start index bytes states glyphs tags homes used {opened} {memo} h p n o m e =
+    subst⁻¹ (λ (r : InsertionState). Going index bytes states (lineOf glyphs tags homes used) opened memo glyphs tags homes used r 0) e
     (record {
       table = o;
       remembers = subst⁻¹ (Remembers (classBy bytes opened)) m (nothing-remembered (deleted-class bytes opened));
-      passing = passing-start (insertion .step (classOf bytes states) bytes states) (insertion .rest) _ fresh (lineOf glyphs tags homes used) (omega arith);
+      passing = passing-start (insertion .step (classesBy index (classOf bytes states)) bytes states) (insertion .rest) _ fresh (lineOf glyphs tags homes used) (omega arith);
       cycles = omega arith;
       within = omega arith;
       fits = h;

@@ -21,6 +21,7 @@ ghost use Rattle.machine.specs.Entry.{classHere};
 ghost use Rattle.machine.specs.Call.{stepTests};
 ghost use Rattle.machine.specs.Machine.{passed, subtableOf, passCall, callLeaves};
 ghost use Rattle.machine.specs.Work.{passedLeaves, workLeaves};
+ghost use Rattle.indexes.specs.Index.{classesBy, indexed};
 ghost use Rattle.line.specs.Line.{lineOf};
 ghost use Rattle.line.specs.Changes.{applyAll};
 ghost use Rattle.insertion.specs.Lists.{listFrom, glyphList, enteredBy, insertionOf, countOf, changesOf, bothChanges, movedBy};
@@ -570,6 +571,30 @@ fn class_now(
     opened::class_in_words(bytes, base, first, count, glyph)
 }
 
+// The same by an index, where that reaches the glyph.
+fn class_by(
+    bytes: &[u8],
+    opened: Classes,
+    memo: &mut [u32; 64],
+    glyphs: &[u16],
+    used: usize,
+    place: usize,
+    index: &[u16],
+) -> u16
+    requires { ⌜ LiesIn (now bytes) opened × Remembers (classBy (now bytes) opened) (now memo) × (place ≤ used) × (used ≤ length (now glyphs)) ⌝ }
+    ensures class { λ r. ⌜ r ≡ classHere (classesBy (now (index .entry)) (classBy (now (bytes .entry)) opened)) (getD (now (glyphs .entry)) place 0) (eqb place used) ⌝ }
+    ensures memo { λ _. ⌜ Remembers (classBy (now (bytes .entry)) opened) (now (memo .exit)) ⌝ }
+{
+    if place == used {
+        return 0;
+    }
+    let glyph = glyphs[place] as usize;
+    if glyph < index.len() {
+        return index[glyph];
+    }
+    class_now(bytes, opened, memo, glyphs, used, place)
+}
+
 // Whether an entry inserts nothing and advances.
 fn is_quiet(bytes: &[u8], entry: Entry) -> bool
     requires { ⌜ entry .payload + 4 ≤ length (now bytes) ⌝ }
@@ -593,12 +618,13 @@ fn pass_line(
     tags: &mut [u16],
     homes: &[u16],
     used: usize,
+    index: &[u16],
 ) -> InsertionPass
     requires { ⌜ (used ≤ length (now glyphs)) × (length (now tags) ≡ length (now glyphs)) × (length (now glyphs) ≤ Limits.roomLimit) ⌝ }
-    ensures answer { λ r. ⌜ r .answer ≡ passed insertion (now (bytes .entry)) states (lineOf (now (glyphs .entry)) (now (tags .entry)) (now (homes .entry)) used) .answer ⌝ }
-    ensures used { λ r. ⌜ r .used ≡ passedLeaves insertion (now (bytes .entry)) states (lineOf (now (glyphs .entry)) (now (tags .entry)) (now (homes .entry)) used) .used ⌝ }
-    ensures glyphs { λ _. ⌜ now (glyphs .exit) ≡ passedLeaves insertion (now (bytes .entry)) states (lineOf (now (glyphs .entry)) (now (tags .entry)) (now (homes .entry)) used) .glyphs ⌝ }
-    ensures tags { λ _. ⌜ now (tags .exit) ≡ passedLeaves insertion (now (bytes .entry)) states (lineOf (now (glyphs .entry)) (now (tags .entry)) (now (homes .entry)) used) .tags ⌝ }
+    ensures answer { λ r. ⌜ r .answer ≡ passed (indexed (now (index .entry)) insertion) (now (bytes .entry)) states (lineOf (now (glyphs .entry)) (now (tags .entry)) (now (homes .entry)) used) .answer ⌝ }
+    ensures used { λ r. ⌜ r .used ≡ passedLeaves (indexed (now (index .entry)) insertion) (now (bytes .entry)) states (lineOf (now (glyphs .entry)) (now (tags .entry)) (now (homes .entry)) used) .used ⌝ }
+    ensures glyphs { λ _. ⌜ now (glyphs .exit) ≡ passedLeaves (indexed (now (index .entry)) insertion) (now (bytes .entry)) states (lineOf (now (glyphs .entry)) (now (tags .entry)) (now (homes .entry)) used) .glyphs ⌝ }
+    ensures tags { λ _. ⌜ now (tags .exit) ≡ passedLeaves (indexed (now (index .entry)) insertion) (now (bytes .entry)) states (lineOf (now (glyphs .entry)) (now (tags .entry)) (now (homes .entry)) used) .tags ⌝ }
 {
     let opened = opened::open(bytes, states);
     let mut memo = opened::nothing_found();
@@ -606,7 +632,7 @@ fn pass_line(
     let mut place = 0;
     let mut end = used;
     loop {
-        let class = class_now(bytes, opened, &mut memo, glyphs, end, place);
+        let class = class_by(bytes, opened, &mut memo, glyphs, end, place, index);
         let Entered::At(entry) = entries::entry_of(bytes, states, state.state, class, 4) else {
             return InsertionPass {
                 answer: Answer::Ended,
@@ -653,7 +679,39 @@ fn pass_line(
     }
 }
 
-// The pass over a line that LINE has taken, by the subtable that the bytes begin with.
+// The pass over a line that LINE has taken, by the subtable that the bytes begin with and the classes of an index.
+pub fn work_by(
+    bytes: &[u8],
+    glyphs: &mut [u16],
+    tags: &mut [u16],
+    homes: &[u16],
+    used: usize,
+    index: &[u16],
+) -> InsertionPass
+    requires { ⌜ (used ≤ length (now glyphs)) × (length (now tags) ≡ length (now glyphs)) × (length (now glyphs) ≤ Limits.roomLimit) ⌝ }
+    ensures answer { λ r. ⌜ r .answer ≡ subtableOf (indexed (now (index .entry)) insertion) .worked (now (bytes .entry)) (lineOf (now (glyphs .entry)) (now (tags .entry)) (now (homes .entry)) used) .answer ⌝ }
+    ensures used { λ r. ⌜ r .used ≡ workLeaves (subtableOf (indexed (now (index .entry)) insertion)) (now (bytes .entry)) (lineOf (now (glyphs .entry)) (now (tags .entry)) (now (homes .entry)) used) .used ⌝ }
+    ensures glyphs { λ _. ⌜ now (glyphs .exit) ≡ workLeaves (subtableOf (indexed (now (index .entry)) insertion)) (now (bytes .entry)) (lineOf (now (glyphs .entry)) (now (tags .entry)) (now (homes .entry)) used) .glyphs ⌝ }
+    ensures tags { λ _. ⌜ now (tags .exit) ≡ workLeaves (subtableOf (indexed (now (index .entry)) insertion)) (now (bytes .entry)) (lineOf (now (glyphs .entry)) (now (tags .entry)) (now (homes .entry)) used) .tags ⌝ }
+{
+    let Made::Ready(states) = open(bytes) else {
+        return InsertionPass {
+            answer: Answer::Refused(Refusal::Head),
+            used,
+        };
+    };
+    pass_line(
+        parse::from(bytes, 12),
+        states,
+        glyphs,
+        tags,
+        homes,
+        used,
+        index,
+    )
+}
+
+// The same by the subtable's own classes.
 pub fn work(
     bytes: &[u8],
     glyphs: &mut [u16],
@@ -667,13 +725,8 @@ pub fn work(
     ensures glyphs { λ _. ⌜ now (glyphs .exit) ≡ workLeaves (subtableOf insertion) (now (bytes .entry)) (lineOf (now (glyphs .entry)) (now (tags .entry)) (now (homes .entry)) used) .glyphs ⌝ }
     ensures tags { λ _. ⌜ now (tags .exit) ≡ workLeaves (subtableOf insertion) (now (bytes .entry)) (lineOf (now (glyphs .entry)) (now (tags .entry)) (now (homes .entry)) used) .tags ⌝ }
 {
-    let Made::Ready(states) = open(bytes) else {
-        return InsertionPass {
-            answer: Answer::Refused(Refusal::Head),
-            used,
-        };
-    };
-    pass_line(parse::from(bytes, 12), states, glyphs, tags, homes, used)
+    let none = [0u16; 0];
+    work_by(bytes, glyphs, tags, homes, used, &none)
 }
 
 // The pass over a line, by the subtable at `start`.

@@ -17,6 +17,7 @@ use Rattle.answers.specs.declared.Check.{Check}
 use Rattle.answers.specs.declared.Check.the-variants as Check′
 use Rattle.state_tables.specs.declared.entries.Entry.{Entry}
 use Rattle.state_tables.specs.Classes.{classOf}
+use Rattle.indexes.specs.Index.{classesBy}
 use Rattle.state_tables.specs.Entries.{entryOf, onEntry}
 use Rattle.line.specs.Line.{Line}
 use Rattle.laws.specs.Bits.{isSet}
@@ -198,6 +199,10 @@ passedBy classes bytes kerning glyphs used = passFrom classes bytes kerning glyp
 abbrev pub ownClasses : List ℕ → Kerning → ℕ → ℕ
 ownClasses bytes kerning = classOf bytes (kerning .states)
 
+-- the pass over a line, by the classes of an index
+unfoldable pub passedIndexed : (index : List ℕ) → List ℕ → Kerning → (glyphs : List ℕ) → (used : ℕ) → Kerned
+passedIndexed index bytes kerning glyphs used = passedBy (classesBy index (ownClasses bytes kerning)) bytes kerning glyphs used
+
 -- the pass over a line
 unfoldable pub passed : List ℕ → Kerning → (glyphs : List ℕ) → (used : ℕ) → Kerned
 passed bytes kerning glyphs used = passedBy (ownClasses bytes kerning) bytes kerning glyphs used
@@ -224,6 +229,12 @@ unfoldable pub workedBy : List ℕ → Opened → (glyphs : List ℕ) → (used 
 workedBy bytes (Opened′.Ready kerning) glyphs used = passed bytes kerning glyphs used
 workedBy bytes Opened′.Short glyphs used = nothingAdded (Answer′.Refused Refusal′.Head)
 workedBy bytes Opened′.Tupled glyphs used = nothingAdded (Answer′.Refused Refusal′.Tuples)
+
+-- the same by the classes of an index
+unfoldable pub workedIndexed : (index : List ℕ) → List ℕ → Opened → (glyphs : List ℕ) → (used : ℕ) → Kerned
+workedIndexed index bytes (Opened′.Ready kerning) glyphs used = passedIndexed index bytes kerning glyphs used
+workedIndexed index bytes Opened′.Short glyphs used = nothingAdded (Answer′.Refused Refusal′.Head)
+workedIndexed index bytes Opened′.Tupled glyphs used = nothingAdded (Answer′.Refused Refusal′.Tuples)
 
 -- every used slot's place is within the line or just behind it
 unfoldable pub areWithin : (stack : List ℕ) → (depth used : ℕ) → Bool

@@ -22,10 +22,12 @@ ghost use Rattle.answers.specs.Limits.{roomLimit};
 ghost use Rattle.answers.specs.Refuse.{refuse};
 ghost use Rattle.answers.specs.declared.Answer.the-variants.{Ended};
 ghost use Rattle.state_tables.specs.Opened.{byteClassIn, classBy, LiesIn, Remembers};
+ghost use Rattle.state_tables.specs.Classes.{classOf};
+ghost use Rattle.indexes.specs.Index.{classesBy};
 ghost use Rattle.state_tables.specs.Rows.{isClassic};
 ghost use Rattle.kerning.specs.Additions.{addAll};
 ghost use Rattle.kerning.specs.Bounds.{Within};
-ghost use Rattle.kerning_machine.specs.Machine.{fresh, payloadOf, ruleOf, tupleSize, strideOf, kernStart, kerxStart, manualStart, kernOrders, indexedOrders, kerxOrders, ordersOf, isFull, stacked, stopped, settled, walkedFrom, behind, acted, next, passedBy, passed, ownClasses, isRoomy, isShort, areWithin, stepTests, stepCall, isTupled, barred, workedBy};
+ghost use Rattle.kerning_machine.specs.Machine.{fresh, payloadOf, ruleOf, tupleSize, strideOf, kernStart, kerxStart, manualStart, kernOrders, indexedOrders, kerxOrders, ordersOf, isFull, stacked, stopped, settled, walkedFrom, behind, acted, next, passedBy, passedIndexed, ownClasses, isRoomy, isShort, areWithin, stepTests, stepCall, isTupled, barred, workedBy, workedIndexed};
 ghost use Rattle.kerning_machine.specs.Work.{standing, stepOf, kernOf, kerxOf};
 
 // How a machine reads its entries: kern's flags hold where the list begins, and its subtable may go across the stream; kerx's entries hold
@@ -450,6 +452,16 @@ fn act_kerx(
     follow_kerx(bytes, tuples, start, stack, depth, used, along)
 }
 
+// The class of a glyph, as a lone step finds it: by an index, where that reaches it.
+fn class_lone(bytes: &[u8], states: States, glyph: u16, lent: &[u16]) -> u16
+    ensures { λ r. ⌜ r ≡ classesBy (now (lent .entry)) (classOf (now (bytes .entry)) states) glyph ⌝ }
+{
+    if (glyph as usize) < lent.len() {
+        return lent[glyph as usize];
+    }
+    classes::class_of(bytes, states, glyph)
+}
+
 // The crate's `next`, over the bytes from the state table on, with the stack in a lent array.
 fn next(
     bytes: &[u8],
@@ -462,14 +474,15 @@ fn next(
     index: usize,
     glyph: u16,
     along: &mut [i64],
+    lent: &[u16],
 ) -> Moved
     requires { ⌜ (depth ≤ 8) × (used ≤ length (now along)) × Within (2 ^ 61) (now along) ⌝ }
-    ensures step { λ r. ⌜ stepOf r (now (stack .exit)) ≡ next (ownClasses (now (bytes .entry)) kerning) (now (bytes .entry)) kerning (standing state (now (stack .entry)) depth cycles) used index glyph .step ⌝ }
-    ensures along { λ _. ⌜ now (along .exit) ≡ addAll (next (ownClasses (now (bytes .entry)) kerning) (now (bytes .entry)) kerning (standing state (now (stack .entry)) depth cycles) used index glyph .additions) (now (along .entry)) ⌝ }
+    ensures step { λ r. ⌜ stepOf r (now (stack .exit)) ≡ next (classesBy (now (lent .entry)) (ownClasses (now (bytes .entry)) kerning)) (now (bytes .entry)) kerning (standing state (now (stack .entry)) depth cycles) used index glyph .step ⌝ }
+    ensures along { λ _. ⌜ now (along .exit) ≡ addAll (next (classesBy (now (lent .entry)) (ownClasses (now (bytes .entry)) kerning)) (now (bytes .entry)) kerning (standing state (now (stack .entry)) depth cycles) used index glyph .additions) (now (along .entry)) ⌝ }
 {
     let states = kerning.states;
     let reading = kerning.reading;
-    let class = classes::class_of(bytes, states, glyph);
+    let class = class_lone(bytes, states, glyph, lent);
     let Entered::At(entry) = entries::entry_of(bytes, states, state, class, payload_of(reading))
     else {
         return ended(state, depth, cycles);
@@ -648,6 +661,7 @@ impl KerningState {
         ensures step { λ r. ⌜ r ≡ next (ownClasses (now (bytes .entry)) kerning) (now (bytes .entry)) kerning self used index glyph .step ⌝ }
         ensures along { λ _. ⌜ now (along .exit) ≡ addAll (next (ownClasses (now (bytes .entry)) kerning) (now (bytes .entry)) kerning self used index glyph .additions) (now (along .entry)) ⌝ }
     {
+        let none = [0u16; 0];
         let mut stack = self.stack;
         let moved = next(
             bytes,
@@ -660,6 +674,7 @@ impl KerningState {
             index,
             glyph,
             along,
+            &none,
         );
         let answer = moved.answer;
         KerningStep {
@@ -726,6 +741,18 @@ fn class_now(bytes: &[u8], table: Classes, memo: &mut [u32; 64], glyph: u16) -> 
     opened::class_in_words(bytes, base, first, count, glyph)
 }
 
+// The same by an index, where that reaches the glyph.
+fn class_by(bytes: &[u8], table: Classes, memo: &mut [u32; 64], glyph: u16, index: &[u16]) -> u16
+    requires { ⌜ LiesIn (now bytes) table × Remembers (classBy (now bytes) table) (now memo) ⌝ }
+    ensures class { λ r. ⌜ r ≡ classesBy (now (index .entry)) (classBy (now (bytes .entry)) table) glyph ⌝ }
+    ensures memo { λ _. ⌜ Remembers (classBy (now (bytes .entry)) table) (now (memo .exit)) ⌝ }
+{
+    if (glyph as usize) < index.len() {
+        return index[glyph as usize];
+    }
+    class_now(bytes, table, memo, glyph)
+}
+
 // The pass of kern's machine, over a classic table. The steps at a place are a loop of their own, so that the next place's glyph is
 // read before it is known that the place is left; a state is kept by its row. What `next` does is written out, and inlined.
 fn pass_kern(
@@ -790,10 +817,11 @@ fn pass_kerx(
     glyphs: &[u16],
     used: usize,
     along: &mut [i64],
+    lent: &[u16],
 ) -> Answer
     requires { ⌜ LiesIn (now bytes) table × (used ≤ length (now glyphs)) × (used ≤ length (now along)) × (used ≤ roomLimit) × Within (2 ^ 60) (now along) ⌝ }
-    ensures answer { λ r. ⌜ r ≡ passedBy (classBy (now (bytes .entry)) table) (now (bytes .entry)) (kerxOf states values tuples) (now (glyphs .entry)) used .answer ⌝ }
-    ensures along { λ _. ⌜ now (along .exit) ≡ addAll (passedBy (classBy (now (bytes .entry)) table) (now (bytes .entry)) (kerxOf states values tuples) (now (glyphs .entry)) used .additions) (now (along .entry)) ⌝ }
+    ensures answer { λ r. ⌜ r ≡ passedBy (classesBy (now (lent .entry)) (classBy (now (bytes .entry)) table)) (now (bytes .entry)) (kerxOf states values tuples) (now (glyphs .entry)) used .answer ⌝ }
+    ensures along { λ _. ⌜ now (along .exit) ≡ addAll (passedBy (classesBy (now (lent .entry)) (classBy (now (bytes .entry)) table)) (now (bytes .entry)) (kerxOf states values tuples) (now (glyphs .entry)) used .additions) (now (along .entry)) ⌝ }
 {
     let mut memo = opened::nothing_found();
     let mut stack = [0; KerningState::DEPTH];
@@ -802,7 +830,7 @@ fn pass_kerx(
     let mut cycles = 0;
     let mut place = 0;
     while place < used {
-        let class = class_now(bytes, table, &mut memo, glyphs[place]);
+        let class = class_by(bytes, table, &mut memo, glyphs[place], lent);
         let mut stays = true;
         while stays {
             let Entered::At(entry) = entries::entry_of(bytes, states, state, class, 2) else {
@@ -832,10 +860,11 @@ fn pass_plain(
     glyphs: &[u16],
     used: usize,
     along: &mut [i64],
+    index: &[u16],
 ) -> Answer
     requires { ⌜ (used ≤ length (now glyphs)) × (used ≤ length (now along)) × (used ≤ roomLimit) × Within (2 ^ 60) (now along) ⌝ }
-    ensures answer { λ r. ⌜ r ≡ passed (now (bytes .entry)) kerning (now (glyphs .entry)) used .answer ⌝ }
-    ensures along { λ _. ⌜ now (along .exit) ≡ addAll (passed (now (bytes .entry)) kerning (now (glyphs .entry)) used .additions) (now (along .entry)) ⌝ }
+    ensures answer { λ r. ⌜ r ≡ passedIndexed (now (index .entry)) (now (bytes .entry)) kerning (now (glyphs .entry)) used .answer ⌝ }
+    ensures along { λ _. ⌜ now (along .exit) ≡ addAll (passedIndexed (now (index .entry)) (now (bytes .entry)) kerning (now (glyphs .entry)) used .additions) (now (along .entry)) ⌝ }
 {
     let fresh = KerningState::new();
     let mut stack = fresh.stack;
@@ -855,6 +884,7 @@ fn pass_plain(
             place,
             glyphs[place],
             along,
+            index,
         );
         let answer = moved.answer;
         if !machine::is_done(answer) {
@@ -875,10 +905,11 @@ fn pass_line(
     glyphs: &[u16],
     used: usize,
     along: &mut [i64],
+    index: &[u16],
 ) -> Answer
     requires { ⌜ (used ≤ length (now glyphs)) × (used ≤ length (now along)) × (used ≤ roomLimit) × Within (2 ^ 60) (now along) ⌝ }
-    ensures answer { λ r. ⌜ r ≡ passed (now (bytes .entry)) kerning (now (glyphs .entry)) used .answer ⌝ }
-    ensures along { λ _. ⌜ now (along .exit) ≡ addAll (passed (now (bytes .entry)) kerning (now (glyphs .entry)) used .additions) (now (along .entry)) ⌝ }
+    ensures answer { λ r. ⌜ r ≡ passedIndexed (now (index .entry)) (now (bytes .entry)) kerning (now (glyphs .entry)) used .answer ⌝ }
+    ensures along { λ _. ⌜ now (along .exit) ≡ addAll (passedIndexed (now (index .entry)) (now (bytes .entry)) kerning (now (glyphs .entry)) used .additions) (now (along .entry)) ⌝ }
 {
     let states = kerning.states;
     let reading = kerning.reading;
@@ -886,10 +917,13 @@ fn pass_line(
     match reading {
         Reading::Kern { crossed } => {
             let Classes::Bytes { base, first, count } = opened else {
-                return pass_plain(bytes, kerning, glyphs, used, along);
+                return pass_plain(bytes, kerning, glyphs, used, along, index);
             };
+            if 0 < index.len() {
+                return pass_plain(bytes, kerning, glyphs, used, along, index);
+            }
             if !entries::is_classic(states) {
-                return pass_plain(bytes, kerning, glyphs, used, along);
+                return pass_plain(bytes, kerning, glyphs, used, along, index);
             }
             return pass_kern(
                 bytes,
@@ -904,23 +938,40 @@ fn pass_line(
             );
         }
         Reading::Kerx { values, tuples } => {
-            return pass_kerx(bytes, states, values, tuples, opened, glyphs, used, along);
+            return pass_kerx(
+                bytes,
+                states,
+                values,
+                tuples,
+                opened,
+                glyphs,
+                used,
+                along,
+                index,
+            );
         }
         Reading::Manual { .. } => {
-            return pass_plain(bytes, kerning, glyphs, used, along);
+            return pass_plain(bytes, kerning, glyphs, used, along, index);
         }
     }
 }
 
-// The pass by what a head gives; HEAD where it gives none, TUPLES where these are refused.
-pub fn work(bytes: &[u8], opened: Opened, glyphs: &[u16], used: usize, along: &mut [i64]) -> Answer
+// The pass by what a head gives and the classes of an index; HEAD where it gives none, TUPLES where these are refused.
+pub fn work_by(
+    bytes: &[u8],
+    opened: Opened,
+    glyphs: &[u16],
+    used: usize,
+    along: &mut [i64],
+    index: &[u16],
+) -> Answer
     requires { ⌜ (used ≤ length (now glyphs)) × (used ≤ length (now along)) × (used ≤ roomLimit) × Within (2 ^ 60) (now along) ⌝ }
-    ensures answer { λ r. ⌜ r ≡ workedBy (now (bytes .entry)) opened (now (glyphs .entry)) used .answer ⌝ }
-    ensures along { λ _. ⌜ now (along .exit) ≡ addAll (workedBy (now (bytes .entry)) opened (now (glyphs .entry)) used .additions) (now (along .entry)) ⌝ }
+    ensures answer { λ r. ⌜ r ≡ workedIndexed (now (index .entry)) (now (bytes .entry)) opened (now (glyphs .entry)) used .answer ⌝ }
+    ensures along { λ _. ⌜ now (along .exit) ≡ addAll (workedIndexed (now (index .entry)) (now (bytes .entry)) opened (now (glyphs .entry)) used .additions) (now (along .entry)) ⌝ }
 {
     match opened {
         Opened::Ready(kerning) => {
-            return pass_line(bytes, kerning, glyphs, used, along);
+            return pass_line(bytes, kerning, glyphs, used, along, index);
         }
         Opened::Short => {
             return Answer::Refused(Refusal::Head);
@@ -929,4 +980,14 @@ pub fn work(bytes: &[u8], opened: Opened, glyphs: &[u16], used: usize, along: &m
             return Answer::Refused(Refusal::Tuples);
         }
     }
+}
+
+// The same by the machine's own classes.
+pub fn work(bytes: &[u8], opened: Opened, glyphs: &[u16], used: usize, along: &mut [i64]) -> Answer
+    requires { ⌜ (used ≤ length (now glyphs)) × (used ≤ length (now along)) × (used ≤ roomLimit) × Within (2 ^ 60) (now along) ⌝ }
+    ensures answer { λ r. ⌜ r ≡ workedBy (now (bytes .entry)) opened (now (glyphs .entry)) used .answer ⌝ }
+    ensures along { λ _. ⌜ now (along .exit) ≡ addAll (workedBy (now (bytes .entry)) opened (now (glyphs .entry)) used .additions) (now (along .entry)) ⌝ }
+{
+    let none = [0u16; 0];
+    work_by(bytes, opened, glyphs, used, along, &none)
 }

@@ -8,6 +8,8 @@ mod Written
 mod Anchoring
 mod Marking
 mod Called
+mod Indexing
+pub mod SameIndex
 pub mod Plain
 pub mod ManualMarks
 pub mod Marked

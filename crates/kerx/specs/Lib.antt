@@ -2,6 +2,8 @@
 pub mod Heads
 pub mod Kerx
 pub mod Anchored
+pub mod Indexed
+pub mod RightIndex
 pub mod Lent
 pub mod Range
 pub mod Manual

@@ -35,6 +35,7 @@ ghost use Rattle.kerning_lists.specs.Run.{zeros, turnedBack, contribution, cont
 ghost use Rattle.anchor_machine.specs.Writes.{writeX, writeY, writeBack};
 ghost use Rattle.kerx.specs.Anchored as Anchored;
 ghost use Rattle.kerx.specs.Anchored.{anchorsOf, workedWith, passedWith, machineOf, turnedMarks, marks, marking, runMarks, nones, takesPass, takesRun};
+ghost use Rattle.kerx.specs.Indexed.{refusePairs, refuseUnindexed, kerningTests, anchoringTests, kerningIndexed, anchoringIndexed, workedIndexed, passedIndexed, indexedCall};
 ghost use Rattle.kerx.specs.Lent.{Lent, visitedBy, listMarks};
 ghost use Rattle.kerx.specs.Heads.{shouldReverse, subtableOf, headIn, listOf};
 ghost use Rattle.kerx.specs.Kerx.{worked, pairBy, kerx};
@@ -891,6 +892,271 @@ pub fn pass_anchored(
         y,
         back,
         choices,
+    )
+}
+
+// What refuses a pass by pairs before INDEX: HEAD, TUPLES; then INDEX, since pairs have no classes of a state table.
+fn refuse_pairs(opened: pairs::Opened) -> Refusal
+    ensures { λ r. ⌜ r ≡ refusePairs opened ⌝ }
+{
+    match opened {
+        pairs::Opened::Ready(_) => Refusal::Index,
+        pairs::Opened::Short => Refusal::Head,
+        pairs::Opened::Tupled => Refusal::Tuples,
+    }
+}
+
+// Why a format without a machine refuses an index: HEAD, TUPLES, INDEX.
+fn refuse_unindexed(bytes: &[u8], version: u16, format: u32, reading: Reading) -> Refusal
+    ensures { λ r. ⌜ r ≡ refuseUnindexed (now (bytes .entry)) version format reading ⌝ }
+{
+    let tupled = kerx_machine::is_tupled(bytes, version, reading);
+    if format == 0 {
+        return refuse_pairs(pairs::barred(tupled, pairs::ordered_kerx(bytes)));
+    }
+    if format == 2 {
+        return refuse_pairs(pairs::barred(tupled, pairs::classes_kerx(bytes, reading)));
+    }
+    Refusal::Head
+}
+
+// What refuses an index for the machine of format 1: HEAD, TUPLES, INDEX.
+fn refuse_kerning(machine: kerning_machine::Opened, entries: usize, another: bool) -> Check
+    ensures { λ r. ⌜ r ≡ refuse (kerningTests machine entries another) ⌝ }
+{
+    match machine {
+        kerning_machine::Opened::Ready(_) => {
+            if indexes::is_refused(entries, another) {
+                return Check::Refused(Refusal::Index);
+            }
+            return Check::Passed;
+        }
+        kerning_machine::Opened::Short => {
+            return Check::Refused(Refusal::Head);
+        }
+        kerning_machine::Opened::Tupled => {
+            return Check::Refused(Refusal::Tuples);
+        }
+    }
+}
+
+// What refuses an index for the machine of format 4: HEAD, TUPLES, INDEX.
+fn refuse_anchoring(machine: Opened, entries: usize, another: bool) -> Check
+    ensures { λ r. ⌜ r ≡ refuse (anchoringTests machine entries another) ⌝ }
+{
+    match machine {
+        Opened::Ready(_) => {
+            if indexes::is_refused(entries, another) {
+                return Check::Refused(Refusal::Index);
+            }
+            return Check::Passed;
+        }
+        Opened::Short => {
+            return Check::Refused(Refusal::Head);
+        }
+        Opened::Tupled => {
+            return Check::Refused(Refusal::Tuples);
+        }
+    }
+}
+
+// The pass of format 1 by an index.
+fn work_kerning(
+    bytes: &[u8],
+    start: usize,
+    version: u16,
+    glyphs: &[u16],
+    used: usize,
+    along: &mut [i64],
+    reading: Reading,
+    index: &[u16],
+    class_start: usize,
+) -> Answer
+    requires { ⌜ (used ≤ length (now glyphs)) × (used ≤ length (now along)) × (used ≤ roomLimit) × Within (2 ^ 60) (now along) ⌝ }
+    ensures answer { λ r. ⌜ r ≡ kerningIndexed (now (bytes .entry)) start version (now (glyphs .entry)) used reading (now (index .entry)) «class_start» .answer ⌝ }
+    ensures along { λ _. ⌜ now (along .exit) ≡ addAll (kerningIndexed (now (bytes .entry)) start version (now (glyphs .entry)) used reading (now (index .entry)) «class_start» .additions) (now (along .entry)) ⌝ }
+{
+    let machine = kerx_machine::open(bytes, version, reading);
+    let body = parse::from(bytes, kerx_machine::BODY);
+    let another = indexes::is_another(true, body, start, class_start);
+    if let Check::Refused(why) = refuse_kerning(machine, index.len(), another) {
+        return Answer::Refused(why);
+    }
+    kerx_machine::work_by(bytes, version, glyphs, used, along, reading, index)
+}
+
+// The pass of format 4 by an index.
+fn work_anchoring(
+    ankr: &[u8],
+    bytes: &[u8],
+    start: usize,
+    version: u16,
+    glyphs: &[u16],
+    used: usize,
+    x: &mut [i32],
+    y: &mut [i32],
+    back: &mut [u16],
+    reading: Reading,
+    index: &[u16],
+    class_start: usize,
+) -> Answer
+    requires { ⌜ (used ≤ length (now glyphs)) × (used ≤ length (now x)) × (used ≤ length (now y)) × (used ≤ length (now back)) × (used ≤ roomLimit) ⌝ }
+    ensures answer { λ r. ⌜ r ≡ anchoringIndexed (now (ankr .entry)) (now (bytes .entry)) start version (now (glyphs .entry)) used reading (now (index .entry)) «class_start» .answer ⌝ }
+    ensures x { λ _. ⌜ now (x .exit) ≡ writeX (anchoringIndexed (now (ankr .entry)) (now (bytes .entry)) start version (now (glyphs .entry)) used reading (now (index .entry)) «class_start» .writes) (now (x .entry)) ⌝ }
+    ensures y { λ _. ⌜ now (y .exit) ≡ writeY (anchoringIndexed (now (ankr .entry)) (now (bytes .entry)) start version (now (glyphs .entry)) used reading (now (index .entry)) «class_start» .writes) (now (y .entry)) ⌝ }
+    ensures back { λ _. ⌜ now (back .exit) ≡ writeBack (anchoringIndexed (now (ankr .entry)) (now (bytes .entry)) start version (now (glyphs .entry)) used reading (now (index .entry)) «class_start» .writes) (now (back .entry)) ⌝ }
+{
+    let machine = anchors_of(bytes, version, reading);
+    let body = parse::from(bytes, kerx_machine::BODY);
+    let another = indexes::is_another(true, body, start, class_start);
+    if let Check::Refused(why) = refuse_anchoring(machine, index.len(), another) {
+        return Answer::Refused(why);
+    }
+    anchor_machine::work_by(ankr, body, machine, glyphs, used, x, y, back, index)
+}
+
+// The pass by an index, by the subtable that begins with `bytes`, of a format.
+fn work_indexed(
+    ankr: &[u8],
+    bytes: &[u8],
+    start: usize,
+    version: u16,
+    format: u32,
+    glyphs: &[u16],
+    used: usize,
+    along: &mut [i64],
+    x: &mut [i32],
+    y: &mut [i32],
+    back: &mut [u16],
+    reading: Reading,
+    index: &[u16],
+    class_start: usize,
+) -> Answer
+    requires { ⌜ (used ≤ length (now glyphs)) × (used ≤ length (now along)) × (used ≤ roomLimit) × Within (2 ^ 60) (now along) × (used ≤ length (now x)) × (used ≤ length (now y)) × (used ≤ length (now back)) ⌝ }
+    ensures answer { λ r. ⌜ r ≡ workedIndexed (now (ankr .entry)) (now (bytes .entry)) start version format (now (glyphs .entry)) used reading (now (index .entry)) «class_start» .answer ⌝ }
+    ensures along { λ _. ⌜ now (along .exit) ≡ addAll (workedIndexed (now (ankr .entry)) (now (bytes .entry)) start version format (now (glyphs .entry)) used reading (now (index .entry)) «class_start» .additions) (now (along .entry)) ⌝ }
+    ensures x { λ _. ⌜ now (x .exit) ≡ writeX (workedIndexed (now (ankr .entry)) (now (bytes .entry)) start version format (now (glyphs .entry)) used reading (now (index .entry)) «class_start» .writes) (now (x .entry)) ⌝ }
+    ensures y { λ _. ⌜ now (y .exit) ≡ writeY (workedIndexed (now (ankr .entry)) (now (bytes .entry)) start version format (now (glyphs .entry)) used reading (now (index .entry)) «class_start» .writes) (now (y .entry)) ⌝ }
+    ensures back { λ _. ⌜ now (back .exit) ≡ writeBack (workedIndexed (now (ankr .entry)) (now (bytes .entry)) start version format (now (glyphs .entry)) used reading (now (index .entry)) «class_start» .writes) (now (back .entry)) ⌝ }
+{
+    if AnchorState::FORMAT == format {
+        return work_anchoring(
+            ankr,
+            bytes,
+            start,
+            version,
+            glyphs,
+            used,
+            x,
+            y,
+            back,
+            reading,
+            index,
+            class_start,
+        );
+    }
+    if format == kerx_machine::FORMAT {
+        return work_kerning(
+            bytes,
+            start,
+            version,
+            glyphs,
+            used,
+            along,
+            reading,
+            index,
+            class_start,
+        );
+    }
+    Answer::Refused(refuse_unindexed(bytes, version, format, reading))
+}
+
+// The pass by an index, by the subtable that begins with `bytes`, its head included.
+fn pass_indexed_in(
+    ankr: &[u8],
+    bytes: &[u8],
+    start: usize,
+    version: u16,
+    glyphs: &[u16],
+    used: usize,
+    along: &mut [i64],
+    x: &mut [i32],
+    y: &mut [i32],
+    back: &mut [u16],
+    reading: Reading,
+    index: &[u16],
+    class_start: usize,
+) -> Answer
+    requires { ⌜ (used ≤ length (now glyphs)) × (used ≤ length (now along)) × (used ≤ roomLimit) × Within (2 ^ 60) (now along) × (used ≤ length (now x)) × (used ≤ length (now y)) × (used ≤ length (now back)) ⌝ }
+    ensures answer { λ r. ⌜ r ≡ passedIndexed (now (ankr .entry)) (now (bytes .entry)) start version (now (glyphs .entry)) used reading (now (index .entry)) «class_start» .answer ⌝ }
+    ensures along { λ _. ⌜ now (along .exit) ≡ addAll (passedIndexed (now (ankr .entry)) (now (bytes .entry)) start version (now (glyphs .entry)) used reading (now (index .entry)) «class_start» .additions) (now (along .entry)) ⌝ }
+    ensures x { λ _. ⌜ now (x .exit) ≡ writeX (passedIndexed (now (ankr .entry)) (now (bytes .entry)) start version (now (glyphs .entry)) used reading (now (index .entry)) «class_start» .writes) (now (x .entry)) ⌝ }
+    ensures y { λ _. ⌜ now (y .exit) ≡ writeY (passedIndexed (now (ankr .entry)) (now (bytes .entry)) start version (now (glyphs .entry)) used reading (now (index .entry)) «class_start» .writes) (now (y .entry)) ⌝ }
+    ensures back { λ _. ⌜ now (back .exit) ≡ writeBack (passedIndexed (now (ankr .entry)) (now (bytes .entry)) start version (now (glyphs .entry)) used reading (now (index .entry)) «class_start» .writes) (now (back .entry)) ⌝ }
+{
+    let Head::At(subtable) = head_in(false, version, 0, bytes) else {
+        return Answer::Refused(Refusal::Head);
+    };
+    work_indexed(
+        ankr,
+        bytes,
+        start,
+        version,
+        subtable.format,
+        glyphs,
+        used,
+        along,
+        x,
+        y,
+        back,
+        reading,
+        index,
+        class_start,
+    )
+}
+
+// The same as `pass_anchored`, by an index of the class table that begins at `class_start`.
+pub fn pass_indexed(
+    table: &[u8],
+    ankr: &[u8],
+    start: usize,
+    version: u16,
+    glyphs: &[u16],
+    tags: &[u16],
+    homes: &[u16],
+    used: usize,
+    along: &mut [i64],
+    x: &mut [i32],
+    y: &mut [i32],
+    back: &mut [u16],
+    reading: Reading,
+    index: &[u16],
+    class_start: usize,
+) -> Answer
+    ensures answer { λ r. ⌜ r ≡ indexedCall (now (table .entry)) (now (ankr .entry)) start version (lineOf (now (glyphs .entry)) (now (tags .entry)) (now (homes .entry)) used) (now (along .entry)) (now (x .entry)) (now (y .entry)) (now (back .entry)) reading (now (index .entry)) «class_start» .answer ⌝ }
+    ensures along { λ _. ⌜ now (along .exit) ≡ addAll (indexedCall (now (table .entry)) (now (ankr .entry)) start version (lineOf (now (glyphs .entry)) (now (tags .entry)) (now (homes .entry)) used) (now (along .entry)) (now (x .entry)) (now (y .entry)) (now (back .entry)) reading (now (index .entry)) «class_start» .additions) (now (along .entry)) ⌝ }
+    ensures x { λ _. ⌜ now (x .exit) ≡ writeX (indexedCall (now (table .entry)) (now (ankr .entry)) start version (lineOf (now (glyphs .entry)) (now (tags .entry)) (now (homes .entry)) used) (now (along .entry)) (now (x .entry)) (now (y .entry)) (now (back .entry)) reading (now (index .entry)) «class_start» .writes) (now (x .entry)) ⌝ }
+    ensures y { λ _. ⌜ now (y .exit) ≡ writeY (indexedCall (now (table .entry)) (now (ankr .entry)) start version (lineOf (now (glyphs .entry)) (now (tags .entry)) (now (homes .entry)) used) (now (along .entry)) (now (x .entry)) (now (y .entry)) (now (back .entry)) reading (now (index .entry)) «class_start» .writes) (now (y .entry)) ⌝ }
+    ensures back { λ _. ⌜ now (back .exit) ≡ writeBack (indexedCall (now (table .entry)) (now (ankr .entry)) start version (lineOf (now (glyphs .entry)) (now (tags .entry)) (now (homes .entry)) used) (now (along .entry)) (now (x .entry)) (now (y .entry)) (now (back .entry)) reading (now (index .entry)) «class_start» .writes) (now (back .entry)) ⌝ }
+{
+    let takes = takes_pass(glyphs, tags, homes, used, along, x, y, back);
+    if let Check::Refused(why) = refuse_pass(table.len(), ankr.len(), takes) {
+        return Answer::Refused(why);
+    }
+    pass_indexed_in(
+        ankr,
+        parse::from(table, start),
+        start,
+        version,
+        glyphs,
+        used,
+        along,
+        x,
+        y,
+        back,
+        reading,
+        index,
+        class_start,
     )
 }
 

@@ -68,6 +68,10 @@ opened bytes version reading = Kerning′.barred (isTupled bytes version reading
 unfoldable pub worked : List ℕ → (version : ℕ) → (glyphs : List ℕ) → (used : ℕ) → Reading → Kerned
 worked bytes version glyphs used reading = Kerning′.workedBy (bodyOf bytes) (opened bytes version reading) glyphs used
 
+-- the same by the classes of an index
+unfoldable pub workedIndexed : (index : List ℕ) → List ℕ → (version : ℕ) → (glyphs : List ℕ) → (used : ℕ) → Reading → Kerned
+workedIndexed index bytes version glyphs used reading = Kerning′.workedIndexed index (bodyOf bytes) (opened bytes version reading) glyphs used
+
 -- a lone step by the subtable at `start`
 unfoldable pub stepCall : List ℕ → (start version : ℕ) → KerningState → (used index glyph : ℕ) → List ℤ → Reading → Stepped
 stepCall table start version s used index glyph along reading =

@@ -14,7 +14,7 @@ ghost use lib.ListN.{length};
 ghost use Rattle.answers.specs.Limits.{roomLimit};
 ghost use Rattle.kerning.specs.Additions.{addAll};
 ghost use Rattle.kerning.specs.Bounds.{Within};
-ghost use Rattle.kerx_machine.specs.Machine.{tuplesOf, hasTuples, isTupled, entriesOf, openedAny, opened, worked, stepCall};
+ghost use Rattle.kerx_machine.specs.Machine.{tuplesOf, hasTuples, isTupled, entriesOf, openedAny, opened, worked, workedIndexed, stepCall};
 
 // The format of this machine.
 pub const FORMAT: u32 = 1;
@@ -97,7 +97,32 @@ pub fn open(bytes: &[u8], version: u16, reading: Reading) -> Opened
     kerning_machine::barred(tupled, machine)
 }
 
-// The pass by the subtable whose bytes begin at its head; HEAD where it can't be opened.
+// The pass by the subtable whose bytes begin at its head and the classes of an index; HEAD where it can't be opened.
+pub fn work_by(
+    bytes: &[u8],
+    version: u16,
+    glyphs: &[u16],
+    used: usize,
+    along: &mut [i64],
+    reading: Reading,
+    index: &[u16],
+) -> Answer
+    requires { ⌜ (used ≤ length (now glyphs)) × (used ≤ length (now along)) × (used ≤ roomLimit) × Within (2 ^ 60) (now along) ⌝ }
+    ensures answer { λ r. ⌜ r ≡ workedIndexed (now (index .entry)) (now (bytes .entry)) version (now (glyphs .entry)) used reading .answer ⌝ }
+    ensures along { λ _. ⌜ now (along .exit) ≡ addAll (workedIndexed (now (index .entry)) (now (bytes .entry)) version (now (glyphs .entry)) used reading .additions) (now (along .entry)) ⌝ }
+{
+    let machine = open(bytes, version, reading);
+    kerning_machine::work_by(
+        parse::from(bytes, BODY),
+        machine,
+        glyphs,
+        used,
+        along,
+        index,
+    )
+}
+
+// The same by the subtable's own classes.
 pub fn work(
     bytes: &[u8],
     version: u16,
@@ -110,8 +135,8 @@ pub fn work(
     ensures answer { λ r. ⌜ r ≡ worked (now (bytes .entry)) version (now (glyphs .entry)) used reading .answer ⌝ }
     ensures along { λ _. ⌜ now (along .exit) ≡ addAll (worked (now (bytes .entry)) version (now (glyphs .entry)) used reading .additions) (now (along .entry)) ⌝ }
 {
-    let machine = open(bytes, version, reading);
-    kerning_machine::work(parse::from(bytes, BODY), machine, glyphs, used, along)
+    let none = [0u16; 0];
+    work_by(bytes, version, glyphs, used, along, reading, &none)
 }
 
 // A lone step by the subtable at `start` of a list of this version, on a line of so many places.

@@ -5,7 +5,7 @@ use mathlib.Core.Bool.{Bool, true, false, not}
 use mathlib.Core.List.{List, [], _∷_, _++_, append-nil, append-assoc}
 use native.Mathlib.Omega.{arith}
 use lib.Dec.{ltb, leb, eqb}
-use lib.ListN.{getD}
+use lib.ListN.{length, getD}
 use borrow.Author.Tests.{ltb-true, ltb-false, lt-ltb, le-ltb, le-leb, lt-leb, eq-eqb, ne-eqb}
 use Rattle.answers.specs.declared.Answer.{Answer}
 use Rattle.answers.specs.declared.Answer.the-variants as Answer′
@@ -17,6 +17,8 @@ use Rattle.machine.specs.Pass.{Passed, after, deleted, isDone, advanceOf, passF
 use Rattle.machine.specs.Machine.{passedBy, passed}
 use Rattle.machine.specs.Work.{glyphAt}
 use Rattle.machine.proofs.Passing.{turn-goes, turn-stops, turn-ends}
+use Rattle.indexes.specs.Index.{classesBy, indexed}
+use Rattle.indexes.proofs.Laws.{no-index}
 use Rattle.ligature.specs.Ligature.{Stack, stackIn, fresh, Ligation, changesOf, Ran, next, stateOf}
 use Rattle.ligature.specs.Calls.{ligature}
 use Rattle.ligature.specs.Work.{ligated, isLast, runFrom, run}
@@ -25,15 +27,18 @@ use Rattle.ligature.specs.declared.Reached.{Reached}
 use Rattle.ligature.proofs.Ligations.{used-kept}
 use Rattle.ligature.proofs.Runs.{Reaches, last-step, more-steps}
 
--- the lone step
-module _ (bytes : List ℕ) (states : States) (state : ℕ) (stack : Stack) (l : Line) (index glyph : ℕ) (ends : Bool) where
-  run-once : run bytes states true state stack l index glyph ends ≡ next (classOf bytes states) bytes states state stack index glyph ends
+-- the lone step, which is lent no index
+module _ (lent : List ℕ) (z : length lent ≡ 0) (bytes : List ℕ) (states : States) (state : ℕ) (stack : Stack) (l : Line) (index glyph : ℕ) (ends : Bool) where
+  run-once : run lent bytes states true state stack l index glyph ends ≡ next (classesBy lent (classOf bytes states)) bytes states state stack index glyph ends
   unfolding run runFrom isLast
   run-once = refl
 
-  pub step-reaches : {r : Reached} {places glyphs′ stack′ homes′ : List ℕ} → Reaches l (run bytes states true state stack l index glyph ends) r places stack′ glyphs′ homes′
+  pub step-reaches : {r : Reached} {places glyphs′ stack′ homes′ : List ℕ} → Reaches l (run lent bytes states true state stack l index glyph ends) r places stack′ glyphs′ homes′
       → Reaches l (next (classOf bytes states) bytes states state stack index glyph ends) r places stack′ glyphs′ homes′
-  step-reaches {r} {places} {glyphs′} {stack′} {homes′} s = subst (λ (n : Ran). Reaches l n r places stack′ glyphs′ homes′) run-once s
+  step-reaches {r} {places} {glyphs′} {stack′} {homes′} s =
+      subst (λ (n : Ran). Reaches l n r places stack′ glyphs′ homes′)
+      (run-once ∙ ap (λ (c : ℕ → ℕ). next c bytes states state stack index glyph ends) (no-index lent z (classOf bytes states)))
+      s
 
 -- ligatures as changes, in two parts
 changes-append : (xs ys : List Ligation) → changesOf (xs ++ ys) ≡ changesOf xs ++ changesOf ys
@@ -156,25 +161,25 @@ pub record Ends (whole : Passed) (l : Line) (answer : Answer) (glyphs homes : Li
   pub left : glyphs ≡ applyAll (whole .changes) l .glyphs
   pub joined : homes ≡ applyAll (whole .changes) l .homes
 
-module _ (bytes : List ℕ) (states : States) (l : Line) where
+module _ (index bytes : List ℕ) (states : States) (l : Line) where
   from-fresh : LigatureState → (glyph : ℕ) → (ends : Bool) → Ran
-  from-fresh s glyph ends = run bytes states false (s .state) (stackIn s) l 0 glyph ends
+  from-fresh s glyph ends = run index bytes states false (s .state) (stackIn s) l 0 glyph ends
 
-  whole-pass : asPass (classOf bytes states) bytes states (from-fresh fresh (glyphAt (l .glyphs) (l .used) 0) (leb (l .used) 0)) ≡ passed ligature bytes states l
+  whole-pass : asPass (classesBy index (classOf bytes states)) bytes states (from-fresh fresh (glyphAt (l .glyphs) (l .used) 0) (leb (l .used) 0)) ≡ passed (indexed index ligature) bytes states l
   unfolding from-fresh run passed passedBy changesOf
   whole-pass =
       let n : suc (l .used - 0) ≡ ligature .rest fresh l 0 = omega arith in
-      run-passes (classOf bytes states) bytes states (suc (l .used - 0)) fresh l 0 [] (omega arith)
-      ∙ ap (λ (turns : ℕ). passFrom (ligature .step (classOf bytes states) bytes states) turns fresh l 0) n
+      run-passes (classesBy index (classOf bytes states)) bytes states (suc (l .used - 0)) fresh l 0 [] (omega arith)
+      ∙ ap (λ (turns : ℕ). passFrom (ligature .step (classesBy index (classOf bytes states)) bytes states) turns fresh l 0) n
 
   pub pass-ends : {s : LigatureState} {glyph : ℕ} {r : Reached} {places stack glyphs′ homes′ : List ℕ} → s ≡ fresh → glyph ≡ glyphAt (l .glyphs) (l .used) 0
-      → Reaches l (run bytes states false (s .state) (stackIn s) l 0 glyph (eqb (l .used) 0)) r places stack glyphs′ homes′ → Ends (passed ligature bytes states l) l (r .answer) glyphs′ homes′
+      → Reaches l (run index bytes states false (s .state) (stackIn s) l 0 glyph (eqb (l .used) 0)) r places stack glyphs′ homes′ → Ends (passed (indexed index ligature) bytes states l) l (r .answer) glyphs′ homes′
   unfolding from-fresh
   pass-ends {s} {glyph} {r} f g reaches =
       let same : from-fresh s glyph (eqb (l .used) 0) ≡ from-fresh fresh (glyphAt (l .glyphs) (l .used) 0) (leb (l .used) 0) =
       ap₂ (λ (t : LigatureState) (x : ℕ). from-fresh t x (eqb (l .used) 0)) f g
       ∙ ap (from-fresh fresh (glyphAt (l .glyphs) (l .used) 0)) (none-used (l .used)) in
-      let w = ap (asPass (classOf bytes states) bytes states) same ∙ whole-pass in
+      let w = ap (asPass (classesBy index (classOf bytes states)) bytes states) same ∙ whole-pass in
       record {
         answers = ap (λ (x : Reached). x .answer) (reaches .answers) ∙ ap (λ (p : Passed). p .answer) w;
         left = reaches .written ∙ ap (λ (p : Passed). applyAll (p .changes) l .glyphs) w;

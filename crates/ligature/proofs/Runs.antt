@@ -9,13 +9,14 @@ use lib.ListN.{length}
 use borrow.Author.Tests.{leb-false}
 use Rattle.laws.specs.Lists.{either}
 use Rattle.answers.specs.declared.Answer.{Answer}
-use Rattle.state_tables.specs.Classes.{classOf}
 use Rattle.state_tables.specs.Opened.{openedClasses, classBy, LiesIn, Remembers, noted, nothingFound}
 use Rattle.state_tables.specs.declared.States.{States}
 use Rattle.state_tables.specs.declared.opened.Classes.{Classes}
-use Rattle.state_tables.proofs.Openings.{classes-same, classes-lie, deleted-class, nothing-remembered, still-remembers}
+use Rattle.state_tables.proofs.Openings.{classes-lie, deleted-class, nothing-remembered, still-remembers}
 use Rattle.line.specs.Line.{Line, lineOf}
 use Rattle.machine.specs.Entry.{classHere}
+use Rattle.indexes.specs.Index.{classesBy}
+use Rattle.indexes.proofs.Laws.{opened-index}
 use Rattle.ligature.specs.Ligature.{Stack, stackOf, Ligation, Ran, over, ran, next, stateOf, stackIn}
 use Rattle.ligature.specs.Work.{ligated, reached, isLast, runFrom, run}
 use Rattle.machine.specs.Work.{glyphAt}
@@ -88,9 +89,9 @@ still-inside answer once used place e = leb-false used place (not-past once (leb
 pub kept-within : {used n m : ℕ} → m ≡ n → used ≤ n → used ≤ m
 kept-within e h = omega arith
 
-module _ (bytes : List ℕ) (states : States) (opened : Classes) (once : Bool) (tags : List ℕ) (used : ℕ) (l₀ : Line) (whole : Ran) where
+module _ (lent bytes : List ℕ) (states : States) (opened : Classes) (once : Bool) (tags : List ℕ) (used : ℕ) (l₀ : Line) (whole : Ran) where
   abbrev classes : ℕ → ℕ
-  classes = classBy bytes opened
+  classes = classesBy lent (classBy bytes opened)
 
   abbrev steps : (turns : ℕ) → LigatureState → Line → (place glyph : ℕ) → (ends : Bool) → List Ligation → Ran
   steps turns s l = runFrom classes bytes states once turns (s .state) (stackIn s) l
@@ -101,7 +102,7 @@ module _ (bytes : List ℕ) (states : States) (opened : Classes) (once : Bool) (
     pub enough : used - place < turns
     pub deep : depth ≤ 32
     pub lies : LiesIn bytes opened
-    pub remembers : Remembers classes memo
+    pub remembers : Remembers (classBy bytes opened) memo
     pub done : List Ligation
     pub same : steps turns (standing state places stack depth) (lineOf glyphs tags homes used) place glyph ends done ≡ whole
     pub made : lineOf glyphs tags homes used ≡ ligated done l₀
@@ -151,7 +152,7 @@ module _ (bytes : List ℕ) (states : States) (opened : Classes) (once : Bool) (
           joined = ap (λ (x : Line). x .homes) now-made ∙ ap (λ (n : Ran). ligated (n .made) l₀ .homes) w;
         }
 
-    pub going-more : {memo′ : List ℕ} {glyph′ : ℕ} → last ≡ false → r .depth ≤ 32 → Remembers classes memo′
+    pub going-more : {memo′ : List ℕ} {glyph′ : ℕ} → last ≡ false → r .depth ≤ 32 → Remembers (classBy bytes opened) memo′
         → length glyphs′ ≡ length glyphs → length homes′ ≡ length homes → glyph′ ≡ glyphAt glyphs′ used (place + 1)
         → Going memo′ places′ stack′ glyphs′ homes′ (r .state) (r .depth) (place + 1) glyph′ (leb used (place + 1))
     going-more {memo′} {glyph′} e deep remembers lg lh n =
@@ -175,14 +176,10 @@ module _ (bytes : List ℕ) (states : States) (opened : Classes) (once : Bool) (
         later : LigatureState → Line → ℕ → Ran
         later x k y = steps (g .turns - 1) x k (place + 1) y (leb (k .used) (place + 1)) (g .done ++ here .made)
 
--- an opened class table gives the classes of the one that was opened
-opened-classes : (bytes : List ℕ) (states : States) {opened : Classes} → opened ≡ openedClasses bytes (states .edition) → classBy bytes opened ≡ classOf bytes states
-opened-classes bytes states e = λ i glyph. (ap (λ (o : Classes). classBy bytes o glyph) e ∙ classes-same bytes states glyph) i
-
-module _ (bytes : List ℕ) (states : States) (once : Bool) (glyphs tags homes : List ℕ) (used state : ℕ) (places stack : List ℕ) (depth place glyph : ℕ) (ends : Bool) where
+module _ (lent bytes : List ℕ) (states : States) (once : Bool) (glyphs tags homes : List ℕ) (used state : ℕ) (places stack : List ℕ) (depth place glyph : ℕ) (ends : Bool) where
   pub going-start : {opened : Classes} {memo : List ℕ} → opened ≡ openedClasses bytes (states .edition) → memo ≡ nothingFound → depth ≤ 32 → used ≤ length glyphs
-      → Going bytes states opened once tags used (lineOf glyphs tags homes used)
-      (run bytes states once state (stackOf places stack depth) (lineOf glyphs tags homes used) place glyph ends)
+      → Going lent bytes states opened once tags used (lineOf glyphs tags homes used)
+      (run lent bytes states once state (stackOf places stack depth) (lineOf glyphs tags homes used) place glyph ends)
       memo places stack glyphs homes state depth place glyph ends
   unfolding run
   going-start {opened} {memo} o m h w =
@@ -194,7 +191,7 @@ module _ (bytes : List ℕ) (states : States) (once : Bool) (glyphs tags homes :
         remembers = subst⁻¹ (Remembers (classBy bytes opened)) m (nothing-remembered (deleted-class bytes opened));
         done = [];
         same = ap (λ (c : ℕ → ℕ). runFrom c bytes states once (suc (used - place)) state (stackOf places stack depth) (lineOf glyphs tags homes used) place glyph ends [])
-            (opened-classes bytes states o);
+            (opened-index lent bytes states o);
         made = sym (ligated-none (lineOf glyphs tags homes used));
         within = w;
         long = refl;

@@ -8,6 +8,7 @@ use Rattle.laws.specs.Lists.{either}
 use Rattle.answers.specs.declared.Answer.{Answer}
 use Rattle.answers.specs.declared.Answer.the-variants as Answer′
 use Rattle.state_tables.specs.Classes.{classOf}
+use Rattle.indexes.specs.Index.{classesBy}
 use Rattle.state_tables.specs.declared.States.{States}
 use Rattle.state_tables.specs.declared.entries.Entry.{Entry}
 use Rattle.line.specs.Line.{Line, lineOf}
@@ -87,16 +88,16 @@ module _ (classes : ℕ → ℕ) (bytes : List ℕ) (states : States) (once : Bo
             runFrom turns (n .state) (n .stack) k (place + 1) (glyphAt (k .glyphs) (k .used) (place + 1)) (leb (k .used) (place + 1)) (made ++ n .made)
       ]
 
--- the pass and the lone step
-unfoldable pub run : List ℕ → States → (once : Bool) → (state : ℕ) → Stack → Line → (place glyph : ℕ) → (ends : Bool) → Ran
-run bytes states once state stack l place glyph ends =
-    runFrom (classOf bytes states) bytes states once (suc (l .used - place)) state stack l place glyph ends []
+-- the pass and the lone step, by the classes of an index
+unfoldable pub run : (lent : List ℕ) → List ℕ → States → (once : Bool) → (state : ℕ) → Stack → Line → (place glyph : ℕ) → (ends : Bool) → Ran
+run lent bytes states once state stack l place glyph ends =
+    runFrom (classesBy lent (classOf bytes states)) bytes states once (suc (l .used - place)) state stack l place glyph ends []
 
-abbrev pub afterRun : List ℕ → States → (once : Bool) → (state : ℕ) → (places stack : List ℕ) → (depth : ℕ)
+abbrev pub afterRun : (lent : List ℕ) → List ℕ → States → (once : Bool) → (state : ℕ) → (places stack : List ℕ) → (depth : ℕ)
     → (glyphs tags homes : List ℕ) → (used index glyph : ℕ) → (ends : Bool) → Stands Reached
-afterRun bytes states once state places stack depth glyphs tags homes used index glyph ends =
+afterRun lent bytes states once state places stack depth glyphs tags homes used index glyph ends =
     let l : Line = lineOf glyphs tags homes used in
-    standsAfter (run bytes states once state (stackOf places stack depth) l index glyph ends) l
+    standsAfter (run lent bytes states once state (stackOf places stack depth) l index glyph ends) l
 
 -- what a step hands back
 abbrev pub stepOf : Stepped LigatureState → LigatureStep

@@ -27,6 +27,7 @@ ghost use Rattle.machine.specs.Pass.{advanceOf};
 ghost use Rattle.machine.specs.Call.{stepTests};
 ghost use Rattle.machine.specs.Machine.{passed, subtableOf, passCall, callLeaves, stepCall, stepLeaves};
 ghost use Rattle.machine.specs.Work.{passedLeaves, workLeaves};
+ghost use Rattle.indexes.specs.Index.{classesBy, indexed};
 ghost use Rattle.ligature.specs.Calls.{opened, areInside, stateTests, ligature};
 ghost use Rattle.ligature.specs.Work.{ligated, afterActs, afterEntry, afterStep, afterRun, isLast, stepOf};
 
@@ -384,6 +385,28 @@ fn class_now(bytes: &[u8], opened: Classes, memo: &mut [u32; 64], glyph: u16, en
     opened::class_in_words(bytes, base, first, count, glyph)
 }
 
+// The same by an index, where that reaches the glyph.
+fn class_by(
+    bytes: &[u8],
+    opened: Classes,
+    memo: &mut [u32; 64],
+    glyph: u16,
+    ends: bool,
+    lent: &[u16],
+) -> u16
+    requires { ⌜ LiesIn (now bytes) opened × Remembers (classBy (now bytes) opened) (now memo) ⌝ }
+    ensures class { λ r. ⌜ r ≡ classHere (classesBy (now (lent .entry)) (classBy (now (bytes .entry)) opened)) glyph ends ⌝ }
+    ensures memo { λ _. ⌜ Remembers (classBy (now (bytes .entry)) opened) (now (memo .exit)) ⌝ }
+{
+    if ends {
+        return 0;
+    }
+    if (glyph as usize) < lent.len() {
+        return lent[glyph as usize];
+    }
+    class_now(bytes, opened, memo, glyph, false)
+}
+
 // Whether a step is the last of a run: the only one, the end call, or one that is not DONE.
 fn is_last(answer: Answer, once: bool, used: usize, place: usize) -> bool
     ensures { λ r. ⌜ r ≡ isLast answer once used place ⌝ }
@@ -414,13 +437,14 @@ fn run(
     first: u16,
     over: bool,
     once: bool,
+    lent: &[u16],
 ) -> Reached
     requires { ⌜ (deep ≤ 32) × (used ≤ length (now glyphs)) × (used ≤ length (now tags)) ⌝ }
-    ensures reached { λ r. ⌜ r ≡ afterRun (now (bytes .entry)) states once begun (now (places .entry)) (now (stack .entry)) deep (now (glyphs .entry)) (now (tags .entry)) (now (homes .entry)) used index first over .answer ⌝ }
-    ensures places { λ _. ⌜ now (places .exit) ≡ afterRun (now (bytes .entry)) states once begun (now (places .entry)) (now (stack .entry)) deep (now (glyphs .entry)) (now (tags .entry)) (now (homes .entry)) used index first over .places ⌝ }
-    ensures stack { λ _. ⌜ now (stack .exit) ≡ afterRun (now (bytes .entry)) states once begun (now (places .entry)) (now (stack .entry)) deep (now (glyphs .entry)) (now (tags .entry)) (now (homes .entry)) used index first over .stack ⌝ }
-    ensures glyphs { λ _. ⌜ now (glyphs .exit) ≡ afterRun (now (bytes .entry)) states once begun (now (places .entry)) (now (stack .entry)) deep (now (glyphs .entry)) (now (tags .entry)) (now (homes .entry)) used index first over .line .glyphs ⌝ }
-    ensures homes { λ _. ⌜ now (homes .exit) ≡ afterRun (now (bytes .entry)) states once begun (now (places .entry)) (now (stack .entry)) deep (now (glyphs .entry)) (now (tags .entry)) (now (homes .entry)) used index first over .line .homes ⌝ }
+    ensures reached { λ r. ⌜ r ≡ afterRun (now (lent .entry)) (now (bytes .entry)) states once begun (now (places .entry)) (now (stack .entry)) deep (now (glyphs .entry)) (now (tags .entry)) (now (homes .entry)) used index first over .answer ⌝ }
+    ensures places { λ _. ⌜ now (places .exit) ≡ afterRun (now (lent .entry)) (now (bytes .entry)) states once begun (now (places .entry)) (now (stack .entry)) deep (now (glyphs .entry)) (now (tags .entry)) (now (homes .entry)) used index first over .places ⌝ }
+    ensures stack { λ _. ⌜ now (stack .exit) ≡ afterRun (now (lent .entry)) (now (bytes .entry)) states once begun (now (places .entry)) (now (stack .entry)) deep (now (glyphs .entry)) (now (tags .entry)) (now (homes .entry)) used index first over .stack ⌝ }
+    ensures glyphs { λ _. ⌜ now (glyphs .exit) ≡ afterRun (now (lent .entry)) (now (bytes .entry)) states once begun (now (places .entry)) (now (stack .entry)) deep (now (glyphs .entry)) (now (tags .entry)) (now (homes .entry)) used index first over .line .glyphs ⌝ }
+    ensures homes { λ _. ⌜ now (homes .exit) ≡ afterRun (now (lent .entry)) (now (bytes .entry)) states once begun (now (places .entry)) (now (stack .entry)) deep (now (glyphs .entry)) (now (tags .entry)) (now (homes .entry)) used index first over .line .homes ⌝ }
 {
     let opened = opened::open(bytes, states);
     let mut memo = opened::nothing_found();
@@ -430,7 +454,7 @@ fn run(
     let mut glyph = first;
     let mut ends = over;
     loop {
-        let class = class_now(bytes, opened, &mut memo, glyph, ends);
+        let class = class_by(bytes, opened, &mut memo, glyph, ends, lent);
         let reached = next(
             bytes,
             states,
@@ -573,6 +597,7 @@ impl LigatureState {
                 advance: 0,
             };
         };
+        let none = [0u16; 0];
         let mut places = self.places;
         let mut stack = self.glyphs;
         let reached = run(
@@ -590,6 +615,7 @@ impl LigatureState {
             glyph,
             ends,
             true,
+            &none,
         );
         let answer = reached.answer;
         LigatureStep {
@@ -648,11 +674,12 @@ fn pass_line(
     tags: &[u16],
     homes: &mut [u16],
     used: usize,
+    index: &[u16],
 ) -> Answer
     requires { ⌜ (used ≤ length (now glyphs)) × (used ≤ length (now tags)) ⌝ }
-    ensures answer { λ r. ⌜ r ≡ passed ligature (now (bytes .entry)) states (lineOf (now (glyphs .entry)) (now (tags .entry)) (now (homes .entry)) used) .answer ⌝ }
-    ensures glyphs { λ _. ⌜ now (glyphs .exit) ≡ passedLeaves ligature (now (bytes .entry)) states (lineOf (now (glyphs .entry)) (now (tags .entry)) (now (homes .entry)) used) .glyphs ⌝ }
-    ensures homes { λ _. ⌜ now (homes .exit) ≡ passedLeaves ligature (now (bytes .entry)) states (lineOf (now (glyphs .entry)) (now (tags .entry)) (now (homes .entry)) used) .homes ⌝ }
+    ensures answer { λ r. ⌜ r ≡ passed (indexed (now (index .entry)) ligature) (now (bytes .entry)) states (lineOf (now (glyphs .entry)) (now (tags .entry)) (now (homes .entry)) used) .answer ⌝ }
+    ensures glyphs { λ _. ⌜ now (glyphs .exit) ≡ passedLeaves (indexed (now (index .entry)) ligature) (now (bytes .entry)) states (lineOf (now (glyphs .entry)) (now (tags .entry)) (now (homes .entry)) used) .glyphs ⌝ }
+    ensures homes { λ _. ⌜ now (homes .exit) ≡ passedLeaves (indexed (now (index .entry)) ligature) (now (bytes .entry)) states (lineOf (now (glyphs .entry)) (now (tags .entry)) (now (homes .entry)) used) .homes ⌝ }
 {
     let fresh = LigatureState::new();
     let mut places = fresh.places;
@@ -672,11 +699,41 @@ fn pass_line(
         machine::glyph_at(glyphs, used, 0),
         used == 0,
         false,
+        index,
     );
     reached.answer
 }
 
-// The pass over a line that LINE has taken, by the subtable that the bytes begin with.
+// The pass over a line that LINE has taken, by the subtable that the bytes begin with and the classes of an index.
+pub fn work_by(
+    bytes: &[u8],
+    glyphs: &mut [u16],
+    tags: &[u16],
+    homes: &mut [u16],
+    used: usize,
+    index: &[u16],
+) -> Answer
+    requires { ⌜ (used ≤ length (now glyphs)) × (used ≤ length (now tags)) ⌝ }
+    ensures answer { λ r. ⌜ r ≡ subtableOf (indexed (now (index .entry)) ligature) .worked (now (bytes .entry)) (lineOf (now (glyphs .entry)) (now (tags .entry)) (now (homes .entry)) used) .answer ⌝ }
+    ensures glyphs { λ _. ⌜ now (glyphs .exit) ≡ workLeaves (subtableOf (indexed (now (index .entry)) ligature)) (now (bytes .entry)) (lineOf (now (glyphs .entry)) (now (tags .entry)) (now (homes .entry)) used) .glyphs ⌝ }
+    ensures homes { λ _. ⌜ now (homes .exit) ≡ workLeaves (subtableOf (indexed (now (index .entry)) ligature)) (now (bytes .entry)) (lineOf (now (glyphs .entry)) (now (tags .entry)) (now (homes .entry)) used) .homes ⌝ }
+{
+    let made = open(bytes);
+    let Made::Ready(states) = made else {
+        return Answer::Refused(Refusal::Head);
+    };
+    pass_line(
+        parse::from(bytes, 12),
+        states,
+        glyphs,
+        tags,
+        homes,
+        used,
+        index,
+    )
+}
+
+// The same by the subtable's own classes.
 pub fn work(
     bytes: &[u8],
     glyphs: &mut [u16],
@@ -689,11 +746,8 @@ pub fn work(
     ensures glyphs { λ _. ⌜ now (glyphs .exit) ≡ workLeaves (subtableOf ligature) (now (bytes .entry)) (lineOf (now (glyphs .entry)) (now (tags .entry)) (now (homes .entry)) used) .glyphs ⌝ }
     ensures homes { λ _. ⌜ now (homes .exit) ≡ workLeaves (subtableOf ligature) (now (bytes .entry)) (lineOf (now (glyphs .entry)) (now (tags .entry)) (now (homes .entry)) used) .homes ⌝ }
 {
-    let made = open(bytes);
-    let Made::Ready(states) = made else {
-        return Answer::Refused(Refusal::Head);
-    };
-    pass_line(parse::from(bytes, 12), states, glyphs, tags, homes, used)
+    let none = [0u16; 0];
+    work_by(bytes, glyphs, tags, homes, used, &none)
 }
 
 // The pass over a line, by the subtable at `start`.

@@ -24,15 +24,18 @@ use Rattle.insertion.proofs.Honesty.{insert-fits}
 use Rattle.morx.specs.Kinds.{kindAt, subtableOfKind, anySubtable}
 use Rattle.morx.specs.Calls.{runLeaves}
 use Rattle.morx.specs.Sequence.{Call, leaves, makes}
+use Rattle.morx.specs.Indexed.{indexedLeaves}
 use Rattle.morx.proofs.Machines.{worked-fits}
+use Rattle.morx.proofs.Indexing.{indexed-call-fits}
 use Rattle.morx.proofs.Honesty.{run-fits}
 
 call-made : (call : Call) (l : Line) → Valid l → leaves call l ≡ applyAll (makes call l) l
-unfolding leaves makes insertLeaves callLeaves stepLeaves runLeaves
+unfolding leaves makes insertLeaves callLeaves indexedLeaves stepLeaves runLeaves
 call-made (Call.verb c) l v = verbs-honest .made c l v
 call-made (Call.insert c) l v = refl
 call-made (Call.pass kind table start) l v = refl
 call-made (Call.anyPass edition table start) l v = refl
+call-made (Call.indexedPass table start index classStart) l v = refl
 call-made (Call.contextualStep c) l v = refl
 call-made (Call.ligatureStep c) l v = refl
 call-made (Call.run table start choices requests) l v = refl
@@ -44,6 +47,7 @@ call-legal (Call.insert c) l v = insert-fits (c .table) (c .start) (c .count) (c
 call-legal (Call.pass kind table start) l v = call-has Valid Fits fitting (subtableOfKind kind) (worked-fits kind) table start l v
 call-legal (Call.anyPass edition table start) l v =
     call-has Valid Fits fitting (anySubtable edition) (λ bytes k u. worked-fits (kindAt edition bytes) bytes k u) table start l v
+call-legal (Call.indexedPass table start index classStart) l v = indexed-call-fits table start l index classStart v
 call-legal (Call.contextualStep c) l v =
     step-has Valid Fits fitting contextual Contextual′.step-fits (c .table) (c .start) (c .state) l (c .index) (c .glyph) (c .ends) v
 call-legal (Call.ligatureStep c) l v =

@@ -2,6 +2,8 @@
 mod Kept
 mod Leaves
 mod Machines
+mod Indexing
+pub mod SameIndex
 mod Visits
 mod Runs
 mod Calls

@@ -24,7 +24,7 @@ use Rattle.line.specs.Changes.{Change, apply, applyAll}
 use Rattle.line.specs.History.{Fits}
 use Rattle.machine.specs.Head.{hasKind, bodyOf}
 use Rattle.machine.specs.Pass.{Passed}
-use Rattle.machine.specs.Machine.{refusedPass, subtableOf, stepLeaves, StepCall}
+use Rattle.machine.specs.Machine.{Subtable, refusedPass, subtableOf, stepLeaves, StepCall}
 use Rattle.machine.specs.Work.{workLeaves}
 use Rattle.machine.proofs.Quiet.{Quiet, quiet-none, quiet-fits}
 use Rattle.machine.proofs.Having.{worked-has}
@@ -50,6 +50,7 @@ use Rattle.ligature.proofs.Honesty as LH
 use Rattle.insertion.specs.Lists as IL
 use Rattle.insertion.specs.Insertion as IM
 use Rattle.insertion.specs.Calls.{insertion}
+use Rattle.insertion.specs.declared.InsertionState.{InsertionState}
 use Rattle.insertion.specs.declared.InsertionStep.{InsertionStep}
 use Rattle.insertion.specs.declared.Inserted.{Inserted}
 use Rattle.insertion.specs.declared.Inserted.the-variants as Inserted′
@@ -63,7 +64,10 @@ use Rattle.tables.specs.declared.units.Reading.the-variants.{Manual}
 use Rattle.tables.specs.declared.lookup.Found.{Found}
 use Rattle.tables.specs.declared.lookup.Found.the-variants as Found′
 use Rattle.chains.specs.declared.Edition.the-variants.{Morx}
+use Rattle.indexes.specs.Index.{classesBy, indexed}
+use Rattle.indexes.proofs.Laws.{indexed-none}
 use Rattle.morx.specs.Kinds.{kindOf, kindAt, subtableOfKind}
+use Rattle.morx.specs.Indexed.{indexedOfKind}
 use Rattle.morx.specs.Work.{passReplyOf}
 use Rattle.morx.specs.declared.Kind.{Kind}
 use Rattle.morx.specs.declared.Kind.the-variants.{Rearrangement, Contextual, Ligature, NonContextual, Insertion, OldRearrangement, OldNonContextual, LeftOut}
@@ -102,6 +106,10 @@ module _ {X : Type 0} (part : Line → X) (kept : (first last verb : ℕ) (l : L
       go true = kept-made (classicAt (O.bodyOf bytes)) (O.bodyOf bytes) l
       go false = kept-none part l
 
+  pub indexed-rearrangement : (index bytes : List ℕ) (l : Line) → Has part (subtableOf (indexed index rearrangement) .worked bytes l .changes) l
+  indexed-rearrangement index =
+      pass-keeps part (indexed index rearrangement) (λ classes bytes states s k i g e. kept-window (R.next (classesBy index classes) bytes states s i g e .edit))
+
 pub window-homes : (first last verb : ℕ) (l : Line) → apply (Change.window first last verb) l .homes ≡ l .homes
 unfolding apply
 window-homes first last verb l = refl
@@ -137,6 +145,9 @@ module _ {X : Type 0} (part : Line → X) (kept : (at glyph : ℕ) (l : Line) �
 
   pub kept-contextual : (bytes : List ℕ) (l : Line) → Has part (subtableOf contextual .worked bytes l .changes) l
   kept-contextual = pass-keeps part contextual contextual-step
+
+  pub indexed-contextual : (index bytes : List ℕ) (l : Line) → Has part (subtableOf (indexed index contextual) .worked bytes l .changes) l
+  indexed-contextual index = pass-keeps part (indexed index contextual) (λ classes. contextual-step (classesBy index classes))
 
   pub kept-contextual-step : (c : StepCall ContextualState) (l : Line)
       → part (stepLeaves contextual (c .table) (c .start) (c .state) l (c .index) (c .glyph) (c .ends)) ≡ part l
@@ -188,6 +199,9 @@ module _ {X : Type 0} (part : Line → X) (kept : (at glyph : ℕ) (parts : List
   pub kept-ligature : (bytes : List ℕ) (l : Line) → Has part (subtableOf ligature .worked bytes l .changes) l
   kept-ligature = pass-keeps part ligature ligature-step
 
+  pub indexed-ligature : (index bytes : List ℕ) (l : Line) → Has part (subtableOf (indexed index ligature) .worked bytes l .changes) l
+  indexed-ligature index = pass-keeps part (indexed index ligature) (λ classes. ligature-step (classesBy index classes))
+
   pub kept-ligature-step : (c : StepCall LigatureState) (l : Line)
       → part (stepLeaves ligature (c .table) (c .start) (c .state) l (c .index) (c .glyph) (c .ends)) ≡ part l
   kept-ligature-step = step-keeps part ligature ligature-step
@@ -202,12 +216,17 @@ module _ {X : Type 0} (part : Line → X) (kept : (at : ℕ) (new : List ℕ) (l
   kept-inserted bytes Inserted′.None = kept-none part
   kept-inserted bytes (Inserted′.At place count glyphs) = kept-one part (Change.insertion place (IL.glyphsAt bytes glyphs count)) (kept place (IL.glyphsAt bytes glyphs count))
 
-  pub kept-insertion : (bytes : List ℕ) (l : Line) → Has part (subtableOf insertion .worked bytes l .changes) l
-  kept-insertion =
-      pass-keeps part insertion
-      (λ classes bytes states s k i g e.
+  insertion-step : (classes : ℕ → ℕ) (bytes : List ℕ) (states : States) (s : InsertionState) (k : Line) (i g : ℕ) (e : Bool)
+      → Kept part (insertion .step classes bytes states s k i g e .changes)
+  insertion-step classes bytes states s k i g e =
       let step : InsertionStep = IM.next classes bytes states s (k .used) (length (k .glyphs)) i g e in
-      kept-append part (IL.changesOf bytes (step .marked)) (IL.changesOf bytes (step .current)) (kept-inserted bytes (step .marked)) (kept-inserted bytes (step .current)))
+      kept-append part (IL.changesOf bytes (step .marked)) (IL.changesOf bytes (step .current)) (kept-inserted bytes (step .marked)) (kept-inserted bytes (step .current))
+
+  pub kept-insertion : (bytes : List ℕ) (l : Line) → Has part (subtableOf insertion .worked bytes l .changes) l
+  kept-insertion = pass-keeps part insertion insertion-step
+
+  pub indexed-insertion : (index bytes : List ℕ) (l : Line) → Has part (subtableOf (indexed index insertion) .worked bytes l .changes) l
+  indexed-insertion index = pass-keeps part (indexed index insertion) (λ classes. insertion-step (classesBy index classes))
 
 -- what is refused leaves the line as it is
 headless : (l : Line) → Leaves (refusedPass Refusal′.Head) l (record { answer = Answer′.Refused Refusal′.Head; used = l .used }) (l .glyphs) (l .tags) (l .homes)
@@ -215,39 +234,39 @@ unfolding applyAll
 headless l = record { answers = refl; line = refl }
 
 -- the arms of the code, by kind
-module _ (kind : Kind) (bytes glyphs tags homes : List ℕ) (used : ℕ) where
+module _ (index : List ℕ) (kind : Kind) (bytes glyphs tags homes : List ℕ) (used : ℕ) where
   abbrev line : Line
   line = lineOf glyphs tags homes used
 
   abbrev LeavesBy : Kind → PassReply → (glyphs tags homes : List ℕ) → Type 0
-  LeavesBy k reply glyphs′ tags′ homes′ = Leaves (subtableOfKind k .worked bytes line) line reply glyphs′ tags′ homes′
+  LeavesBy k reply glyphs′ tags′ homes′ = Leaves (indexedOfKind index k .worked bytes line) line reply glyphs′ tags′ homes′
 
   as-kind : {k : Kind} {reply : PassReply} {glyphs′ tags′ homes′ : List ℕ} → kind ≡ k → LeavesBy k reply glyphs′ tags′ homes′ → LeavesBy kind reply glyphs′ tags′ homes′
   as-kind {k} {reply} {glyphs′} {tags′} {homes′} e left = subst⁻¹ (λ (x : Kind). LeavesBy x reply glyphs′ tags′ homes′) e left
 
-  pub by-rearrangement : {answer : Answer} {glyphs′ tags′ : List ℕ} → kind ≡ Rearrangement → answer ≡ subtableOf rearrangement .worked bytes line .answer
-      → glyphs′ ≡ workLeaves (subtableOf rearrangement) bytes line .glyphs → tags′ ≡ workLeaves (subtableOf rearrangement) bytes line .tags
+  pub by-rearrangement : {answer : Answer} {glyphs′ tags′ : List ℕ} → kind ≡ Rearrangement → answer ≡ subtableOf (indexed index rearrangement) .worked bytes line .answer
+      → glyphs′ ≡ workLeaves (subtableOf (indexed index rearrangement)) bytes line .glyphs → tags′ ≡ workLeaves (subtableOf (indexed index rearrangement)) bytes line .tags
       → LeavesBy kind (record { answer = answer; used = used }) glyphs′ tags′ homes
-  unfolding subtableOfKind workLeaves
+  unfolding indexedOfKind subtableOfKind workLeaves
   by-rearrangement e a g t =
       as-kind e
-      (by-fields (subtableOf rearrangement .worked bytes line) line a g t
-      (sym (kept-rearrangement (λ (x : Line). x .homes) window-homes bytes line))
-      (sym (kept-rearrangement (λ (x : Line). x .used) window-used bytes line)))
+      (by-fields (subtableOf (indexed index rearrangement) .worked bytes line) line a g t
+      (sym (indexed-rearrangement (λ (x : Line). x .homes) window-homes index bytes line))
+      (sym (indexed-rearrangement (λ (x : Line). x .used) window-used index bytes line)))
 
-  pub by-contextual : {answer : Answer} {glyphs′ : List ℕ} → kind ≡ Contextual → answer ≡ subtableOf contextual .worked bytes line .answer
-      → glyphs′ ≡ workLeaves (subtableOf contextual) bytes line .glyphs → LeavesBy kind (record { answer = answer; used = used }) glyphs′ tags homes
-  unfolding subtableOfKind workLeaves
+  pub by-contextual : {answer : Answer} {glyphs′ : List ℕ} → kind ≡ Contextual → answer ≡ subtableOf (indexed index contextual) .worked bytes line .answer
+      → glyphs′ ≡ workLeaves (subtableOf (indexed index contextual)) bytes line .glyphs → LeavesBy kind (record { answer = answer; used = used }) glyphs′ tags homes
+  unfolding indexedOfKind subtableOfKind workLeaves
   by-contextual e a g =
       as-kind e
-      (by-fields (subtableOf contextual .worked bytes line) line a g
-      (sym (kept-contextual (λ (x : Line). x .tags) write-tags bytes line))
-      (sym (kept-contextual (λ (x : Line). x .homes) write-homes bytes line))
-      (sym (kept-contextual (λ (x : Line). x .used) write-used bytes line)))
+      (by-fields (subtableOf (indexed index contextual) .worked bytes line) line a g
+      (sym (indexed-contextual (λ (x : Line). x .tags) write-tags index bytes line))
+      (sym (indexed-contextual (λ (x : Line). x .homes) write-homes index bytes line))
+      (sym (indexed-contextual (λ (x : Line). x .used) write-used index bytes line)))
 
   pub by-noncontextual : {answer : Answer} {glyphs′ : List ℕ} → kind ≡ NonContextual → answer ≡ noncontextual .worked bytes line .answer
       → glyphs′ ≡ workLeaves noncontextual bytes line .glyphs → LeavesBy kind (record { answer = answer; used = used }) glyphs′ tags homes
-  unfolding subtableOfKind workLeaves
+  unfolding indexedOfKind subtableOfKind workLeaves
   by-noncontextual e a g =
       as-kind e
       (by-fields (noncontextual .worked bytes line) line a g
@@ -258,7 +277,7 @@ module _ (kind : Kind) (bytes glyphs tags homes : List ℕ) (used : ℕ) where
   pub by-old-rearrangement : {answer : Answer} {glyphs′ tags′ : List ℕ} → kind ≡ OldRearrangement → answer ≡ oldRearrangement .worked bytes line .answer
       → glyphs′ ≡ workLeaves oldRearrangement bytes line .glyphs → tags′ ≡ workLeaves oldRearrangement bytes line .tags
       → LeavesBy kind (record { answer = answer; used = used }) glyphs′ tags′ homes
-  unfolding subtableOfKind workLeaves
+  unfolding indexedOfKind subtableOfKind workLeaves
   by-old-rearrangement e a g t =
       as-kind e
       (by-fields (oldRearrangement .worked bytes line) line a g t
@@ -267,7 +286,7 @@ module _ (kind : Kind) (bytes glyphs tags homes : List ℕ) (used : ℕ) where
 
   pub by-old-noncontextual : {answer : Answer} {glyphs′ : List ℕ} → kind ≡ OldNonContextual → answer ≡ oldNonContextual .worked bytes line .answer
       → glyphs′ ≡ workLeaves oldNonContextual bytes line .glyphs → LeavesBy kind (record { answer = answer; used = used }) glyphs′ tags homes
-  unfolding subtableOfKind workLeaves
+  unfolding indexedOfKind subtableOfKind workLeaves
   by-old-noncontextual e a g =
       as-kind e
       (by-fields (oldNonContextual .worked bytes line) line a g
@@ -276,27 +295,27 @@ module _ (kind : Kind) (bytes glyphs tags homes : List ℕ) (used : ℕ) where
       (sym (kept-old-noncontextual (λ (x : Line). x .used) write-used bytes line)))
 
   pub by-none : kind ≡ LeftOut → LeavesBy kind (record { answer = Answer′.Refused Refusal′.Head; used = used }) glyphs tags homes
-  unfolding subtableOfKind
+  unfolding indexedOfKind subtableOfKind
   by-none e = as-kind e (headless line)
 
-  pub by-ligature : {answer : Answer} {glyphs′ homes′ : List ℕ} → kind ≡ Ligature → answer ≡ subtableOf ligature .worked bytes line .answer
-      → glyphs′ ≡ workLeaves (subtableOf ligature) bytes line .glyphs → homes′ ≡ workLeaves (subtableOf ligature) bytes line .homes
+  pub by-ligature : {answer : Answer} {glyphs′ homes′ : List ℕ} → kind ≡ Ligature → answer ≡ subtableOf (indexed index ligature) .worked bytes line .answer
+      → glyphs′ ≡ workLeaves (subtableOf (indexed index ligature)) bytes line .glyphs → homes′ ≡ workLeaves (subtableOf (indexed index ligature)) bytes line .homes
       → LeavesBy kind (record { answer = answer; used = used }) glyphs′ tags homes′
-  unfolding subtableOfKind workLeaves
+  unfolding indexedOfKind subtableOfKind workLeaves
   by-ligature e a g h =
       as-kind e
-      (by-fields (subtableOf ligature .worked bytes line) line a g
-      (sym (kept-ligature (λ (x : Line). x .tags) ligature-tags bytes line))
+      (by-fields (subtableOf (indexed index ligature) .worked bytes line) line a g
+      (sym (indexed-ligature (λ (x : Line). x .tags) ligature-tags index bytes line))
       h
-      (sym (kept-ligature (λ (x : Line). x .used) ligature-used bytes line)))
+      (sym (indexed-ligature (λ (x : Line). x .used) ligature-used index bytes line)))
 
-  pub by-insertion : {answer : Answer} {used′ : ℕ} {glyphs′ tags′ : List ℕ} → kind ≡ Insertion → answer ≡ subtableOf insertion .worked bytes line .answer
-      → used′ ≡ workLeaves (subtableOf insertion) bytes line .used → glyphs′ ≡ workLeaves (subtableOf insertion) bytes line .glyphs
-      → tags′ ≡ workLeaves (subtableOf insertion) bytes line .tags → LeavesBy kind (record { answer = answer; used = used′ }) glyphs′ tags′ homes
-  unfolding subtableOfKind workLeaves
+  pub by-insertion : {answer : Answer} {used′ : ℕ} {glyphs′ tags′ : List ℕ} → kind ≡ Insertion → answer ≡ subtableOf (indexed index insertion) .worked bytes line .answer
+      → used′ ≡ workLeaves (subtableOf (indexed index insertion)) bytes line .used → glyphs′ ≡ workLeaves (subtableOf (indexed index insertion)) bytes line .glyphs
+      → tags′ ≡ workLeaves (subtableOf (indexed index insertion)) bytes line .tags → LeavesBy kind (record { answer = answer; used = used′ }) glyphs′ tags′ homes
+  unfolding indexedOfKind subtableOfKind workLeaves
   by-insertion e a u g t =
       as-kind e
-      (by-fields (subtableOf insertion .worked bytes line) line a g t (sym (kept-insertion (λ (x : Line). x .homes) insertion-homes bytes line)) u)
+      (by-fields (subtableOf (indexed index insertion) .worked bytes line) line a g t (sym (indexed-insertion (λ (x : Line). x .homes) insertion-homes index bytes line)) u)
 
 -- the changes of each kind fit
 pub worked-fits : (kind : Kind) (bytes : List ℕ) (l : Line) → Valid l → Fits (subtableOfKind kind .worked bytes l .changes) l
@@ -309,6 +328,37 @@ worked-fits Insertion bytes l v = worked-has Valid Fits fitting insertion IH.ste
 worked-fits OldRearrangement bytes l v = OH.rearrangement-fits l v bytes
 worked-fits OldNonContextual bytes l v = OH.noncontextual-fits l v bytes
 worked-fits LeftOut bytes l v = quiet-fits [] l v quiet-none
+
+-- and so do those by an index
+pub indexed-fits : (index : List ℕ) (kind : Kind) (bytes : List ℕ) (l : Line) → Valid l → Fits (indexedOfKind index kind .worked bytes l .changes) l
+unfolding indexedOfKind
+indexed-fits index Rearrangement bytes l v = worked-has Valid Fits fitting (indexed index rearrangement) (λ classes. RH.step-fits (classesBy index classes)) bytes l v
+indexed-fits index Contextual bytes l v = worked-has Valid Fits fitting (indexed index contextual) (λ classes. CH.step-fits (classesBy index classes)) bytes l v
+indexed-fits index Ligature bytes l v = worked-has Valid Fits fitting (indexed index ligature) (λ classes. LH.step-fits (classesBy index classes)) bytes l v
+indexed-fits index NonContextual bytes l v = worked-fits NonContextual bytes l v
+indexed-fits index Insertion bytes l v = worked-has Valid Fits fitting (indexed index insertion) (λ classes. IH.step-fits (classesBy index classes)) bytes l v
+indexed-fits index OldRearrangement bytes l v = worked-fits OldRearrangement bytes l v
+indexed-fits index OldNonContextual bytes l v = worked-fits OldNonContextual bytes l v
+indexed-fits index LeftOut bytes l v = worked-fits LeftOut bytes l v
+
+-- without entries, what is by an index is what is without one
+pub plain-kind : (index : List ℕ) → length index ≡ 0 → (kind : Kind) → indexedOfKind index kind ≡ subtableOfKind kind
+unfolding indexedOfKind subtableOfKind
+plain-kind index z Rearrangement = λ i. subtableOf (indexed-none rearrangement index z i)
+plain-kind index z Contextual = λ i. subtableOf (indexed-none contextual index z i)
+plain-kind index z Ligature = λ i. subtableOf (indexed-none ligature index z i)
+plain-kind index z NonContextual = refl
+plain-kind index z Insertion = λ i. subtableOf (indexed-none insertion index z i)
+plain-kind index z OldRearrangement = refl
+plain-kind index z OldNonContextual = refl
+plain-kind index z LeftOut = refl
+
+module _ (index : List ℕ) (z : length index ≡ 0) (kind : Kind) (bytes : List ℕ) (l : Line) where
+  pub plain-reply : passReplyOf (indexedOfKind index kind .worked bytes l) l ≡ passReplyOf (subtableOfKind kind .worked bytes l) l
+  plain-reply = ap (λ (t : Subtable). passReplyOf (t .worked bytes l) l) (plain-kind index z kind)
+
+  pub plain-part : {A : Type 0} (of : Line → A) → of (workLeaves (indexedOfKind index kind) bytes l) ≡ of (workLeaves (subtableOfKind kind) bytes l)
+  plain-part of = ap (λ (t : Subtable). of (workLeaves t bytes l)) (plain-kind index z kind)
 
 -- the kind of the subtable that the bytes begin with, from what the code has read
 module _ (bytes : List ℕ) {p : ReadPart} (e : p ≡ readPart bytes 0 12) where

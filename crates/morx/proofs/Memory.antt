@@ -102,4 +102,5 @@ in-memory (Call.contextualStep c) l =
     by-parts _ (kept-contextual-step tags write-tags c l) (kept-contextual-step homes write-homes c l) (kept-contextual-step used write-used c l)
 in-memory (Call.ligatureStep c) l = by-parts _ (kept-ligature-step tags ligature-tags c l) refl (kept-ligature-step used ligature-used c l)
 in-memory (Call.anyPass edition table start) l = refl
+in-memory (Call.indexedPass table start index classStart) l = refl
 in-memory (Call.run table start choices requests) l = refl

@@ -1,5 +1,7 @@
 -- morx: the pass by kind, and the whole run.
 pub mod Kinds
+pub mod Indexed
+pub mod RightIndex
 pub mod Run
 pub mod Heads
 pub mod Calls

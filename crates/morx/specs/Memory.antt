@@ -7,6 +7,7 @@ use Rattle.contextual.specs.Calls.{contextual}
 use Rattle.ligature.specs.Calls.{ligature}
 use Rattle.insertion.specs.Lone.{insertLeaves}
 use Rattle.morx.specs.Kinds.{subtableOfKind, anySubtable}
+use Rattle.morx.specs.Indexed.{indexedLeaves}
 use Rattle.morx.specs.Calls.{runLeaves}
 use Rattle.morx.specs.Sequence.{Call}
 use Rattle.morx.specs.declared.Kind.{Kind}
@@ -32,6 +33,9 @@ inMemory (Call.contextualStep c) l =
 inMemory (Call.ligatureStep c) l = writtenBy Ligature (stepLeaves ligature (c .table) (c .start) (c .state) l (c .index) (c .glyph) (c .ends)) l
 inMemory (Call.anyPass edition table start) l =
     let left : Line = callLeaves (anySubtable edition) table start l in
+    lineOf (left .glyphs) (left .tags) (left .homes) (left .used)
+inMemory (Call.indexedPass table start index classStart) l =
+    let left : Line = indexedLeaves table start l index classStart in
     lineOf (left .glyphs) (left .tags) (left .homes) (left .used)
 inMemory (Call.run table start choices requests) l =
     let left : Line = runLeaves table start choices l requests in

@@ -12,6 +12,7 @@ use Rattle.ligature.specs.declared.LigatureState.{LigatureState}
 use Rattle.insertion.specs.Lone.{InsertCall, insertCall, insertLeaves}
 use Rattle.chains.specs.declared.Edition.{Edition}
 use Rattle.morx.specs.Kinds.{subtableOfKind, anySubtable}
+use Rattle.morx.specs.Indexed.{indexedCall, indexedLeaves}
 use Rattle.morx.specs.Calls.{runCall, runLeaves}
 use Rattle.morx.specs.declared.Choices.{Choices}
 use Rattle.morx.specs.declared.Kind.{Kind}
@@ -21,6 +22,7 @@ pub data Call : Type 0 where
   insert : InsertCall → Call
   pass : Kind → (table : List ℕ) → (start : ℕ) → Call
   anyPass : Edition → (table : List ℕ) → (start : ℕ) → Call
+  indexedPass : (table : List ℕ) → (start : ℕ) → (index : List ℕ) → (classStart : ℕ) → Call
   contextualStep : StepCall ContextualState → Call
   ligatureStep : StepCall LigatureState → Call
   run : (table : List ℕ) → (start : ℕ) → Choices → (requests : List ℕ) → Call
@@ -31,6 +33,7 @@ leaves (verb c) l = verbCall l (c .verb) (c .start) (c .end) .line
 leaves (insert c) l = insertLeaves (c .table) (c .start) (c .count) (c .place) l
 leaves (pass kind table start) l = callLeaves (subtableOfKind kind) table start l
 leaves (anyPass edition table start) l = callLeaves (anySubtable edition) table start l
+leaves (indexedPass table start index classStart) l = indexedLeaves table start l index classStart
 leaves (contextualStep c) l = stepLeaves contextual (c .table) (c .start) (c .state) l (c .index) (c .glyph) (c .ends)
 leaves (ligatureStep c) l = stepLeaves ligature (c .table) (c .start) (c .state) l (c .index) (c .glyph) (c .ends)
 leaves (run table start choices requests) l = runLeaves table start choices l requests
@@ -41,6 +44,7 @@ makes (verb c) l = verbChanges l (c .verb) (c .start) (c .end)
 makes (insert c) l = insertCall (c .table) (c .start) (c .count) (c .place) l .changes
 makes (pass kind table start) l = passCall (subtableOfKind kind) table start l .changes
 makes (anyPass edition table start) l = passCall (anySubtable edition) table start l .changes
+makes (indexedPass table start index classStart) l = indexedCall table start l index classStart .changes
 makes (contextualStep c) l = stepCall contextual (c .table) (c .start) (c .state) l (c .index) (c .glyph) (c .ends) .changes
 makes (ligatureStep c) l = stepCall ligature (c .table) (c .start) (c .state) l (c .index) (c .glyph) (c .ends) .changes
 makes (run table start choices requests) l = runCall table start choices l requests .changes

@@ -24,6 +24,7 @@ ghost use Rattle.machine.specs.Work.{workLeaves};
 ghost use Rattle.morx.specs.Kinds.{kindOf, kindAt, subtableOfKind, anySubtable};
 ghost use Rattle.morx.specs.Run.{shareBit, isPassedOver, turnedWork, settledAnswer, flagsAfter, visit, visitLeaves, visitSubtable, ran};
 ghost use Rattle.morx.specs.Calls.{runTests, runCall, runLeaves};
+ghost use Rattle.morx.specs.Indexed.{indexedOfKind, hasClasses, indexedTests, indexedCall, indexedLeaves};
 ghost use Rattle.morx.specs.Work.{subtableLeaves, turnedLeaves, ranLeaves, runReplyOf, passReplyOf, lineTests};
 
 // The most features that a run may be asked for.
@@ -141,32 +142,33 @@ fn kind_at(edition: Edition, bytes: &[u8]) -> Kind
     }
 }
 
-// The pass by a subtable of a kind, on a line that LINE has taken; HEAD where it can't be opened.
-fn work(
+// The pass by a subtable of a kind and the classes of an index, on a line that LINE has taken; HEAD where it can't be opened.
+fn work_by(
     kind: Kind,
     bytes: &[u8],
     glyphs: &mut [u16],
     tags: &mut [u16],
     homes: &mut [u16],
     used: usize,
+    index: &[u16],
 ) -> PassReply
     requires { ⌜ isValid (lineOf (now glyphs) (now tags) (now homes) used) ≡ true ⌝ }
-    ensures reply { λ r. ⌜ r ≡ passReplyOf (subtableOfKind kind .worked (now (bytes .entry)) (lineOf (now (glyphs .entry)) (now (tags .entry)) (now (homes .entry)) used)) (lineOf (now (glyphs .entry)) (now (tags .entry)) (now (homes .entry)) used) ⌝ }
-    ensures glyphs { λ _. ⌜ now (glyphs .exit) ≡ workLeaves (subtableOfKind kind) (now (bytes .entry)) (lineOf (now (glyphs .entry)) (now (tags .entry)) (now (homes .entry)) used) .glyphs ⌝ }
-    ensures tags { λ _. ⌜ now (tags .exit) ≡ workLeaves (subtableOfKind kind) (now (bytes .entry)) (lineOf (now (glyphs .entry)) (now (tags .entry)) (now (homes .entry)) used) .tags ⌝ }
-    ensures homes { λ _. ⌜ now (homes .exit) ≡ workLeaves (subtableOfKind kind) (now (bytes .entry)) (lineOf (now (glyphs .entry)) (now (tags .entry)) (now (homes .entry)) used) .homes ⌝ }
+    ensures reply { λ r. ⌜ r ≡ passReplyOf (indexedOfKind (now (index .entry)) kind .worked (now (bytes .entry)) (lineOf (now (glyphs .entry)) (now (tags .entry)) (now (homes .entry)) used)) (lineOf (now (glyphs .entry)) (now (tags .entry)) (now (homes .entry)) used) ⌝ }
+    ensures glyphs { λ _. ⌜ now (glyphs .exit) ≡ workLeaves (indexedOfKind (now (index .entry)) kind) (now (bytes .entry)) (lineOf (now (glyphs .entry)) (now (tags .entry)) (now (homes .entry)) used) .glyphs ⌝ }
+    ensures tags { λ _. ⌜ now (tags .exit) ≡ workLeaves (indexedOfKind (now (index .entry)) kind) (now (bytes .entry)) (lineOf (now (glyphs .entry)) (now (tags .entry)) (now (homes .entry)) used) .tags ⌝ }
+    ensures homes { λ _. ⌜ now (homes .exit) ≡ workLeaves (indexedOfKind (now (index .entry)) kind) (now (bytes .entry)) (lineOf (now (glyphs .entry)) (now (tags .entry)) (now (homes .entry)) used) .homes ⌝ }
 {
     match kind {
         Kind::Rearrangement => {
-            let answer = rearrangement::work(bytes, glyphs, tags, homes, used);
+            let answer = rearrangement::work_by(bytes, glyphs, tags, homes, used, index);
             return PassReply { answer, used };
         }
         Kind::Contextual => {
-            let answer = contextual::work(bytes, glyphs, tags, homes, used);
+            let answer = contextual::work_by(bytes, glyphs, tags, homes, used, index);
             return PassReply { answer, used };
         }
         Kind::Ligature => {
-            let answer = ligature::work(bytes, glyphs, tags, homes, used);
+            let answer = ligature::work_by(bytes, glyphs, tags, homes, used, index);
             return PassReply { answer, used };
         }
         Kind::NonContextual => {
@@ -174,7 +176,7 @@ fn work(
             return PassReply { answer, used };
         }
         Kind::Insertion => {
-            let done = insertion::work(bytes, glyphs, tags, homes, used);
+            let done = insertion::work_by(bytes, glyphs, tags, homes, used, index);
             let answer = done.answer;
             return PassReply {
                 answer,
@@ -196,6 +198,25 @@ fn work(
             };
         }
     }
+}
+
+// The same by the subtable's own classes.
+fn work(
+    kind: Kind,
+    bytes: &[u8],
+    glyphs: &mut [u16],
+    tags: &mut [u16],
+    homes: &mut [u16],
+    used: usize,
+) -> PassReply
+    requires { ⌜ isValid (lineOf (now glyphs) (now tags) (now homes) used) ≡ true ⌝ }
+    ensures reply { λ r. ⌜ r ≡ passReplyOf (subtableOfKind kind .worked (now (bytes .entry)) (lineOf (now (glyphs .entry)) (now (tags .entry)) (now (homes .entry)) used)) (lineOf (now (glyphs .entry)) (now (tags .entry)) (now (homes .entry)) used) ⌝ }
+    ensures glyphs { λ _. ⌜ now (glyphs .exit) ≡ workLeaves (subtableOfKind kind) (now (bytes .entry)) (lineOf (now (glyphs .entry)) (now (tags .entry)) (now (homes .entry)) used) .glyphs ⌝ }
+    ensures tags { λ _. ⌜ now (tags .exit) ≡ workLeaves (subtableOfKind kind) (now (bytes .entry)) (lineOf (now (glyphs .entry)) (now (tags .entry)) (now (homes .entry)) used) .tags ⌝ }
+    ensures homes { λ _. ⌜ now (homes .exit) ≡ workLeaves (subtableOfKind kind) (now (bytes .entry)) (lineOf (now (glyphs .entry)) (now (tags .entry)) (now (homes .entry)) used) .homes ⌝ }
+{
+    let none = [0u16; 0];
+    work_by(kind, bytes, glyphs, tags, homes, used, &none)
 }
 
 // Whether the subtable of a kind that the bytes begin with can be opened.
@@ -471,6 +492,89 @@ pub fn pass(
     }
     let bytes = parse::from(table, start);
     work(kind_at(edition, bytes), bytes, glyphs, tags, homes, used)
+}
+
+// Whether a kind has a class table.
+fn has_classes(kind: Kind) -> bool
+    ensures { λ r. ⌜ r ≡ hasClasses kind ⌝ }
+{
+    match kind {
+        Kind::Rearrangement => true,
+        Kind::Contextual => true,
+        Kind::Ligature => true,
+        Kind::NonContextual => false,
+        Kind::Insertion => true,
+        Kind::OldRearrangement => false,
+        Kind::OldNonContextual => false,
+        Kind::LeftOut => false,
+    }
+}
+
+// The tests before a pass by an index: TABLE, LINE, HEAD, INDEX.
+fn refuse_indexed(
+    table_length: usize,
+    glyphs: &[u16],
+    tags: &[u16],
+    homes: &[u16],
+    used: usize,
+    opens: bool,
+    entries: usize,
+    another: bool,
+) -> Check
+    ensures { λ r. ⌜ r ≡ refuse (indexedTests «table_length» (lineOf (now (glyphs .entry)) (now (tags .entry)) (now (homes .entry)) used) opens entries another) ⌝ }
+{
+    if let Check::Refused(why) = machine::refuse_pass(
+        table_length,
+        glyphs,
+        tags,
+        homes,
+        used,
+        opens,
+    ) {
+        return Check::Refused(why);
+    }
+    if indexes::is_refused(entries, another) {
+        return Check::Refused(Refusal::Index);
+    }
+    Check::Passed
+}
+
+// The pass over a line, by the morx subtable at `start`, of whatever kind, and an index of the class table that begins at `class_start`.
+pub fn pass_indexed(
+    table: &[u8],
+    start: usize,
+    glyphs: &mut [u16],
+    tags: &mut [u16],
+    homes: &mut [u16],
+    used: usize,
+    index: &[u16],
+    class_start: usize,
+) -> PassReply
+    ensures reply { λ r. ⌜ r ≡ passReplyOf (indexedCall (now (table .entry)) start (lineOf (now (glyphs .entry)) (now (tags .entry)) (now (homes .entry)) used) (now (index .entry)) «class_start») (lineOf (now (glyphs .entry)) (now (tags .entry)) (now (homes .entry)) used) ⌝ }
+    ensures glyphs { λ _. ⌜ now (glyphs .exit) ≡ indexedLeaves (now (table .entry)) start (lineOf (now (glyphs .entry)) (now (tags .entry)) (now (homes .entry)) used) (now (index .entry)) «class_start» .glyphs ⌝ }
+    ensures tags { λ _. ⌜ now (tags .exit) ≡ indexedLeaves (now (table .entry)) start (lineOf (now (glyphs .entry)) (now (tags .entry)) (now (homes .entry)) used) (now (index .entry)) «class_start» .tags ⌝ }
+    ensures homes { λ _. ⌜ now (homes .exit) ≡ indexedLeaves (now (table .entry)) start (lineOf (now (glyphs .entry)) (now (tags .entry)) (now (homes .entry)) used) (now (index .entry)) «class_start» .homes ⌝ }
+{
+    let bytes = parse::from(table, start);
+    let kind = new_kind_at(bytes);
+    let body = parse::from(bytes, 12);
+    let another = indexes::is_another(has_classes(kind), body, start, class_start);
+    if let Check::Refused(why) = refuse_indexed(
+        table.len(),
+        glyphs,
+        tags,
+        homes,
+        used,
+        opens(kind, bytes),
+        index.len(),
+        another,
+    ) {
+        return PassReply {
+            answer: Answer::Refused(why),
+            used,
+        };
+    }
+    work_by(kind, bytes, glyphs, tags, homes, used, index)
 }
 
 // The tests before a run: TABLE, REQUEST, LINE, HEAD.

@@ -44,6 +44,8 @@ use Rattle.contextual.proofs.Manual.{by-manual, past-manual, contextual-drops}
 use Rattle.noncontextual.proofs.Reasons.{noncontextual-drops}
 use Rattle.ligature.proofs.Manual.{action-by-manual, action-past-manual, component-by-manual, component-past-manual, ligature-by-manual, ligature-past-manual}
 use Rattle.insertion.proofs.Manual.{glyphs-by-manual, list-by-manual, list-past-manual, list-at-end}
+use Rattle.indexes.proofs.Same.{filled-right}
+use Rattle.morx.proofs.SameIndex.{same-call, fill-then-pass}
 use Rattle.chains.proofs.ManualWalk.{walk-as-manual}
 use Rattle.chains.proofs.ManualFlags.{features-ended}
 use Rattle.chains.proofs.Manual.{order-as-manual, reverse-as-manual, orders-as-manual, reverses-as-manual, vertical-as-manual, chain-as-manual, chains-end, feature-as-manual, features-end, subtable-as-manual, subtables-end}
@@ -63,11 +65,12 @@ use Rattle.kerx.proofs.Manual.{kerx-as-manual, kerx-without-list, kerx-pair-as-
 use Rattle.kerx.proofs.ManualMarks.{marks-as-manual}
 use Rattle.kerx.proofs.Plain.{anchored-run, anchored-pass}
 use Rattle.kerx.proofs.Marked.{call-exact, run-in-range}
+use Rattle.kerx.proofs.SameIndex.{same-kerx-call, fill-then-kerx-pass}
 use Rattle.anchors.proofs.Manual.{points-as-manual}
 use Rattle.anchor_machine.proofs.Manual.{record-by-manual, record-past-manual}
 use Rattle.anchor_machine.proofs.Exactly.{offset-exact}
 use Rattle.promises.specs.Demand1.{Demand1}
-use Rattle.promises.specs.Demand2.{Lookups, Reasons, Mends, StateTables, Verbs, SubtableLists, Chains, Older, Features, Kerning, Choosing, Marks, Demand2}
+use Rattle.promises.specs.Demand2.{Lookups, Reasons, Mends, StateTables, Verbs, SubtableLists, Chains, Older, Features, Indexes, Kerning, Choosing, Marks, Demand2}
 use Rattle.promises.specs.Demand3.{Stored, Demand3}
 use Rattle.promises.proofs.Reels.{reels}
 use Rattle.promises.proofs.Known.{known-answers, known-reasons, known-pairs}
@@ -206,6 +209,16 @@ older =
 features : Features
 features = record { no-requests = no-requests; any-order = any-order; flags-as-manual = flags-as-manual; features-ended = features-ended }
 
+indexes : Indexes
+indexes =
+    record {
+      same-call = same-call;
+      filled-right = filled-right;
+      fill-then-pass = fill-then-pass;
+      same-kerx-call = same-kerx-call;
+      fill-then-kerx-pass = fill-then-kerx-pass;
+    }
+
 kerning : Kerning
 kerning =
     record {
@@ -265,6 +278,7 @@ demand2 =
       chains = chains;
       older = older;
       features = features;
+      indexes = indexes;
       kerning = kerning;
       choosing = choosing;
       marks = marks;

@@ -48,6 +48,11 @@ use Rattle.state_tables.specs.declared.States.{States}
 use Rattle.state_tables.specs.declared.Made.the-variants.{Ready, Short}
 use Rattle.ltag.specs.Ltag.{languageIndex}
 use Rattle.ltag.specs.Manual as Ltag
+use Rattle.machine.specs.Head.{bodyOf}
+use Rattle.indexes.specs.Index.{classesBelow, fillCall, indexTest, isAnother}
+use Rattle.morx.specs.Kinds.{kindAt, anySubtable}
+use Rattle.morx.specs.Indexed.{hasClasses, indexedCall}
+use Rattle.morx.specs.RightIndex.{Right}
 use Rattle.verbs.specs.Verbs.{placeOf, fromOf, rearranged}
 use Rattle.verbs.specs.Drawn.{AsDrawn}
 use Rattle.noncontextual.specs.NonContextual as NonContextual
@@ -73,10 +78,9 @@ use Rattle.chains.specs.declared.NextChain.the-variants as Chain
 use Rattle.chains.specs.declared.NextFeature.the-variants as Feature
 use Rattle.chains.specs.declared.NextSubtable.the-variants as Subtable
 use Rattle.line.specs.Line.{Line}
-use Rattle.machine.specs.Machine.{passed, callLeaves}
+use Rattle.machine.specs.Machine.{passed, passCall, callLeaves}
 use Rattle.rearrangement.specs.Calls.{rearrangement}
 use Rattle.mort.specs.Mort.{hasKind, oldRearrangement, oldNonContextual}
-use Rattle.morx.specs.Kinds.{anySubtable}
 use Rattle.morx.specs.Run.{choosing}
 use Rattle.morx.specs.Calls.{requestLimit, runCall, runLeaves}
 use Rattle.morx.specs.Defaults.{callByDefaults}
@@ -129,6 +133,8 @@ use Rattle.kerning_lists.specs.declared.Head.the-variants as Head
 use Rattle.kerx.specs.Heads.{headIn}
 use Rattle.kerx.specs.Anchored.{adding, machineOf}
 use Rattle.kerx.specs.Anchored as Anchored
+use Rattle.kerx.specs.Indexed as KerxIndexed
+use Rattle.kerx.specs.RightIndex as KerxIndex
 use Rattle.kerx.specs.Range.{InRange}
 use Rattle.promises.specs.Known.{AllKnown, KnownReasons, KnownPairs}
 use Rattle.promises.specs.KnownMarks.{KnownMarks}
@@ -359,6 +365,32 @@ pub record Features : Type 0 where
   -- and in every table there is such an end
   pub features-ended : (edition : Edition) (table : List ℕ) (chain : ℕ) → (n : ℕ) × EndsAt table 12 (featurePlace edition chain) (featureTotal edition table chain) n
 
+-- Indexes of classes.
+pub record Indexes : Type 0 where
+  -- where each entry is that glyph's class, and INDEX refuses nothing, the call by an index is the plain one, whatever it answers
+  pub same-call : (table : List ℕ) (start : ℕ) (l : Line) (index : List ℕ) (classStart : ℕ) → Right table start index
+      → indexTest (length index) (isAnother (hasClasses (kindAt Morx (drop start table))) (bodyOf (drop start table)) start classStart) .holds ≡ false
+      → indexedCall table start l index classStart ≡ passCall (anySubtable Morx) table start l
+  -- the filler makes it so
+  pub filled-right : (bytes : List ℕ) (states : States) (entries glyph : ℕ) → glyph < length (classesBelow bytes states entries)
+      → getD (classesBelow bytes states entries) glyph 0 ≡ classOf bytes states glyph
+  -- fill, then pass, is the plain pass
+  pub fill-then-pass : (table : List ℕ) (start : ℕ) (index : List ℕ) (was : ℕ) (l : Line) → hasClasses (kindAt Morx (drop start table)) ≡ true
+      → fillCall table (start + 12) Crate index was .answer ≡ Done
+      → indexedCall table start l (fillCall table (start + 12) Crate index was .index) (fillCall table (start + 12) Crate index was .start)
+      ≡ passCall (anySubtable Morx) table start l
+  -- so is kerx's, by a subtable with a machine, in either reading: by a right index, and by one just filled in that reading
+  pub same-kerx-call : (table ankr : List ℕ) (start version : ℕ) (l : Line) (along x y : List ℤ) (back : List ℕ) (choices : Choices′.Choices) (index : List ℕ)
+      (classStart : ℕ) → KerxIndex.HasMachine table start version → KerxIndex.Right table start (choices .reading) index
+      → indexTest (length index) (isAnother true (bodyOf (drop start table)) start classStart) .holds ≡ false
+      → KerxIndexed.indexedCall table ankr start version l along x y back (choices .reading) index classStart
+      ≡ Anchored.passCall table ankr start version l along x y back choices
+  pub fill-then-kerx-pass : (table ankr : List ℕ) (start version : ℕ) (l : Line) (along x y : List ℤ) (back : List ℕ) (choices : Choices′.Choices) (index : List ℕ)
+      (was : ℕ) → KerxIndex.HasMachine table start version → fillCall table (start + 12) (choices .reading) index was .answer ≡ Done
+      → KerxIndexed.indexedCall table ankr start version l along x y back (choices .reading) (fillCall table (start + 12) (choices .reading) index was .index)
+      (fillCall table (start + 12) (choices .reading) index was .start)
+      ≡ Anchored.passCall table ankr start version l along x y back choices
+
 -- kern and kerx.
 pub record Kerning : Type 0 where
   -- kern's subtable k begins behind the lengths that the heads before it tell, in both editions, and is in the walk exactly when it is counted and those
@@ -486,6 +518,7 @@ pub record Demand2 : Type 0 where
   pub chains : Chains
   pub older : Older
   pub features : Features
+  pub indexes : Indexes
   pub kerning : Kerning
   pub choosing : Choosing
   pub marks : Marks

@@ -2,7 +2,7 @@
 use Prim.Native.Nat.{ℕ, _+_, _*_, _-_, _<_, _≤_}
 use mathlib.Core.Path.{_≡_, refl, sym, _∙_, ap, subst, subst⁻¹}
 use mathlib.Core.Bool.{Bool, true, false}
-use mathlib.Core.List.{List}
+use mathlib.Core.List.{List, []}
 use native.Mathlib.Omega.{arith}
 use lib.Dec.{eqb}
 use lib.ListN.{length, getD}
@@ -24,10 +24,12 @@ use Rattle.laws.specs.Bits.{isSet}
 use Rattle.machine.specs.Entry.{classHere}
 use Rattle.machine.specs.Stall.{stalled}
 use Rattle.machine.specs.Pass.{deleted, isDone}
-use Rattle.machine.specs.Machine.{passedBy, passed}
+use Rattle.machine.specs.Machine.{Machine, passedBy, passed}
 use Rattle.machine.specs.Work.{passedLeaves}
 use Rattle.machine.proofs.Stalls.{stall-falls}
 use Rattle.machine.proofs.Passing.{Passing, Over, passing-start, passing-step, passing-stop, passing-end}
+use Rattle.indexes.specs.Index.{classesBy, indexed}
+use Rattle.indexes.proofs.Laws.{past-index, indexed-none, opened-index}
 use Rattle.rearrangement.specs.Rearrangement.{fresh, acted, unmoved, next, changesOf}
 use Rattle.rearrangement.specs.Calls.{rearrangement}
 use Rattle.rearrangement.specs.declared.RearrangementState.{RearrangementState}
@@ -67,6 +69,12 @@ acted-done : (s : RearrangementState) (entry : Entry) (index : ℕ) {step : Rear
 unfolding acted
 acted-done s entry index a = rw (a, acted)
 
+-- at end of text the classes are not asked
+any-end : (f h : ℕ → ℕ) (bytes : List ℕ) (states : States) (s : RearrangementState) (index glyph : ℕ)
+    → next f bytes states s index glyph true ≡ next h bytes states s index glyph true
+unfolding next classHere
+any-end f h bytes states s index glyph = refl
+
 -- the place of the next step: the same, or the next one
 abbrev pub placeAfter : (stays : Bool) → (place : ℕ) → ℕ
 placeAfter true place = place
@@ -79,15 +87,15 @@ after-one advance place h = go (eqb advance 0) refl
     go true e = omega (arith, eqb-true advance 0 e)
     go false e = omega (arith, eqb-false advance 0 e)
 
-module _ (bytes : List ℕ) (states : States) (l₀ : Line) where
+module _ (index bytes : List ℕ) (states : States) (l₀ : Line) where
   abbrev classes : ℕ → ℕ
-  classes = classOf bytes states
+  classes = classesBy index (classOf bytes states)
 
   -- what the loops know at place i
   pub record Going (opened : Classes) (memo glyphs tags homes : List ℕ) (used : ℕ) (s : RearrangementState) (i : ℕ) : Type 0 where
     pub table : opened ≡ openedClasses bytes (states .edition)
     pub remembers : Remembers (classBy bytes opened) memo
-    pub passing : Passing (rearrangement .step classes bytes states) (rearrangement .rest) l₀ (passed rearrangement bytes states l₀) s (lineOf glyphs tags homes used) i
+    pub passing : Passing (rearrangement .step classes bytes states) (rearrangement .rest) l₀ (passed (indexed index rearrangement) bytes states l₀) s (lineOf glyphs tags homes used) i
     pub cycles : s .cycles ≤ 17
     pub within : i ≤ used
     pub long-glyphs : length glyphs ≡ length (l₀ .glyphs)
@@ -95,9 +103,9 @@ module _ (bytes : List ℕ) (states : States) (l₀ : Line) where
 
   -- what a pass that ends here answers and leaves
   pub record Ends (answer : Answer) (glyphs tags : List ℕ) : Type 0 where
-    pub answers : answer ≡ passed rearrangement bytes states l₀ .answer
-    pub glyphs-left : glyphs ≡ passedLeaves rearrangement bytes states l₀ .glyphs
-    pub tags-left : tags ≡ passedLeaves rearrangement bytes states l₀ .tags
+    pub answers : answer ≡ passed (indexed index rearrangement) bytes states l₀ .answer
+    pub glyphs-left : glyphs ≡ passedLeaves (indexed index rearrangement) bytes states l₀ .glyphs
+    pub tags-left : tags ≡ passedLeaves (indexed index rearrangement) bytes states l₀ .tags
 
   module _ {opened : Classes} {memo glyphs tags homes : List ℕ} {used : ℕ} {s : RearrangementState} {i : ℕ} (g : Going opened memo glyphs tags homes used s i) where
     abbrev here : Line
@@ -110,7 +118,7 @@ module _ (bytes : List ℕ) (states : States) (l₀ : Line) where
     going-lies = subst⁻¹ (LiesIn bytes) (g .table) (classes-lie bytes (states .edition))
 
     abbrev OverBy : RearrangementStep → Type 0
-    OverBy step = Over (rearrangement .step classes bytes states) (rearrangement .rest) l₀ (passed rearrangement bytes states l₀) (step .answer) (applyAll (changesOf (step .edit)) here)
+    OverBy step = Over (rearrangement .step classes bytes states) (rearrangement .rest) l₀ (passed (indexed index rearrangement) bytes states l₀) (step .answer) (applyAll (changesOf (step .edit)) here)
 
     ends : {glyphs′ tags′ : List ℕ} (step : RearrangementStep) → OverBy step → glyphs′ ≡ applyAll (changesOf (step .edit)) here .glyphs
         → tags′ ≡ applyAll (changesOf (step .edit)) here .tags → Ends (step .answer) glyphs′ tags′
@@ -123,9 +131,9 @@ module _ (bytes : List ℕ) (states : States) (l₀ : Line) where
         }
 
     -- the end call
-    pub going-end : {step : RearrangementStep} {glyphs′ tags′ : List ℕ} → used ≤ i → step ≡ next classes bytes states s used deleted true
+    pub going-end : {step : RearrangementStep} {glyphs′ tags′ : List ℕ} → used ≤ i → step ≡ next (classOf bytes states) bytes states s used deleted true
         → glyphs′ ≡ applyAll (changesOf (step .edit)) here .glyphs → tags′ ≡ applyAll (changesOf (step .edit)) here .tags → Ends (step .answer) glyphs′ tags′
-    going-end {step} h e = ends step (subst⁻¹ OverBy e (passing-end (rearrangement .step classes bytes states) (rearrangement .rest) l₀ (passed rearrangement bytes states l₀) (g .passing) some h))
+    going-end {step} h e = ends step (subst⁻¹ OverBy (e ∙ any-end (classOf bytes states) classes bytes states s used deleted) (passing-end (rearrangement .step classes bytes states) (rearrangement .rest) l₀ (passed (indexed index rearrangement) bytes states l₀) (g .passing) some h))
 
     -- the step at place i
     abbrev at : RearrangementStep
@@ -156,8 +164,8 @@ module _ (bytes : List ℕ) (states : States) (l₀ : Line) where
             table = g .table;
             remembers = m;
             passing =
-                subst⁻¹ (λ (l : Line). Passing (rearrangement .step classes bytes states) (rearrangement .rest) l₀ (passed rearrangement bytes states l₀) (at .state) l (i + at .advance)) line
-                (passing-step (rearrangement .step classes bytes states) (rearrangement .rest) l₀ (passed rearrangement bytes states l₀) (g .passing) some h done
+                subst⁻¹ (λ (l : Line). Passing (rearrangement .step classes bytes states) (rearrangement .rest) l₀ (passed (indexed index rearrangement) bytes states l₀) (at .state) l (i + at .advance)) line
+                (passing-step (rearrangement .step classes bytes states) (rearrangement .rest) l₀ (passed (indexed index rearrangement) bytes states l₀) (g .passing) some h done
                 (omega (arith, falls .less, used-same, c, a)));
             cycles = omega (arith, falls .sound, c);
             within = omega (arith, falls .within, a);
@@ -166,9 +174,9 @@ module _ (bytes : List ℕ) (states : States) (l₀ : Line) where
           }
 
       -- by what the code reads there
-      module _ {class : ℕ} {entered : Entered} (k : class ≡ classBy bytes opened (getD glyphs i 0)) (r : entered ≡ entryOf bytes states (s .state) class 0) where
+      module _ {class : ℕ} {entered : Entered} (k : class ≡ classesBy index (classBy bytes opened) (getD glyphs i 0)) (r : entered ≡ entryOf bytes states (s .state) class 0) where
         class-here : class ≡ classes (getD glyphs i 0)
-        class-here = k ∙ ap (λ (t : Classes). classBy bytes t (getD glyphs i 0)) (g .table) ∙ classes-same bytes states (getD glyphs i 0)
+        class-here = k ∙ ap (λ (f : ℕ → ℕ). f (getD glyphs i 0)) (opened-index index bytes states (g .table))
 
         -- no entry
         ended-at : entered ≡ Entered′.Ended → unmoved s Answer′.Ended ≡ at
@@ -180,7 +188,7 @@ module _ (bytes : List ℕ) (states : States) (l₀ : Line) where
         going-ended f =
             ends (unmoved s Answer′.Ended)
             (subst⁻¹ OverBy (ended-at f)
-            (passing-stop (rearrangement .step classes bytes states) (rearrangement .rest) l₀ (passed rearrangement bytes states l₀) (g .passing) some h
+            (passing-stop (rearrangement .step classes bytes states) (rearrangement .rest) l₀ (passed (indexed index rearrangement) bytes states l₀) (g .passing) some h
             (subst (λ (t : RearrangementStep). isDone (t .answer) ≡ false) (ended-at f) refl)))
             refl refl
 
@@ -215,42 +223,54 @@ module _ (bytes : List ℕ) (states : States) (l₀ : Line) where
               lg lt))
 
 -- the steps at one place lead on, whatever line the pass began with
-pub record Staying (bytes : List ℕ) (states : States) (opened : Classes) (homes : List ℕ) (used place : ℕ) (memo₀ glyphs₀ tags₀ : List ℕ) (s₀ : RearrangementState)
+pub record Staying (index bytes : List ℕ) (states : States) (opened : Classes) (homes : List ℕ) (used place : ℕ) (memo₀ glyphs₀ tags₀ : List ℕ) (s₀ : RearrangementState)
     (memo glyphs tags : List ℕ) (s : RearrangementState) (stays : Bool) : Type 0 where
-  pub leads : (l₀ : Line) → Going bytes states l₀ opened memo₀ glyphs₀ tags₀ homes used s₀ place
-      → Going bytes states l₀ opened memo glyphs tags homes used s (placeAfter stays place)
+  pub leads : (l₀ : Line) → Going index bytes states l₀ opened memo₀ glyphs₀ tags₀ homes used s₀ place
+      → Going index bytes states l₀ opened memo glyphs tags homes used s (placeAfter stays place)
 
-module _ {bytes : List ℕ} {states : States} {opened : Classes} {homes : List ℕ} {used place : ℕ} {memo₀ glyphs₀ tags₀ : List ℕ} {s₀ : RearrangementState}
+module _ {index bytes : List ℕ} {states : States} {opened : Classes} {homes : List ℕ} {used place : ℕ} {memo₀ glyphs₀ tags₀ : List ℕ} {s₀ : RearrangementState}
     {memo glyphs tags : List ℕ} {s : RearrangementState} {stays : Bool}
-    (t : Staying bytes states opened homes used place memo₀ glyphs₀ tags₀ s₀ memo glyphs tags s stays) {l₀ : Line}
-    (g : Going bytes states l₀ opened memo₀ glyphs₀ tags₀ homes used s₀ place) where
-  led : (b : Bool) → stays ≡ b → Going bytes states l₀ opened memo glyphs tags homes used s (placeAfter b place)
-  led b e = subst (λ (x : Bool). Going bytes states l₀ opened memo glyphs tags homes used s (placeAfter x place)) e (t .leads l₀ g)
+    (t : Staying index bytes states opened homes used place memo₀ glyphs₀ tags₀ s₀ memo glyphs tags s stays) {l₀ : Line}
+    (g : Going index bytes states l₀ opened memo₀ glyphs₀ tags₀ homes used s₀ place) where
+  led : (b : Bool) → stays ≡ b → Going index bytes states l₀ opened memo glyphs tags homes used s (placeAfter b place)
+  led b e = subst (λ (x : Bool). Going index bytes states l₀ opened memo glyphs tags homes used s (placeAfter x place)) e (t .leads l₀ g)
 
-  pub still-here : stays ≡ true → Going bytes states l₀ opened memo glyphs tags homes used s place
+  pub still-here : stays ≡ true → Going index bytes states l₀ opened memo glyphs tags homes used s place
   still-here = led true
 
-  pub moved-on : stays ≡ false → Going bytes states l₀ opened memo glyphs tags homes used s (place + 1)
+  pub moved-on : stays ≡ false → Going index bytes states l₀ opened memo glyphs tags homes used s (place + 1)
   moved-on = led false
 
-pub going-start : (bytes : List ℕ) (states : States) (glyphs tags homes : List ℕ) (used : ℕ) {opened : Classes} {memo : List ℕ} {s : RearrangementState}
+pub going-start : (index bytes : List ℕ) (states : States) (glyphs tags homes : List ℕ) (used : ℕ) {opened : Classes} {memo : List ℕ} {s : RearrangementState}
     → opened ≡ openedClasses bytes (states .edition) → memo ≡ nothingFound → s ≡ fresh
-    → Going bytes states (lineOf glyphs tags homes used) opened memo glyphs tags homes used s 0
+    → Going index bytes states (lineOf glyphs tags homes used) opened memo glyphs tags homes used s 0
 unfolding passed passedBy
-going-start bytes states glyphs tags homes used {opened} {memo} o m e =
-    subst⁻¹ (λ (r : RearrangementState). Going bytes states (lineOf glyphs tags homes used) opened memo glyphs tags homes used r 0) e
+going-start index bytes states glyphs tags homes used {opened} {memo} o m e =
+    subst⁻¹ (λ (r : RearrangementState). Going index bytes states (lineOf glyphs tags homes used) opened memo glyphs tags homes used r 0) e
     (record {
       table = o;
       remembers = subst⁻¹ (Remembers (classBy bytes opened)) m (nothing-remembered (deleted-class bytes opened));
-      passing = passing-start (rearrangement .step (classOf bytes states) bytes states) (rearrangement .rest) _ fresh (lineOf glyphs tags homes used) (omega arith);
+      passing = passing-start (rearrangement .step (classesBy index (classOf bytes states)) bytes states) (rearrangement .rest) _ fresh (lineOf glyphs tags homes used) (omega arith);
       cycles = omega arith;
       within = omega arith;
       long-glyphs = refl;
       long-tags = refl;
     })
 
--- a class that was read where it lies is that of the class table as it is opened
+-- a class that was read where it lies is that of the class table as it is opened, without an index
 pub class-lent : (bytes : List ℕ) (states : States) (glyph : ℕ) {class : ℕ} → class ≡ classHere (classOf bytes states) glyph false
-    → class ≡ classBy bytes (openedClasses bytes (states .edition)) glyph
+    → class ≡ classesBy [] (classBy bytes (openedClasses bytes (states .edition))) glyph
 unfolding classHere
-class-lent bytes states glyph e = e ∙ sym (classes-same bytes states glyph)
+class-lent bytes states glyph e =
+    e ∙ sym (classes-same bytes states glyph) ∙ past-index [] (classBy bytes (openedClasses bytes (states .edition))) glyph (omega arith)
+
+-- a pass that ends without an index is the plain one
+module _ {bytes : List ℕ} {states : States} {l₀ : Line} {answer : Answer} {glyphs tags : List ℕ} (e : Ends [] bytes states l₀ answer glyphs tags) where
+  pub lent-answers : answer ≡ passed rearrangement bytes states l₀ .answer
+  lent-answers = e .answers ∙ ap (λ (m : Machine RearrangementState). passed m bytes states l₀ .answer) (indexed-none rearrangement [] refl)
+
+  pub lent-glyphs : glyphs ≡ passedLeaves rearrangement bytes states l₀ .glyphs
+  lent-glyphs = e .glyphs-left ∙ ap (λ (m : Machine RearrangementState). passedLeaves m bytes states l₀ .glyphs) (indexed-none rearrangement [] refl)
+
+  pub lent-tags : tags ≡ passedLeaves rearrangement bytes states l₀ .tags
+  lent-tags = e .tags-left ∙ ap (λ (m : Machine RearrangementState). passedLeaves m bytes states l₀ .tags) (indexed-none rearrangement [] refl)

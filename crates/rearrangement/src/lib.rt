@@ -25,6 +25,7 @@ ghost use Rattle.rearrangement.specs.Calls.{stateTests, rearrangement, l
 ghost use Rattle.machine.specs.Call.{stepTests};
 ghost use Rattle.machine.specs.Machine.{passed, subtableOf, passCall, callLeaves};
 ghost use Rattle.machine.specs.Work.{passedLeaves, workLeaves};
+ghost use Rattle.indexes.specs.Index.{classesBy, indexed};
 
 pub mod lent;
 
@@ -238,7 +239,19 @@ fn class_now(bytes: &[u8], opened: Classes, memo: &mut [u32; 64], glyph: u16) ->
     opened::class_in_words(bytes, base, first, count, glyph)
 }
 
-// The pass over a line that LINE has taken, with the bytes from the state table on.
+// The class of a glyph: by the index, where that reaches it.
+fn class_by(bytes: &[u8], opened: Classes, memo: &mut [u32; 64], glyph: u16, index: &[u16]) -> u16
+    requires { ⌜ LiesIn (now bytes) opened × Remembers (classBy (now bytes) opened) (now memo) ⌝ }
+    ensures class { λ r. ⌜ r ≡ classesBy (now (index .entry)) (classBy (now (bytes .entry)) opened) glyph ⌝ }
+    ensures memo { λ _. ⌜ Remembers (classBy (now (bytes .entry)) opened) (now (memo .exit)) ⌝ }
+{
+    if (glyph as usize) < index.len() {
+        return index[glyph as usize];
+    }
+    class_now(bytes, opened, memo, glyph)
+}
+
+// The pass over a line that LINE has taken, with the bytes from the state table on, by the classes of an index.
 fn pass_line(
     bytes: &[u8],
     states: States,
@@ -246,11 +259,12 @@ fn pass_line(
     tags: &mut [u16],
     homes: &[u16],
     used: usize,
+    index: &[u16],
 ) -> Answer
     requires { ⌜ (used ≤ length (now glyphs)) × (used ≤ length (now tags)) × (used ≤ roomLimit) ⌝ }
-    ensures answer { λ r. ⌜ r ≡ passed rearrangement (now (bytes .entry)) states (lineOf (now (glyphs .entry)) (now (tags .entry)) (now (homes .entry)) used) .answer ⌝ }
-    ensures glyphs { λ _. ⌜ now (glyphs .exit) ≡ passedLeaves rearrangement (now (bytes .entry)) states (lineOf (now (glyphs .entry)) (now (tags .entry)) (now (homes .entry)) used) .glyphs ⌝ }
-    ensures tags { λ _. ⌜ now (tags .exit) ≡ passedLeaves rearrangement (now (bytes .entry)) states (lineOf (now (glyphs .entry)) (now (tags .entry)) (now (homes .entry)) used) .tags ⌝ }
+    ensures answer { λ r. ⌜ r ≡ passed (indexed (now (index .entry)) rearrangement) (now (bytes .entry)) states (lineOf (now (glyphs .entry)) (now (tags .entry)) (now (homes .entry)) used) .answer ⌝ }
+    ensures glyphs { λ _. ⌜ now (glyphs .exit) ≡ passedLeaves (indexed (now (index .entry)) rearrangement) (now (bytes .entry)) states (lineOf (now (glyphs .entry)) (now (tags .entry)) (now (homes .entry)) used) .glyphs ⌝ }
+    ensures tags { λ _. ⌜ now (tags .exit) ≡ passedLeaves (indexed (now (index .entry)) rearrangement) (now (bytes .entry)) states (lineOf (now (glyphs .entry)) (now (tags .entry)) (now (homes .entry)) used) .tags ⌝ }
 {
     let opened = opened::open(bytes, states);
     let mut memo = opened::nothing_found();
@@ -261,7 +275,7 @@ fn pass_line(
         let mut stays = true;
         while stays {
             // What `next` does, written out: as a call of its own its answer would go through memory.
-            let class = class_now(bytes, opened, &mut memo, glyphs[place]);
+            let class = class_by(bytes, opened, &mut memo, glyphs[place], index);
             let Entered::At(entry) = entries::entry_of(bytes, states, state.state, class, 0) else {
                 return Answer::Ended;
             };
@@ -279,7 +293,35 @@ fn pass_line(
     step.answer
 }
 
-// The pass over a line that LINE has taken, by the subtable that the bytes begin with; HEAD where it can't be opened.
+// The pass over a line that LINE has taken, by the subtable that the bytes begin with and the classes of an index; HEAD where it can't be opened.
+pub fn work_by(
+    bytes: &[u8],
+    glyphs: &mut [u16],
+    tags: &mut [u16],
+    homes: &[u16],
+    used: usize,
+    index: &[u16],
+) -> Answer
+    requires { ⌜ (used ≤ length (now glyphs)) × (used ≤ length (now tags)) × (used ≤ roomLimit) ⌝ }
+    ensures answer { λ r. ⌜ r ≡ subtableOf (indexed (now (index .entry)) rearrangement) .worked (now (bytes .entry)) (lineOf (now (glyphs .entry)) (now (tags .entry)) (now (homes .entry)) used) .answer ⌝ }
+    ensures glyphs { λ _. ⌜ now (glyphs .exit) ≡ workLeaves (subtableOf (indexed (now (index .entry)) rearrangement)) (now (bytes .entry)) (lineOf (now (glyphs .entry)) (now (tags .entry)) (now (homes .entry)) used) .glyphs ⌝ }
+    ensures tags { λ _. ⌜ now (tags .exit) ≡ workLeaves (subtableOf (indexed (now (index .entry)) rearrangement)) (now (bytes .entry)) (lineOf (now (glyphs .entry)) (now (tags .entry)) (now (homes .entry)) used) .tags ⌝ }
+{
+    let Made::Ready(states) = machine::open(bytes, RearrangementState::KIND) else {
+        return Answer::Refused(Refusal::Head);
+    };
+    pass_line(
+        parse::from(bytes, 12),
+        states,
+        glyphs,
+        tags,
+        homes,
+        used,
+        index,
+    )
+}
+
+// The pass over a line that LINE has taken, by the subtable's own classes.
 pub fn work(
     bytes: &[u8],
     glyphs: &mut [u16],
@@ -292,10 +334,8 @@ pub fn work(
     ensures glyphs { λ _. ⌜ now (glyphs .exit) ≡ workLeaves (subtableOf rearrangement) (now (bytes .entry)) (lineOf (now (glyphs .entry)) (now (tags .entry)) (now (homes .entry)) used) .glyphs ⌝ }
     ensures tags { λ _. ⌜ now (tags .exit) ≡ workLeaves (subtableOf rearrangement) (now (bytes .entry)) (lineOf (now (glyphs .entry)) (now (tags .entry)) (now (homes .entry)) used) .tags ⌝ }
 {
-    let Made::Ready(states) = machine::open(bytes, RearrangementState::KIND) else {
-        return Answer::Refused(Refusal::Head);
-    };
-    pass_line(parse::from(bytes, 12), states, glyphs, tags, homes, used)
+    let none = [0u16; 0];
+    work_by(bytes, glyphs, tags, homes, used, &none)
 }
 
 // The pass over a line, by the subtable at `start`.

@@ -12,19 +12,19 @@ use Rattle.anchor_machine.proofs.pass_line.Statement.{statement}
 use Rattle.anchor_machine.proofs.pass_line.Tie as tie
 
 abbrev Inv-loop2 : tie.InvT-loop2
-Inv-loop2 ankr bytes anchoring glyphs used x₀ y₀ back₀ states opened memo₀ state₀ place stays₀ x y back memo state stays =
-    Staying ankr bytes anchoring glyphs used opened place memo₀ x₀ y₀ back₀ state₀ memo x y back state stays
+Inv-loop2 ankr bytes anchoring glyphs used x₀ y₀ back₀ index states opened memo₀ state₀ place stays₀ x y back memo state stays =
+    Staying index ankr bytes anchoring glyphs used opened place memo₀ x₀ y₀ back₀ state₀ memo x y back state stays
 
 abbrev μ-loop2 : tie.MeasureT-loop2
-μ-loop2 ankr bytes anchoring glyphs used x₀ y₀ back₀ states opened memo₀ state₀ place stays₀ x y back memo state stays =
+μ-loop2 ankr bytes anchoring glyphs used x₀ y₀ back₀ index states opened memo₀ state₀ place stays₀ x y back memo state stays =
     rest used state (placeAfter stays place)
 
 abbrev Inv-loop : tie.InvT-loop
-Inv-loop ankr bytes anchoring glyphs used x₀ y₀ back₀ states opened memo₀ state₀ place₀ x y back memo state place =
-    Going ankr bytes anchoring glyphs used x₀ y₀ back₀ opened memo x y back state place
+Inv-loop ankr bytes anchoring glyphs used x₀ y₀ back₀ index states opened memo₀ state₀ place₀ x y back memo state place =
+    Going index ankr bytes anchoring glyphs used x₀ y₀ back₀ opened memo x y back state place
 
 abbrev μ-loop : tie.MeasureT-loop
-μ-loop ankr bytes anchoring glyphs used x₀ y₀ back₀ states opened memo₀ state₀ place₀ x y back memo state place =
+μ-loop ankr bytes anchoring glyphs used x₀ y₀ back₀ index states opened memo₀ state₀ place₀ x y back memo state place =
     used - place
 
 open-requires : tie.Need-open-requires Inv-loop2 μ-loop2 Inv-loop μ-loop
@@ -37,26 +37,26 @@ new-requires : tie.Need-new-requires Inv-loop2 μ-loop2 Inv-loop μ-loop
 new-requires c κs = search needs
 
 loop-holds : tie.Need-loop-holds Inv-loop2 μ-loop2 Inv-loop μ-loop
-loop-holds c = going-start _ _ _ _ _ _ _ _ (c .before .before .«open» .ensures) (c .before .nothing-found .ensures) (c .new .ensures)
+loop-holds c = going-start _ _ _ _ _ _ _ _ _ (c .before .before .«open» .ensures) (c .before .nothing-found .ensures) (c .new .ensures)
 
 loop2-holds : tie.Need-loop2-holds Inv-loop2 μ-loop2 Inv-loop μ-loop
 loop2-holds c = record { leads = λ x₀ y₀ back₀ g. g }
 
-mul-class-now : tie.Need-mul-class-now Inv-loop2 μ-loop2 Inv-loop μ-loop
-mul-class-now c = search needs
+mul-class-by : tie.Need-mul-class-by Inv-loop2 μ-loop2 Inv-loop μ-loop
+mul-class-by c = search needs
 
-shared-slice-read-class-now : tie.Need-shared-slice-read-class-now Inv-loop2 μ-loop2 Inv-loop μ-loop
-shared-slice-read-class-now c =
+shared-slice-read-class-by : tie.Need-shared-slice-read-class-by Inv-loop2 μ-loop2 Inv-loop μ-loop
+shared-slice-read-class-by c =
     let at-loop-test = c .before .before .before .before in
-    let start = at-loop-test .before .before .before .before .before .before .before .before .before .before in
+    let start = at-loop-test .before .before .before .before .before .before .before .before .before .before .before in
     omega (arith, at-loop-test .loop-test .taken, start .pre)
 
-class-now-requires : tie.Need-class-now-requires Inv-loop2 μ-loop2 Inv-loop μ-loop
-class-now-requires c κs =
+class-by-requires : tie.Need-class-by-requires Inv-loop2 μ-loop2 Inv-loop μ-loop
+class-by-requires c κs =
     let at-loop2-test = c .before .before in
     let at-loop2 = at-loop2-test .before in
     let at-loop = at-loop2 .before .before in
-    let g = still-here (at-loop2 .loop2 .inv) (at-loop .loop .inv) (at-loop2-test .loop2-test .taken) in (going-lies _ _ _ _ _ _ _ _ g, g .remembers)
+    let g = still-here (at-loop2 .loop2 .inv) (at-loop .loop .inv) (at-loop2-test .loop2-test .taken) in (going-lies _ _ _ _ _ _ _ _ _ g, g .remembers)
 
 entry-of-requires : tie.Need-entry-of-requires Inv-loop2 μ-loop2 Inv-loop μ-loop
 entry-of-requires c κs = search needs
@@ -91,23 +91,23 @@ same-length-3 c =
 returns : tie.Need-returns Inv-loop2 μ-loop2 Inv-loop μ-loop
 returns c =
     let at-entry-of = c .before .before in
-    let at-class-now = at-entry-of .before in
-    let at-loop2-test = at-class-now .before .before .before in
+    let at-class-by = at-entry-of .before in
+    let at-loop2-test = at-class-by .before .before .before in
     let at-loop2 = at-loop2-test .before in
     let at-loop-test = at-loop2 .before in
     let at-loop = at-loop-test .before in
-    let e = going-ended _ _ _ _ _ _ _ _ (still-here (at-loop2 .loop2 .inv) (at-loop .loop .inv) (at-loop2-test .loop2-test .taken)) (at-loop-test .loop-test .taken) (at-class-now .class-now .ensures .0) (at-entry-of .entry-of .ensures) (c .enum-told .given .1) in (e .answers, (e .wrote .xs, (e .wrote .ys, e .wrote .backs)))
+    let e = going-ended _ _ _ _ _ _ _ _ _ (still-here (at-loop2 .loop2 .inv) (at-loop .loop .inv) (at-loop2-test .loop2-test .taken)) (at-loop-test .loop-test .taken) (at-class-by .class-by .ensures .0) (at-entry-of .entry-of .ensures) (c .enum-told .given .1) in (e .answers, (e .wrote .xs, (e .wrote .ys, e .wrote .backs)))
 
 mul-act : tie.Need-mul-act Inv-loop2 μ-loop2 Inv-loop μ-loop
 mul-act c =
     let at-loop-test = c .before .before .before .before .before .before .before .before .before in
-    let start = at-loop-test .before .before .before .before .before .before .before .before .before .before in
+    let start = at-loop-test .before .before .before .before .before .before .before .before .before .before .before in
     omega (arith, at-loop-test .loop-test .taken, start .pre .4, room-small)
 
 shared-slice-read-act : tie.Need-shared-slice-read-act Inv-loop2 μ-loop2 Inv-loop μ-loop
 shared-slice-read-act c =
     let at-loop-test = c .before .before .before .before .before .before .before .before .before .before in
-    let start = at-loop-test .before .before .before .before .before .before .before .before .before .before in
+    let start = at-loop-test .before .before .before .before .before .before .before .before .before .before .before in
     omega (arith, at-loop-test .loop-test .taken, start .pre)
 
 act-requires : tie.Need-act-requires Inv-loop2 μ-loop2 Inv-loop μ-loop
@@ -143,25 +143,25 @@ returns-2 c =
     let at-act = at-is-done .before in
     let at-entry = at-act .before .before .before in
     let at-entry-of = at-entry .before .before in
-    let at-class-now = at-entry-of .before in
-    let at-loop2-test = at-class-now .before .before .before in
+    let at-class-by = at-entry-of .before in
+    let at-loop2-test = at-class-by .before .before .before in
     let at-loop2 = at-loop2-test .before in
     let at-loop-test = at-loop2 .before in
     let at-loop = at-loop-test .before in
-    let e = going-stops _ _ _ _ _ _ _ _ (still-here (at-loop2 .loop2 .inv) (at-loop .loop .inv) (at-loop2-test .loop2-test .taken)) (at-loop-test .loop-test .taken) (at-class-now .class-now .ensures .0) (at-entry-of .entry-of .ensures) (at-entry .entry .given .1) (at-act .act .ensures) (sym (at-is-done .is-done .ensures) ∙ not-true _ (c .if1 .taken)) in (e .answers, (e .wrote .xs, (e .wrote .ys, e .wrote .backs)))
+    let e = going-stops _ _ _ _ _ _ _ _ _ (still-here (at-loop2 .loop2 .inv) (at-loop .loop .inv) (at-loop2-test .loop2-test .taken)) (at-loop-test .loop-test .taken) (at-class-by .class-by .ensures .0) (at-entry-of .entry-of .ensures) (at-entry .entry .given .1) (at-act .act .ensures) (sym (at-is-done .is-done .ensures) ∙ not-true _ (c .if1 .taken)) in (e .answers, (e .wrote .xs, (e .wrote .ys, e .wrote .backs)))
 
 put-requires : tie.Need-put-requires Inv-loop2 μ-loop2 Inv-loop μ-loop
 put-requires c κs =
     let at-act = c .before .before .before .before .before in
     let at-entry = at-act .before .before .before in
     let at-entry-of = at-entry .before .before in
-    let at-class-now = at-entry-of .before in
-    let at-loop2-test = at-class-now .before .before .before in
+    let at-class-by = at-entry-of .before in
+    let at-loop2-test = at-class-by .before .before .before in
     let at-loop2 = at-loop2-test .before in
     let at-loop-test = at-loop2 .before in
     let at-loop = at-loop-test .before in
-    let start = at-loop .before .before .before .before .before .before .before .before .before in
-    let g = still-here (at-loop2 .loop2 .inv) (at-loop .loop .inv) (at-loop2-test .loop2-test .taken) in let l = wrote-long (g .wrote) in (going-small _ _ _ _ _ _ _ _ g (at-loop-test .loop-test .taken) (at-class-now .class-now .ensures .0) (at-entry-of .entry-of .ensures) (at-entry .entry .given .1) (at-act .act .ensures), omega (arith, l .0, l .1, l .2, start .pre), omega (arith, l .0, l .1, l .2, start .pre), omega (arith, l .0, l .1, l .2, start .pre))
+    let start = at-loop .before .before .before .before .before .before .before .before .before .before in
+    let g = still-here (at-loop2 .loop2 .inv) (at-loop .loop .inv) (at-loop2-test .loop2-test .taken) in let l = wrote-long (g .wrote) in (going-small _ _ _ _ _ _ _ _ _ g (at-loop-test .loop-test .taken) (at-class-by .class-by .ensures .0) (at-entry-of .entry-of .ensures) (at-entry .entry .given .1) (at-act .act .ensures), omega (arith, l .0, l .1, l .2, start .pre), omega (arith, l .0, l .1, l .2, start .pre), omega (arith, l .0, l .1, l .2, start .pre))
 
 loop2-less : tie.Need-loop2-less Inv-loop2 μ-loop2 Inv-loop μ-loop
 loop2-less c =
@@ -170,12 +170,12 @@ loop2-less c =
     let at-act = at-is-done .before in
     let at-entry = at-act .before .before .before in
     let at-entry-of = at-entry .before .before in
-    let at-class-now = at-entry-of .before in
-    let at-loop2-test = at-class-now .before .before .before in
+    let at-class-by = at-entry-of .before in
+    let at-loop2-test = at-class-by .before .before .before in
     let at-loop2 = at-loop2-test .before in
     let at-loop-test = at-loop2 .before in
     let at-loop = at-loop-test .before in
-    rw (at-loop2-test .loop2-test .taken) (going-less _ _ _ _ _ _ _ _ (still-here (at-loop2 .loop2 .inv) (at-loop .loop .inv) (at-loop2-test .loop2-test .taken)) (at-loop-test .loop-test .taken) (at-class-now .class-now .ensures .0) (at-entry-of .entry-of .ensures) (at-entry .entry .given .1) (at-act .act .ensures) (sym (at-is-done .is-done .ensures) ∙ not-false _ (at-if1 .if1 .left)))
+    rw (at-loop2-test .loop2-test .taken) (going-less _ _ _ _ _ _ _ _ _ (still-here (at-loop2 .loop2 .inv) (at-loop .loop .inv) (at-loop2-test .loop2-test .taken)) (at-loop-test .loop-test .taken) (at-class-by .class-by .ensures .0) (at-entry-of .entry-of .ensures) (at-entry .entry .given .1) (at-act .act .ensures) (sym (at-is-done .is-done .ensures) ∙ not-false _ (at-if1 .if1 .left)))
 
 loop2-again : tie.Need-loop2-again Inv-loop2 μ-loop2 Inv-loop μ-loop
 loop2-again c =
@@ -185,11 +185,11 @@ loop2-again c =
     let at-act = at-is-done .before in
     let at-entry = at-act .before .before .before in
     let at-entry-of = at-entry .before .before in
-    let at-class-now = at-entry-of .before in
-    let at-loop2-test = at-class-now .before .before .before in
+    let at-class-by = at-entry-of .before in
+    let at-loop2-test = at-class-by .before .before .before in
     let at-loop2 = at-loop2-test .before in
     let at-loop-test = at-loop2 .before in
-    record { leads = λ x₀ y₀ back₀ g₀. going-goes _ _ _ _ _ _ _ _ (still-here (at-loop2 .loop2 .inv) g₀ (at-loop2-test .loop2-test .taken)) (at-loop-test .loop-test .taken) (at-class-now .class-now .ensures .0) (at-entry-of .entry-of .ensures) (at-entry .entry .given .1) (at-act .act .ensures) (sym (at-is-done .is-done .ensures) ∙ not-false _ (at-if1 .if1 .left)) (at-class-now .class-now .ensures .1) (record { xs = at-put .put .ensures .0; ys = at-put .put .ensures .1 .0; backs = at-put .put .ensures .1 .1 }) }
+    record { leads = λ x₀ y₀ back₀ g₀. going-goes _ _ _ _ _ _ _ _ _ (still-here (at-loop2 .loop2 .inv) g₀ (at-loop2-test .loop2-test .taken)) (at-loop-test .loop-test .taken) (at-class-by .class-by .ensures .0) (at-entry-of .entry-of .ensures) (at-entry .entry .given .1) (at-act .act .ensures) (sym (at-is-done .is-done .ensures) ∙ not-false _ (at-if1 .if1 .left)) (at-class-by .class-by .ensures .1) (record { xs = at-put .put .ensures .0; ys = at-put .put .ensures .1 .0; backs = at-put .put .ensures .1 .1 }) }
 
 add-place : tie.Need-add-place Inv-loop2 μ-loop2 Inv-loop μ-loop
 add-place c = omega (arith, c .before .before .loop-test .taken)
@@ -210,7 +210,7 @@ same-length-9 : tie.Need-same-length-9 Inv-loop2 μ-loop2 Inv-loop μ-loop
 same-length-9 c = wrote-long (c .before .loop .inv .wrote) .2
 
 returns-3 : tie.Need-returns-3 Inv-loop2 μ-loop2 Inv-loop μ-loop
-returns-3 c = let e = going-end _ _ _ _ _ _ _ _ (c .before .loop .inv) (c .loop-test .left) in (e .answers, (e .wrote .xs, (e .wrote .ys, e .wrote .backs)))
+returns-3 c = let e = going-end _ _ _ _ _ _ _ _ _ (c .before .loop .inv) (c .loop-test .left) in (e .answers, (e .wrote .xs, (e .wrote .ys, e .wrote .backs)))
 
 pub pass-line-spec : {M : Type 1} → statement M
 pass-line-spec =
@@ -225,9 +225,9 @@ pass-line-spec =
     new-requires
     loop-holds
     loop2-holds
-    mul-class-now
-    shared-slice-read-class-now
-    class-now-requires
+    mul-class-by
+    shared-slice-read-class-by
+    class-by-requires
     entry-of-requires
     enum-known-entry
     enum-told

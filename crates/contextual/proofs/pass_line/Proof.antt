@@ -23,7 +23,7 @@ returns c =
     let at-run = c .before .before in
     let at-new = at-run .before .before in
     let at-glyph-at = at-new .before in
-    let e = pass-ends _ _ _ _ _ _ (at-new .new .ensures) (at-glyph-at .glyph-at .ensures) (at-run .run .ensures .0) (at-run .run .ensures .1) in
+    let e = pass-ends _ _ _ _ _ _ _ (at-new .new .ensures) (at-glyph-at .glyph-at .ensures) (at-run .run .ensures .0) (at-run .run .ensures .1) in
     (e .answers, e .left)
 
 pub pass-line-spec : {M : Type 1} → statement M

@@ -1,59 +1,24 @@
-use mathlib.Core.Path.{_∙_}
-use Rattle.line.specs.Line.{Line, lineOf}
-use Rattle.line.specs.Changes.{applyAll}
-use Rattle.machine.specs.Work.{workLeaves, passedLeaves}
-use Rattle.machine.proofs.Calls.{work-headless, work-passed, same-answer, same-left}
+use mathlib.Core.Path.{refl, _∙_}
+use Rattle.line.specs.Line.{Line}
+use Rattle.indexes.proofs.Same.{plain-answer, plain-left}
 use Rattle.contextual.specs.Calls.{contextual}
 use borrow.Author.Needs.{needs}
 use Rattle.contextual.proofs.work.Statement.{statement}
 use Rattle.contextual.proofs.work.Tie as tie
-use Rattle.contextual.proofs.open.Reads as open-reads
-use Rattle.contextual.proofs.pass_line.Reads as pass-line-reads
-use Rattle.parse.proofs.from.Reads as from-reads
 
-open-requires : tie.Need-open-requires
-open-requires c κs = search needs
+slice-aggregate-work-by : tie.Need-slice-aggregate-work-by
+slice-aggregate-work-by c = search needs
 
-enum-known-states : tie.Need-enum-known-states
-enum-known-states c = search needs
-
-enum-told : tie.Need-enum-told
-enum-told c = search needs
-
-returns : tie.Need-returns
-unfolding workLeaves applyAll
-returns c =
-    let e = work-headless contextual _ (lineOf _ _ _ _) (c .before .before .«open» .ensures) (c .enum-told .given .1) in
-    (same-answer e, same-left (λ (l : Line). l .glyphs) (lineOf _ _ _ _) e)
-
-from-requires : tie.Need-from-requires
-from-requires c κs = search needs
-
-pass-line-requires : tie.Need-pass-line-requires
-pass-line-requires c κs = search needs
+work-by-requires : tie.Need-work-by-requires
+work-by-requires c κs = search needs
 
 same-length : tie.Need-same-length
 same-length c = search needs
 
-returns-2 : tie.Need-returns-2
-unfolding workLeaves passedLeaves
-returns-2 c =
-    let at-pass-line = c .before .before in
-    let at-from = at-pass-line .before .before in
-    let at-states = at-from .before .before in
-    let at-open = at-states .before .before in
-    let e = work-passed contextual _ (lineOf _ _ _ _) (at-open .«open» .ensures) (at-states .states .given .1) (at-from .from .ensures) in
-    (at-pass-line .pass-line .ensures .0 ∙ same-answer e, at-pass-line .pass-line .ensures .1 ∙ same-left (λ (l : Line). l .glyphs) (lineOf _ _ _ _) e)
+returns : tie.Need-returns
+returns c =
+    let r = c .before .before .work-by .ensures in
+    (r .0 ∙ plain-answer contextual _ refl _ _, r .1 ∙ plain-left contextual _ refl _ _ (λ (l : Line). l .glyphs))
 
 pub work-spec : {M : Type 1} → statement M
-work-spec =
-    tie.close
-    (tie.spec
-    open-requires
-    enum-known-states
-    enum-told
-    returns
-    from-requires
-    pass-line-requires
-    same-length
-    returns-2)
+work-spec = tie.close (tie.spec slice-aggregate-work-by work-by-requires same-length returns)

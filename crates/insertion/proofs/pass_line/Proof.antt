@@ -12,11 +12,11 @@ use Rattle.insertion.proofs.pass_line.Statement.{statement}
 use Rattle.insertion.proofs.pass_line.Tie as tie
 
 abbrev Inv-loop : tie.InvT-loop
-Inv-loop bytes states glyphs₀ tags₀ homes used opened memo₀ state₀ place₀ end₀ glyphs tags memo state place end =
-    Going bytes states (lineOf glyphs₀ tags₀ homes used) opened memo glyphs tags homes end state place
+Inv-loop bytes states glyphs₀ tags₀ homes used index opened memo₀ state₀ place₀ end₀ glyphs tags memo state place end =
+    Going index bytes states (lineOf glyphs₀ tags₀ homes used) opened memo glyphs tags homes end state place
 
 abbrev μ-loop : tie.MeasureT-loop
-μ-loop bytes states glyphs₀ tags₀ homes used opened memo₀ state₀ place₀ end₀ glyphs tags memo state place end =
+μ-loop bytes states glyphs₀ tags₀ homes used index opened memo₀ state₀ place₀ end₀ glyphs tags memo state place end =
     (length glyphs - place) * 18 + (18 - state .cycles)
 
 open-requires : tie.Need-open-requires Inv-loop μ-loop
@@ -29,10 +29,10 @@ new-requires : tie.Need-new-requires Inv-loop μ-loop
 new-requires c κs = search needs
 
 loop-holds : tie.Need-loop-holds Inv-loop μ-loop
-loop-holds c = going-start _ _ _ _ _ _ (omega arith) (omega arith) (omega arith) (c .before .before .«open» .ensures) (c .before .nothing-found .ensures) (c .new .ensures)
+loop-holds c = going-start _ _ _ _ _ _ _ (omega arith) (omega arith) (omega arith) (c .before .before .«open» .ensures) (c .before .nothing-found .ensures) (c .new .ensures)
 
-class-now-requires : tie.Need-class-now-requires Inv-loop μ-loop
-class-now-requires c κs = let g = c .before .before .loop .inv in (going-lies _ _ _ g, g .remembers, g .within, g .fits)
+class-by-requires : tie.Need-class-by-requires Inv-loop μ-loop
+class-by-requires c κs = let g = c .before .before .loop .inv in (going-lies _ _ _ _ g, g .remembers, g .within, g .fits)
 
 entry-of-requires : tie.Need-entry-of-requires Inv-loop μ-loop
 entry-of-requires c κs = search needs
@@ -56,9 +56,9 @@ same-length-2 c =
 returns : tie.Need-returns Inv-loop μ-loop
 returns c =
     let at-entry-of = c .before .before in
-    let at-class-now = at-entry-of .before in
-    let at-loop = at-class-now .before .before .before in
-    let e = going-ended _ _ _ (at-loop .loop .inv) (at-class-now .class-now .ensures .0) (at-entry-of .entry-of .ensures) (c .enum-told .given .1) in
+    let at-class-by = at-entry-of .before in
+    let at-loop = at-class-by .before .before .before in
+    let e = going-ended _ _ _ _ (at-loop .loop .inv) (at-class-by .class-by .ensures .0) (at-entry-of .entry-of .ensures) (c .enum-told .given .1) in
     (e .answers, (e .used-left, (e .glyphs-left, e .tags-left)))
 
 is-quiet-requires : tie.Need-is-quiet-requires Inv-loop μ-loop
@@ -80,9 +80,9 @@ returns-2 c =
     let at-is-quiet = at-if1 .before in
     let at-entry = at-is-quiet .before .before in
     let at-entry-of = at-entry .before .before in
-    let at-class-now = at-entry-of .before in
-    let at-loop = at-class-now .before .before .before in
-    let e = quiet-ends _ _ _ (at-loop .loop .inv) (at-class-now .class-now .ensures .0) (at-entry-of .entry-of .ensures) (at-entry .entry .given .1) (at-is-quiet .is-quiet .ensures) (at-if1 .if1 .taken) (c .if2 .taken) in
+    let at-class-by = at-entry-of .before in
+    let at-loop = at-class-by .before .before .before in
+    let e = quiet-ends _ _ _ _ (at-loop .loop .inv) (at-class-by .class-by .ensures .0) (at-entry-of .entry-of .ensures) (at-entry .entry .given .1) (at-is-quiet .is-quiet .ensures) (at-if1 .if1 .taken) (c .if2 .taken) in
     (e .answers, (e .used-left, (e .glyphs-left, e .tags-left)))
 
 led-by-requires : tie.Need-led-by-requires Inv-loop μ-loop
@@ -100,9 +100,9 @@ loop-less c =
     let at-is-quiet = at-if1 .before in
     let at-entry = at-is-quiet .before .before in
     let at-entry-of = at-entry .before .before in
-    let at-class-now = at-entry-of .before in
-    let at-loop = at-class-now .before .before .before in
-    quiet-less _ _ _ (at-loop .loop .inv) (at-class-now .class-now .ensures .0) (at-entry-of .entry-of .ensures) (at-entry .entry .given .1) (at-is-quiet .is-quiet .ensures) (at-if1 .if1 .taken) (at-if2 .if2 .left) (c .led-by .ensures)
+    let at-class-by = at-entry-of .before in
+    let at-loop = at-class-by .before .before .before in
+    quiet-less _ _ _ _ (at-loop .loop .inv) (at-class-by .class-by .ensures .0) (at-entry-of .entry-of .ensures) (at-entry .entry .given .1) (at-is-quiet .is-quiet .ensures) (at-if1 .if1 .taken) (at-if2 .if2 .left) (c .led-by .ensures)
 
 loop-again : tie.Need-loop-again Inv-loop μ-loop
 loop-again c =
@@ -111,9 +111,9 @@ loop-again c =
     let at-is-quiet = at-if1 .before in
     let at-entry = at-is-quiet .before .before in
     let at-entry-of = at-entry .before .before in
-    let at-class-now = at-entry-of .before in
-    let at-loop = at-class-now .before .before .before in
-    quiet-goes _ _ _ (at-loop .loop .inv) (at-class-now .class-now .ensures .0) (at-entry-of .entry-of .ensures) (at-entry .entry .given .1) (at-is-quiet .is-quiet .ensures) (at-if1 .if1 .taken) (at-class-now .class-now .ensures .1) (at-if2 .if2 .left) (c .led-by .ensures)
+    let at-class-by = at-entry-of .before in
+    let at-loop = at-class-by .before .before .before in
+    quiet-goes _ _ _ _ (at-loop .loop .inv) (at-class-by .class-by .ensures .0) (at-entry-of .entry-of .ensures) (at-entry .entry .given .1) (at-is-quiet .is-quiet .ensures) (at-if1 .if1 .taken) (at-class-by .class-by .ensures .1) (at-if2 .if2 .left) (c .led-by .ensures)
 
 act-requires : tie.Need-act-requires Inv-loop μ-loop
 act-requires c κs =
@@ -127,10 +127,10 @@ edit-requires c κs =
     let at-act = c .before .before in
     let at-entry = at-act .before .before .before .before in
     let at-entry-of = at-entry .before .before in
-    let at-class-now = at-entry-of .before in
-    let at-loop = at-class-now .before .before .before in
+    let at-class-by = at-entry-of .before in
+    let at-loop = at-class-by .before .before .before in
     let g = at-loop .loop .inv in
-    let f = act-fits _ _ _ (at-loop .loop .inv) (at-class-now .class-now .ensures .0) (at-entry-of .entry-of .ensures) (at-entry .entry .given .1) (at-act .act .ensures) in
+    let f = act-fits _ _ _ _ (at-loop .loop .inv) (at-class-by .class-by .ensures .0) (at-entry-of .entry-of .ensures) (at-entry .entry .given .1) (at-act .act .ensures) in
     (f .marked-inside, f .current-inside, f .within, omega (arith, g .long-glyphs, g .long-tags, g .paired), omega (arith, g .long-glyphs, g .limited))
 
 same-length-5 : tie.Need-same-length-5 Inv-loop μ-loop
@@ -151,9 +151,9 @@ returns-3 c =
     let at-act = at-edit .before .before .before in
     let at-entry = at-act .before .before .before .before in
     let at-entry-of = at-entry .before .before in
-    let at-class-now = at-entry-of .before in
-    let at-loop = at-class-now .before .before .before in
-    let e = act-ends _ _ _ (at-loop .loop .inv) (at-class-now .class-now .ensures .0) (at-entry-of .entry-of .ensures) (at-entry .entry .given .1) (at-act .act .ensures)
+    let at-class-by = at-entry-of .before in
+    let at-loop = at-class-by .before .before .before in
+    let e = act-ends _ _ _ _ (at-loop .loop .inv) (at-class-by .class-by .ensures .0) (at-entry-of .entry-of .ensures) (at-entry .entry .given .1) (at-act .act .ensures)
     (record { glyphs-left = at-edit .edit .ensures .0; tags-left = at-edit .edit .ensures .1 .0; used-left = at-edit .edit .ensures .1 .1 })
     (c .if3 .taken) in
     (e .answers, (e .used-left, (e .glyphs-left, e .tags-left)))
@@ -180,9 +180,9 @@ returns-4 c =
     let at-act = at-edit .before .before .before in
     let at-entry = at-act .before .before .before .before in
     let at-entry-of = at-entry .before .before in
-    let at-class-now = at-entry-of .before in
-    let at-loop = at-class-now .before .before .before in
-    let e = act-stops _ _ _ (at-loop .loop .inv) (at-class-now .class-now .ensures .0) (at-entry-of .entry-of .ensures) (at-entry .entry .given .1) (at-act .act .ensures)
+    let at-class-by = at-entry-of .before in
+    let at-loop = at-class-by .before .before .before in
+    let e = act-stops _ _ _ _ (at-loop .loop .inv) (at-class-by .class-by .ensures .0) (at-entry-of .entry-of .ensures) (at-entry .entry .given .1) (at-act .act .ensures)
     (record { glyphs-left = at-edit .edit .ensures .0; tags-left = at-edit .edit .ensures .1 .0; used-left = at-edit .edit .ensures .1 .1 })
     (sym (at-is-done .is-done .ensures) ∙ not-true _ (c .if4 .taken)) in
     (e .answers, (e .used-left, (e .glyphs-left, e .tags-left)))
@@ -196,11 +196,11 @@ add-place-2 c =
     let at-act = at-edit .before .before .before in
     let at-entry = at-act .before .before .before .before in
     let at-entry-of = at-entry .before .before in
-    let at-class-now = at-entry-of .before in
-    let at-loop = at-class-now .before .before .before in
-    let g = act-goes _ _ _ (at-loop .loop .inv) (at-class-now .class-now .ensures .0) (at-entry-of .entry-of .ensures) (at-entry .entry .given .1) (at-act .act .ensures)
+    let at-class-by = at-entry-of .before in
+    let at-loop = at-class-by .before .before .before in
+    let g = act-goes _ _ _ _ (at-loop .loop .inv) (at-class-by .class-by .ensures .0) (at-entry-of .entry-of .ensures) (at-entry .entry .given .1) (at-act .act .ensures)
     (record { glyphs-left = at-edit .edit .ensures .0; tags-left = at-edit .edit .ensures .1 .0; used-left = at-edit .edit .ensures .1 .1 })
-    (sym (at-is-done .is-done .ensures) ∙ not-false _ (at-if4 .if4 .left)) (at-if3 .if3 .left) (at-class-now .class-now .ensures .1) (at-edit .edit .kept .1 .0) (at-edit .edit .kept .1 .1 .0) in omega (arith, g .within, g .fits, g .long-glyphs, g .limited, room-small)
+    (sym (at-is-done .is-done .ensures) ∙ not-false _ (at-if4 .if4 .left)) (at-if3 .if3 .left) (at-class-by .class-by .ensures .1) (at-edit .edit .kept .1 .0) (at-edit .edit .kept .1 .1 .0) in omega (arith, g .within, g .fits, g .long-glyphs, g .limited, room-small)
 
 loop-less-2 : tie.Need-loop-less-2 Inv-loop μ-loop
 loop-less-2 c =
@@ -211,9 +211,9 @@ loop-less-2 c =
     let at-act = at-edit .before .before .before in
     let at-entry = at-act .before .before .before .before in
     let at-entry-of = at-entry .before .before in
-    let at-class-now = at-entry-of .before in
-    let at-loop = at-class-now .before .before .before in
-    act-less _ _ _ (at-loop .loop .inv) (at-class-now .class-now .ensures .0) (at-entry-of .entry-of .ensures) (at-entry .entry .given .1) (at-act .act .ensures)
+    let at-class-by = at-entry-of .before in
+    let at-loop = at-class-by .before .before .before in
+    act-less _ _ _ _ (at-loop .loop .inv) (at-class-by .class-by .ensures .0) (at-entry-of .entry-of .ensures) (at-entry .entry .given .1) (at-act .act .ensures)
     (record { glyphs-left = at-edit .edit .ensures .0; tags-left = at-edit .edit .ensures .1 .0; used-left = at-edit .edit .ensures .1 .1 })
     (sym (at-is-done .is-done .ensures) ∙ not-false _ (at-if4 .if4 .left)) (at-if3 .if3 .left) (at-edit .edit .kept .1 .0)
 
@@ -226,11 +226,11 @@ loop-again-2 c =
     let at-act = at-edit .before .before .before in
     let at-entry = at-act .before .before .before .before in
     let at-entry-of = at-entry .before .before in
-    let at-class-now = at-entry-of .before in
-    let at-loop = at-class-now .before .before .before in
-    act-goes _ _ _ (at-loop .loop .inv) (at-class-now .class-now .ensures .0) (at-entry-of .entry-of .ensures) (at-entry .entry .given .1) (at-act .act .ensures)
+    let at-class-by = at-entry-of .before in
+    let at-loop = at-class-by .before .before .before in
+    act-goes _ _ _ _ (at-loop .loop .inv) (at-class-by .class-by .ensures .0) (at-entry-of .entry-of .ensures) (at-entry .entry .given .1) (at-act .act .ensures)
     (record { glyphs-left = at-edit .edit .ensures .0; tags-left = at-edit .edit .ensures .1 .0; used-left = at-edit .edit .ensures .1 .1 })
-    (sym (at-is-done .is-done .ensures) ∙ not-false _ (at-if4 .if4 .left)) (at-if3 .if3 .left) (at-class-now .class-now .ensures .1) (at-edit .edit .kept .1 .0) (at-edit .edit .kept .1 .1 .0)
+    (sym (at-is-done .is-done .ensures) ∙ not-false _ (at-if4 .if4 .left)) (at-if3 .if3 .left) (at-class-by .class-by .ensures .1) (at-edit .edit .kept .1 .0) (at-edit .edit .kept .1 .1 .0)
 
 pub pass-line-spec : {M : Type 1} → statement M
 pass-line-spec =
@@ -242,7 +242,7 @@ pass-line-spec =
     nothing-found-requires
     new-requires
     loop-holds
-    class-now-requires
+    class-by-requires
     entry-of-requires
     enum-known-entry
     enum-told

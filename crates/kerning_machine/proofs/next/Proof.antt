@@ -1,5 +1,6 @@
 use Rattle.kerning_machine.proofs.Acting.{behind-ended, behind-settled, next-ended, next-acts}
 use Rattle.state_tables.specs.Classes.{classOf}
+use Rattle.indexes.specs.Index.{classesBy}
 use Rattle.kerning_machine.specs.Work.{standing}
 use mathlib.Core.Path.{_∙_}
 use native.Mathlib.Omega.{arith}
@@ -8,8 +9,8 @@ use borrow.Author.Needs.{needs}
 use Rattle.kerning_machine.proofs.next.Statement.{statement}
 use Rattle.kerning_machine.proofs.next.Tie as tie
 
-class-of-requires : tie.Need-class-of-requires
-class-of-requires c κs = search needs
+class-lone-requires : tie.Need-class-lone-requires
+class-lone-requires c κs = search needs
 
 payload-of-requires : tie.Need-payload-of-requires
 payload-of-requires c κs = search needs
@@ -31,8 +32,8 @@ returns c =
     let at-enum-told = c .before in
     let at-entry-of = at-enum-told .before .before in
     let at-payload-of = at-entry-of .before in
-    let at-class-of = at-payload-of .before in
-    let e = next-ended (classOf _ _) _ _ (standing _ _ _ _) _ _ _ _ (at-class-of .class-of .ensures) (at-payload-of .payload-of .ensures) (at-entry-of .entry-of .ensures) (at-enum-told .enum-told .given .1) (c .ended .ensures _) in
+    let at-class-lone = at-payload-of .before in
+    let e = next-ended (classesBy _ (classOf _ _)) _ _ (standing _ _ _ _) _ _ _ _ (at-class-lone .class-lone .ensures) (at-payload-of .payload-of .ensures) (at-entry-of .entry-of .ensures) (at-enum-told .enum-told .given .1) (c .ended .ensures _) in
     (e .steps, e .leaves)
 
 orders-of-requires : tie.Need-orders-of-requires
@@ -55,8 +56,8 @@ returns-2 c =
     let at-entry = at-orders-of .before .before in
     let at-entry-of = at-entry .before .before in
     let at-payload-of = at-entry-of .before in
-    let at-class-of = at-payload-of .before in
-    let e = next-acts (classOf _ _) _ _ (standing _ _ _ _) _ _ _ _ (at-class-of .class-of .ensures) (at-payload-of .payload-of .ensures) (at-entry-of .entry-of .ensures) (at-entry .entry .given .1) (at-orders-of .orders-of .ensures) (behind-ended _ _ _ _ _ (at-if1 .if1 .taken) (c .ended2 .ensures _) ∙ at-act .act .ensures .0 _ _) (at-act .act .ensures .1 _ _) in
+    let at-class-lone = at-payload-of .before in
+    let e = next-acts (classesBy _ (classOf _ _)) _ _ (standing _ _ _ _) _ _ _ _ (at-class-lone .class-lone .ensures) (at-payload-of .payload-of .ensures) (at-entry-of .entry-of .ensures) (at-entry .entry .given .1) (at-orders-of .orders-of .ensures) (behind-ended _ _ _ _ _ (at-if1 .if1 .taken) (c .ended2 .ensures _) ∙ at-act .act .ensures .0 _ _) (at-act .act .ensures .1 _ _) in
     (e .steps, e .leaves)
 
 settle-requires : tie.Need-settle-requires
@@ -73,15 +74,15 @@ returns-3 c =
     let at-entry = at-orders-of .before .before in
     let at-entry-of = at-entry .before .before in
     let at-payload-of = at-entry-of .before in
-    let at-class-of = at-payload-of .before in
-    let e = next-acts (classOf _ _) _ _ (standing _ _ _ _) _ _ _ _ (at-class-of .class-of .ensures) (at-payload-of .payload-of .ensures) (at-entry-of .entry-of .ensures) (at-entry .entry .given .1) (at-orders-of .orders-of .ensures) (behind-settled _ _ _ _ _ (at-if1 .if1 .left) (c .settle .ensures _) ∙ at-act .act .ensures .0 _ _) (at-act .act .ensures .1 _ _) in
+    let at-class-lone = at-payload-of .before in
+    let e = next-acts (classesBy _ (classOf _ _)) _ _ (standing _ _ _ _) _ _ _ _ (at-class-lone .class-lone .ensures) (at-payload-of .payload-of .ensures) (at-entry-of .entry-of .ensures) (at-entry .entry .given .1) (at-orders-of .orders-of .ensures) (behind-settled _ _ _ _ _ (at-if1 .if1 .left) (c .settle .ensures _) ∙ at-act .act .ensures .0 _ _) (at-act .act .ensures .1 _ _) in
     (e .steps, e .leaves)
 
 pub next-spec : {M : Type 1} → statement M
 next-spec =
     tie.close
     (tie.spec
-    class-of-requires
+    class-lone-requires
     payload-of-requires
     entry-of-requires
     enum-known-entry

@@ -5,6 +5,7 @@ use Rattle.kerning_machine.proofs.Classes.{memory-start}
 use Rattle.kerning_machine.specs.Machine.{rest}
 use Rattle.kerning_machine.specs.Work.{standing, kerxOf}
 use Rattle.state_tables.specs.Opened.{classBy, Remembers}
+use Rattle.indexes.specs.Index.{classesBy}
 use Rattle.state_tables.proofs.Laws.{entry-payload}
 use borrow.Author.Needs.{needs}
 use mathlib.Core.Path.{refl, sym, _∙_}
@@ -16,19 +17,19 @@ use Rattle.kerning_machine.proofs.pass_kerx.Statement.{statement}
 use Rattle.kerning_machine.proofs.pass_kerx.Tie as tie
 
 abbrev Inv-loop2 : tie.InvT-loop2
-Inv-loop2 bytes states values tuples table glyphs used along₀ memo stack₀ state₀ depth₀ cycles₀ place class stays₀ along stack state depth cycles stays =
-    (from : List ℤ) → Going (classBy bytes table) bytes (kerxOf states values tuples) glyphs used from along₀ (standing state₀ stack₀ depth₀ cycles₀) place → Going (classBy bytes table) bytes (kerxOf states values tuples) glyphs used from along (standing state stack depth cycles) (placeOf stays place)
+Inv-loop2 bytes states values tuples table glyphs used along₀ lent memo stack₀ state₀ depth₀ cycles₀ place class stays₀ along stack state depth cycles stays =
+    (from : List ℤ) → Going (classesBy lent (classBy bytes table)) bytes (kerxOf states values tuples) glyphs used from along₀ (standing state₀ stack₀ depth₀ cycles₀) place → Going (classesBy lent (classBy bytes table)) bytes (kerxOf states values tuples) glyphs used from along (standing state stack depth cycles) (placeOf stays place)
 
 abbrev μ-loop2 : tie.MeasureT-loop2
-μ-loop2 bytes states values tuples table glyphs used along₀ memo stack₀ state₀ depth₀ cycles₀ place class stays₀ along stack state depth cycles stays =
+μ-loop2 bytes states values tuples table glyphs used along₀ lent memo stack₀ state₀ depth₀ cycles₀ place class stays₀ along stack state depth cycles stays =
     rest used (standing state stack depth cycles) (placeOf stays place)
 
 abbrev Inv-loop : tie.InvT-loop
-Inv-loop bytes states values tuples table glyphs used along₀ memo₀ stack₀ state₀ depth₀ cycles₀ place₀ along memo stack state depth cycles place =
-    (Going (classBy bytes table) bytes (kerxOf states values tuples) glyphs used along₀ along (standing state stack depth cycles) place) × Remembers (classBy bytes table) memo
+Inv-loop bytes states values tuples table glyphs used along₀ lent memo₀ stack₀ state₀ depth₀ cycles₀ place₀ along memo stack state depth cycles place =
+    (Going (classesBy lent (classBy bytes table)) bytes (kerxOf states values tuples) glyphs used along₀ along (standing state stack depth cycles) place) × Remembers (classBy bytes table) memo
 
 abbrev μ-loop : tie.MeasureT-loop
-μ-loop bytes states values tuples table glyphs used along₀ memo₀ stack₀ state₀ depth₀ cycles₀ place₀ along memo stack state depth cycles place =
+μ-loop bytes states values tuples table glyphs used along₀ lent memo₀ stack₀ state₀ depth₀ cycles₀ place₀ along memo stack state depth cycles place =
     used - place
 
 nothing-found-requires : tie.Need-nothing-found-requires Inv-loop2 μ-loop2 Inv-loop μ-loop
@@ -37,17 +38,17 @@ nothing-found-requires c κs = search needs
 loop-holds : tie.Need-loop-holds Inv-loop2 μ-loop2 Inv-loop μ-loop
 loop-holds c = (going-start _ _ _ _ _ _ _ refl, memory-start _ _ (c .nothing-found .ensures))
 
-mul-class-now : tie.Need-mul-class-now Inv-loop2 μ-loop2 Inv-loop μ-loop
-mul-class-now c = omega arith
+mul-class-by : tie.Need-mul-class-by Inv-loop2 μ-loop2 Inv-loop μ-loop
+mul-class-by c = omega arith
 
-shared-slice-read-class-now :
-    tie.Need-shared-slice-read-class-now Inv-loop2 μ-loop2 Inv-loop μ-loop
-shared-slice-read-class-now c = omega arith
+shared-slice-read-class-by :
+    tie.Need-shared-slice-read-class-by Inv-loop2 μ-loop2 Inv-loop μ-loop
+shared-slice-read-class-by c = omega arith
 
-class-now-requires : tie.Need-class-now-requires Inv-loop2 μ-loop2 Inv-loop μ-loop
-class-now-requires c κs =
+class-by-requires : tie.Need-class-by-requires Inv-loop2 μ-loop2 Inv-loop μ-loop
+class-by-requires c κs =
     let at-loop = c .before .before .before in
-    let start = at-loop .before .before .before .before in
+    let start = at-loop .before .before .before .before .before in
     (start .pre .0, at-loop .loop .inv .1)
 
 loop2-holds : tie.Need-loop2-holds Inv-loop2 μ-loop2 Inv-loop μ-loop
@@ -74,11 +75,11 @@ returns c =
     let at-entry-of = c .before .before in
     let at-loop2-test = at-entry-of .before in
     let at-loop2 = at-loop2-test .before in
-    let at-class-now = at-loop2 .before in
-    let at-loop-test = at-class-now .before .before .before in
+    let at-class-by = at-loop2 .before in
+    let at-loop-test = at-class-by .before .before .before in
     let at-loop = at-loop-test .before in
     let g = at-loop2 .loop2 .inv _ (at-loop .loop .inv .0) in
-    let e = place-ended _ _ _ _ _ (at-loop .loop .place) g (at-loop2-test .loop2-test .taken) (at-loop-test .loop-test .taken) (at-class-now .class-now .ensures .0) (sym (at-entry-of .entry-of .ensures) ∙ c .enum-told .given .1) in
+    let e = place-ended _ _ _ _ _ (at-loop .loop .place) g (at-loop2-test .loop2-test .taken) (at-loop-test .loop-test .taken) (at-class-by .class-by .ensures .0) (sym (at-entry-of .entry-of .ensures) ∙ c .enum-told .given .1) in
     (e .answers, e .leaves)
 
 one-number-requires : tie.Need-one-number-requires Inv-loop2 μ-loop2 Inv-loop μ-loop
@@ -92,7 +93,7 @@ act-kerx-requires c κs =
     let at-loop2 = c .before .before .before .before .before .before .before .before .before in
     let at-loop = at-loop2 .before .before .before .before .before in
     let g = at-loop2 .loop2 .inv _ (at-loop .loop .inv .0) in
-    let start = at-loop .before .before .before .before in
+    let start = at-loop .before .before .before .before .before in
     (g .deep, omega (arith, going-long _ _ _ _ _ g), going-within _ _ _ _ _ g (start .pre .3) (start .pre .4))
 
 same-length-2 : tie.Need-same-length-2 Inv-loop2 μ-loop2 Inv-loop μ-loop
@@ -112,11 +113,11 @@ returns-2 c =
     let at-entry-of = at-entry .before .before in
     let at-loop2-test = at-entry-of .before in
     let at-loop2 = at-loop2-test .before in
-    let at-class-now = at-loop2 .before in
-    let at-loop-test = at-class-now .before .before .before in
+    let at-class-by = at-loop2 .before in
+    let at-loop-test = at-class-by .before .before .before in
     let at-loop = at-loop-test .before in
     let g = at-loop2 .loop2 .inv _ (at-loop .loop .inv .0) in
-    let e = place-over _ _ _ _ _ (at-loop .loop .place) g (at-loop2-test .loop2-test .taken) (at-loop-test .loop-test .taken) (at-class-now .class-now .ensures .0) _ _ (sym (at-entry-of .entry-of .ensures) ∙ at-entry .entry .given .1) (kerx-says _ _ _ _ (at-kerx-orders .kerx-orders .ensures) (at-one-number .one-number .ensures)) (at-act-kerx .act-kerx .ensures .0 _) (at-act-kerx .act-kerx .ensures .1 _) (c .if1 .taken) in
+    let e = place-over _ _ _ _ _ (at-loop .loop .place) g (at-loop2-test .loop2-test .taken) (at-loop-test .loop-test .taken) (at-class-by .class-by .ensures .0) _ _ (sym (at-entry-of .entry-of .ensures) ∙ at-entry .entry .given .1) (kerx-says _ _ _ _ (at-kerx-orders .kerx-orders .ensures) (at-one-number .one-number .ensures)) (at-act-kerx .act-kerx .ensures .0 _) (at-act-kerx .act-kerx .ensures .1 _) (c .if1 .taken) in
     (e .answers, e .leaves)
 
 stall-requires : tie.Need-stall-requires Inv-loop2 μ-loop2 Inv-loop μ-loop
@@ -137,11 +138,11 @@ loop2-less c =
     let at-entry-of = at-entry .before .before in
     let at-loop2-test = at-entry-of .before in
     let at-loop2 = at-loop2-test .before in
-    let at-class-now = at-loop2 .before in
-    let at-loop-test = at-class-now .before .before .before in
+    let at-class-by = at-loop2 .before in
+    let at-loop-test = at-class-by .before .before .before in
     let at-loop = at-loop-test .before in
     let g = at-loop2 .loop2 .inv _ (at-loop .loop .inv .0) in
-    place-falls _ _ _ _ _ (at-loop .loop .place) g (at-loop2-test .loop2-test .taken) (at-loop-test .loop-test .taken) (at-class-now .class-now .ensures .0) _ _ (sym (at-entry-of .entry-of .ensures) ∙ at-entry .entry .given .1) (kerx-says _ _ _ _ (at-kerx-orders .kerx-orders .ensures) (at-one-number .one-number .ensures)) (at-act-kerx .act-kerx .ensures .0 _) (at-act-kerx .act-kerx .ensures .1 _) (at-if1 .if1 .left) (at-stall .stall .ensures) (at-kept .kept .ensures)
+    place-falls _ _ _ _ _ (at-loop .loop .place) g (at-loop2-test .loop2-test .taken) (at-loop-test .loop-test .taken) (at-class-by .class-by .ensures .0) _ _ (sym (at-entry-of .entry-of .ensures) ∙ at-entry .entry .given .1) (kerx-says _ _ _ _ (at-kerx-orders .kerx-orders .ensures) (at-one-number .one-number .ensures)) (at-act-kerx .act-kerx .ensures .0 _) (at-act-kerx .act-kerx .ensures .1 _) (at-if1 .if1 .left) (at-stall .stall .ensures) (at-kept .kept .ensures)
 
 loop2-again : tie.Need-loop2-again Inv-loop2 μ-loop2 Inv-loop μ-loop
 loop2-again c =
@@ -155,18 +156,18 @@ loop2-again c =
     let at-entry-of = at-entry .before .before in
     let at-loop2-test = at-entry-of .before in
     let at-loop2 = at-loop2-test .before in
-    let at-class-now = at-loop2 .before in
-    let at-loop-test = at-class-now .before .before .before in
+    let at-class-by = at-loop2 .before in
+    let at-loop-test = at-class-by .before .before .before in
     let at-loop = at-loop-test .before in
     λ from h.
     let g = at-loop2 .loop2 .inv from h in
-    place-goes _ _ _ _ _ (at-loop .loop .place) g (at-loop2-test .loop2-test .taken) (at-loop-test .loop-test .taken) (at-class-now .class-now .ensures .0) _ _ (sym (at-entry-of .entry-of .ensures) ∙ at-entry .entry .given .1) (kerx-says _ _ _ _ (at-kerx-orders .kerx-orders .ensures) (at-one-number .one-number .ensures)) (at-act-kerx .act-kerx .ensures .0 _) (at-act-kerx .act-kerx .ensures .1 _) (at-if1 .if1 .left) (at-stall .stall .ensures) (at-kept .kept .ensures)
+    place-goes _ _ _ _ _ (at-loop .loop .place) g (at-loop2-test .loop2-test .taken) (at-loop-test .loop-test .taken) (at-class-by .class-by .ensures .0) _ _ (sym (at-entry-of .entry-of .ensures) ∙ at-entry .entry .given .1) (kerx-says _ _ _ _ (at-kerx-orders .kerx-orders .ensures) (at-one-number .one-number .ensures)) (at-act-kerx .act-kerx .ensures .0 _) (at-act-kerx .act-kerx .ensures .1 _) (at-if1 .if1 .left) (at-stall .stall .ensures) (at-kept .kept .ensures)
 
 add-place : tie.Need-add-place Inv-loop2 μ-loop2 Inv-loop μ-loop
 add-place c =
     let at-loop-test = c .before .before .before .before .before in
     let at-loop = at-loop-test .before in
-    let start = at-loop .before .before .before .before in
+    let start = at-loop .before .before .before .before .before in
     omega (arith, at-loop-test .loop-test .taken, start .fits .used)
 
 loop-less : tie.Need-loop-less Inv-loop2 μ-loop2 Inv-loop μ-loop
@@ -177,10 +178,10 @@ loop-less c =
 loop-again : tie.Need-loop-again Inv-loop2 μ-loop2 Inv-loop μ-loop
 loop-again c =
     let at-loop2 = c .before in
-    let at-class-now = at-loop2 .before in
-    let at-loop = at-class-now .before .before .before .before in
+    let at-class-by = at-loop2 .before in
+    let at-loop = at-class-by .before .before .before .before in
     let g = at-loop2 .loop2 .inv _ (at-loop .loop .inv .0) in
-    (place-left _ _ _ _ _ _ g (c .loop2-test .left), at-class-now .class-now .ensures .1)
+    (place-left _ _ _ _ _ _ g (c .loop2-test .left), at-class-by .class-by .ensures .1)
 
 same-length-3 : tie.Need-same-length-3 Inv-loop2 μ-loop2 Inv-loop μ-loop
 same-length-3 c = omega (arith, going-long _ _ _ _ _ (c .before .loop .inv .0))
@@ -198,9 +199,9 @@ pass-kerx-spec =
     μ-loop
     nothing-found-requires
     loop-holds
-    mul-class-now
-    shared-slice-read-class-now
-    class-now-requires
+    mul-class-by
+    shared-slice-read-class-by
+    class-by-requires
     loop2-holds
     entry-of-requires
     enum-known-entry

@@ -1,23 +1,25 @@
-use Rattle.kerx_machine.specs.Machine.{worked}
+use mathlib.Core.Path.{refl}
+use Rattle.kerning_machine.proofs.Calls.{plain-works}
+use Rattle.kerx_machine.specs.Machine.{worked, workedIndexed}
 use borrow.Author.Needs.{needs}
 use Rattle.kerx_machine.proofs.work.Statement.{statement}
 use Rattle.kerx_machine.proofs.work.Tie as tie
 
-open-requires : tie.Need-open-requires
-open-requires c κs = search needs
+slice-aggregate-work-by : tie.Need-slice-aggregate-work-by
+slice-aggregate-work-by c = search needs
 
-from-requires : tie.Need-from-requires
-from-requires c κs = search needs
-
-work-requires : tie.Need-work-requires
-work-requires c κs = search needs
+work-by-requires : tie.Need-work-by-requires
+work-by-requires c κs = search needs
 
 same-length : tie.Need-same-length
 same-length c = search needs
 
 returns : tie.Need-returns
-unfolding worked
-returns c = rw (← (c .before .before .before .before .«open» .ensures), ← (c .before .before .before .from .ensures)) (c .before .work .ensures .0, c .before .work .ensures .1)
+unfolding worked workedIndexed
+returns c =
+    let r = c .before .work-by .ensures in
+    let e = plain-works _ refl _ _ _ _ _ (r .0) (r .1) in
+    (e .answers, e .leaves)
 
 pub work-spec : {M : Type 1} → statement M
-work-spec = tie.close (tie.spec open-requires from-requires work-requires same-length returns)
+work-spec = tie.close (tie.spec slice-aggregate-work-by work-by-requires same-length returns)

@@ -32,7 +32,7 @@ returns c =
     let at-run = c .before .before .before .before in
     let at-glyph-at = at-run .before in
     let at-new = at-glyph-at .before .before .before .before .before .before .before .before in
-    let e = pass-ends _ _ (lineOf _ _ _ _) (at-new .new .ensures) (at-glyph-at .glyph-at .ensures) (record { answers = at-run .run .ensures .0; placed = at-run .run .ensures .1 .0; stored = at-run .run .ensures .1 .1 .0; written = at-run .run .ensures .1 .1 .1 .0; joined = at-run .run .ensures .1 .1 .1 .1 }) in
+    let e = pass-ends _ _ _ (lineOf _ _ _ _) (at-new .new .ensures) (at-glyph-at .glyph-at .ensures) (record { answers = at-run .run .ensures .0; placed = at-run .run .ensures .1 .0; stored = at-run .run .ensures .1 .1 .0; written = at-run .run .ensures .1 .1 .1 .0; joined = at-run .run .ensures .1 .1 .1 .1 }) in
     (e .answers, (e .left, e .joined))
 
 pub pass-line-spec : {M : Type 1} → statement M

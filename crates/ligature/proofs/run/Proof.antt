@@ -9,11 +9,11 @@ use Rattle.ligature.proofs.run.Statement.{statement}
 use Rattle.ligature.proofs.run.Tie as tie
 
 abbrev Inv-loop : tie.InvT-loop
-Inv-loop bytes states begun places₀ stack₀ deep glyphs₀ tags homes₀ used index first over once opened memo₀ state₀ depth₀ place₀ glyph₀ ends₀ places stack glyphs homes memo state depth place glyph ends =
-    Going bytes states opened once tags used (lineOf glyphs₀ tags homes₀ used) (run bytes states once begun (stackOf places₀ stack₀ deep) (lineOf glyphs₀ tags homes₀ used) index first over) memo places stack glyphs homes state depth place glyph ends
+Inv-loop bytes states begun places₀ stack₀ deep glyphs₀ tags homes₀ used index first over once lent opened memo₀ state₀ depth₀ place₀ glyph₀ ends₀ places stack glyphs homes memo state depth place glyph ends =
+    Going lent bytes states opened once tags used (lineOf glyphs₀ tags homes₀ used) (run lent bytes states once begun (stackOf places₀ stack₀ deep) (lineOf glyphs₀ tags homes₀ used) index first over) memo places stack glyphs homes state depth place glyph ends
 
 abbrev μ-loop : tie.MeasureT-loop
-μ-loop bytes states begun places₀ stack₀ deep glyphs₀ tags homes₀ used index first over once opened memo₀ state₀ depth₀ place₀ glyph₀ ends₀ places stack glyphs homes memo state depth place glyph ends = used - place
+μ-loop bytes states begun places₀ stack₀ deep glyphs₀ tags homes₀ used index first over once lent opened memo₀ state₀ depth₀ place₀ glyph₀ ends₀ places stack glyphs homes memo state depth place glyph ends = used - place
 
 open-requires : tie.Need-open-requires Inv-loop μ-loop
 open-requires c κs = search needs
@@ -23,11 +23,11 @@ nothing-found-requires c κs = search needs
 
 loop-holds : tie.Need-loop-holds Inv-loop μ-loop
 loop-holds c =
-    let start = c .before .before .before .before .before .before in
-    going-start _ _ _ _ _ _ _ _ _ _ _ _ _ _ (c .before .«open» .ensures) (c .nothing-found .ensures) (start .pre .0) (start .pre .1)
+    let start = c .before .before .before .before .before .before .before in
+    going-start _ _ _ _ _ _ _ _ _ _ _ _ _ _ _ (c .before .«open» .ensures) (c .nothing-found .ensures) (start .pre .0) (start .pre .1)
 
-class-now-requires : tie.Need-class-now-requires Inv-loop μ-loop
-class-now-requires c κs = (c .before .loop .inv .lies, c .before .loop .inv .remembers)
+class-by-requires : tie.Need-class-by-requires Inv-loop μ-loop
+class-by-requires c κs = (c .before .loop .inv .lies, c .before .loop .inv .remembers)
 
 next-requires : tie.Need-next-requires Inv-loop μ-loop
 next-requires c κs = omega arith
@@ -45,19 +45,19 @@ returns : tie.Need-returns Inv-loop μ-loop
 returns c =
     let at-is-last = c .before in
     let at-next = at-is-last .before .before .before .before .before in
-    let at-class-now = at-next .before .before .before .before .before in
-    let at-loop = at-class-now .before .before in
-    let e = going-last _ _ _ _ _ _ _ _ (at-loop .loop .inv) (at-class-now .class-now .ensures .0) (record { answers = at-next .next .ensures .0; placed = at-next .next .ensures .1 .0; stored = at-next .next .ensures .1 .1 .0; written = at-next .next .ensures .1 .1 .1 .0; joined = at-next .next .ensures .1 .1 .1 .1 .0 }) (at-is-last .is-last .ensures) (c .if1 .taken) in
+    let at-class-by = at-next .before .before .before .before .before in
+    let at-loop = at-class-by .before .before in
+    let e = going-last _ _ _ _ _ _ _ _ _ (at-loop .loop .inv) (at-class-by .class-by .ensures .0) (record { answers = at-next .next .ensures .0; placed = at-next .next .ensures .1 .0; stored = at-next .next .ensures .1 .1 .0; written = at-next .next .ensures .1 .1 .1 .0; joined = at-next .next .ensures .1 .1 .1 .1 .0 }) (at-is-last .is-last .ensures) (c .if1 .taken) in
     (e .answers, (e .placed, (e .stored, (e .written, e .joined))))
 
 add-place : tie.Need-add-place Inv-loop μ-loop
 add-place c =
     let at-is-last = c .before in
     let at-next = at-is-last .before .before .before .before .before in
-    let at-class-now = at-next .before .before .before .before .before in
-    let at-loop = at-class-now .before .before in
-    let start = at-loop .before .before .before .before .before .before .before in
-    omega (arith, start .fits .used, going-inside _ _ _ _ _ _ _ _ (at-loop .loop .inv) (at-class-now .class-now .ensures .0) (record { answers = at-next .next .ensures .0; placed = at-next .next .ensures .1 .0; stored = at-next .next .ensures .1 .1 .0; written = at-next .next .ensures .1 .1 .1 .0; joined = at-next .next .ensures .1 .1 .1 .1 .0 }) (at-is-last .is-last .ensures) (c .if1 .left))
+    let at-class-by = at-next .before .before .before .before .before in
+    let at-loop = at-class-by .before .before in
+    let start = at-loop .before .before .before .before .before .before .before .before in
+    omega (arith, start .fits .used, going-inside _ _ _ _ _ _ _ _ _ (at-loop .loop .inv) (at-class-by .class-by .ensures .0) (record { answers = at-next .next .ensures .0; placed = at-next .next .ensures .1 .0; stored = at-next .next .ensures .1 .1 .0; written = at-next .next .ensures .1 .1 .1 .0; joined = at-next .next .ensures .1 .1 .1 .1 .0 }) (at-is-last .is-last .ensures) (c .if1 .left))
 
 glyph-at-requires : tie.Need-glyph-at-requires Inv-loop μ-loop
 glyph-at-requires c κs =
@@ -70,18 +70,18 @@ loop-less c =
     let at-if1 = c .before .before in
     let at-is-last = at-if1 .before in
     let at-next = at-is-last .before .before .before .before .before in
-    let at-class-now = at-next .before .before .before .before .before in
-    let at-loop = at-class-now .before .before in
-    omega (arith, going-inside _ _ _ _ _ _ _ _ (at-loop .loop .inv) (at-class-now .class-now .ensures .0) (record { answers = at-next .next .ensures .0; placed = at-next .next .ensures .1 .0; stored = at-next .next .ensures .1 .1 .0; written = at-next .next .ensures .1 .1 .1 .0; joined = at-next .next .ensures .1 .1 .1 .1 .0 }) (at-is-last .is-last .ensures) (at-if1 .if1 .left))
+    let at-class-by = at-next .before .before .before .before .before in
+    let at-loop = at-class-by .before .before in
+    omega (arith, going-inside _ _ _ _ _ _ _ _ _ (at-loop .loop .inv) (at-class-by .class-by .ensures .0) (record { answers = at-next .next .ensures .0; placed = at-next .next .ensures .1 .0; stored = at-next .next .ensures .1 .1 .0; written = at-next .next .ensures .1 .1 .1 .0; joined = at-next .next .ensures .1 .1 .1 .1 .0 }) (at-is-last .is-last .ensures) (at-if1 .if1 .left))
 
 loop-again : tie.Need-loop-again Inv-loop μ-loop
 loop-again c =
     let at-if1 = c .before .before in
     let at-is-last = at-if1 .before in
     let at-next = at-is-last .before .before .before .before .before in
-    let at-class-now = at-next .before .before .before .before .before in
-    let at-loop = at-class-now .before .before in
-    going-more _ _ _ _ _ _ _ _ (at-loop .loop .inv) (at-class-now .class-now .ensures .0) (record { answers = at-next .next .ensures .0; placed = at-next .next .ensures .1 .0; stored = at-next .next .ensures .1 .1 .0; written = at-next .next .ensures .1 .1 .1 .0; joined = at-next .next .ensures .1 .1 .1 .1 .0 }) (at-is-last .is-last .ensures) (at-if1 .if1 .left) (at-next .next .ensures .1 .1 .1 .1 .1) (at-class-now .class-now .ensures .1) (at-next .next .kept .1 .1 .1 .1 .1 .1 .1 .0) (at-next .next .kept .1 .1 .1 .1 .1 .1 .1 .1 .1 .0) (c .glyph-at .ensures)
+    let at-class-by = at-next .before .before .before .before .before in
+    let at-loop = at-class-by .before .before in
+    going-more _ _ _ _ _ _ _ _ _ (at-loop .loop .inv) (at-class-by .class-by .ensures .0) (record { answers = at-next .next .ensures .0; placed = at-next .next .ensures .1 .0; stored = at-next .next .ensures .1 .1 .0; written = at-next .next .ensures .1 .1 .1 .0; joined = at-next .next .ensures .1 .1 .1 .1 .0 }) (at-is-last .is-last .ensures) (at-if1 .if1 .left) (at-next .next .ensures .1 .1 .1 .1 .1) (at-class-by .class-by .ensures .1) (at-next .next .kept .1 .1 .1 .1 .1 .1 .1 .0) (at-next .next .kept .1 .1 .1 .1 .1 .1 .1 .1 .1 .0) (c .glyph-at .ensures)
 
 pub run-spec : {M : Type 1} → statement M
 run-spec =
@@ -92,7 +92,7 @@ run-spec =
     open-requires
     nothing-found-requires
     loop-holds
-    class-now-requires
+    class-by-requires
     next-requires
     is-last-requires
     same-length

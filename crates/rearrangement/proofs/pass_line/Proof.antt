@@ -7,19 +7,19 @@ use Rattle.rearrangement.proofs.pass_line.Statement.{statement}
 use Rattle.rearrangement.proofs.pass_line.Tie as tie
 
 abbrev Inv-loop2 : tie.InvT-loop2
-Inv-loop2 bytes states glyphs₀ tags₀ homes used opened memo₀ state₀ place stays₀ glyphs tags memo state stays =
-    Staying bytes states opened homes used place memo₀ glyphs₀ tags₀ state₀ memo glyphs tags state stays
+Inv-loop2 bytes states glyphs₀ tags₀ homes used index opened memo₀ state₀ place stays₀ glyphs tags memo state stays =
+    Staying index bytes states opened homes used place memo₀ glyphs₀ tags₀ state₀ memo glyphs tags state stays
 
 abbrev μ-loop2 : tie.MeasureT-loop2
-μ-loop2 bytes states glyphs₀ tags₀ homes used opened memo₀ state₀ place stays₀ glyphs tags memo state stays =
+μ-loop2 bytes states glyphs₀ tags₀ homes used index opened memo₀ state₀ place stays₀ glyphs tags memo state stays =
     (used - placeAfter stays place) * 18 + (18 - state .cycles)
 
 abbrev Inv-loop : tie.InvT-loop
-Inv-loop bytes states glyphs₀ tags₀ homes used opened memo₀ state₀ place₀ glyphs tags memo state place =
-    Going bytes states (lineOf glyphs₀ tags₀ homes used) opened memo glyphs tags homes used state place
+Inv-loop bytes states glyphs₀ tags₀ homes used index opened memo₀ state₀ place₀ glyphs tags memo state place =
+    Going index bytes states (lineOf glyphs₀ tags₀ homes used) opened memo glyphs tags homes used state place
 
 abbrev μ-loop : tie.MeasureT-loop
-μ-loop bytes states glyphs₀ tags₀ homes used opened memo₀ state₀ place₀ glyphs tags memo state place = used - place
+μ-loop bytes states glyphs₀ tags₀ homes used index opened memo₀ state₀ place₀ glyphs tags memo state place = used - place
 
 open-requires : tie.Need-open-requires Inv-loop2 μ-loop2 Inv-loop μ-loop
 open-requires c κs = search needs
@@ -31,31 +31,31 @@ new-requires : tie.Need-new-requires Inv-loop2 μ-loop2 Inv-loop μ-loop
 new-requires c κs = search needs
 
 loop-holds : tie.Need-loop-holds Inv-loop2 μ-loop2 Inv-loop μ-loop
-loop-holds c = going-start _ _ _ _ _ _ (c .before .before .«open» .ensures) (c .before .nothing-found .ensures) (c .new .ensures)
+loop-holds c = going-start _ _ _ _ _ _ _ (c .before .before .«open» .ensures) (c .before .nothing-found .ensures) (c .new .ensures)
 
 loop2-holds : tie.Need-loop2-holds Inv-loop2 μ-loop2 Inv-loop μ-loop
 loop2-holds c = record { leads = λ l₀ g. g }
 
-mul-class-now : tie.Need-mul-class-now Inv-loop2 μ-loop2 Inv-loop μ-loop
-mul-class-now c = search needs
+mul-class-by : tie.Need-mul-class-by Inv-loop2 μ-loop2 Inv-loop μ-loop
+mul-class-by c = search needs
 
-slice-read-class-now : tie.Need-slice-read-class-now Inv-loop2 μ-loop2 Inv-loop μ-loop
-slice-read-class-now c =
+slice-read-class-by : tie.Need-slice-read-class-by Inv-loop2 μ-loop2 Inv-loop μ-loop
+slice-read-class-by c =
     let at-loop2-test = c .before .before in
     let at-loop2 = at-loop2-test .before in
     let at-loop-test = at-loop2 .before in
     let at-loop = at-loop-test .before in
     let g = still-here (at-loop2 .loop2 .inv) (at-loop .loop .inv) (at-loop2-test .loop2-test .taken) in
-    let start = at-loop .before .before .before .before .before .before .before .before in
+    let start = at-loop .before .before .before .before .before .before .before .before .before in
     omega (arith, at-loop-test .loop-test .taken, g .long-glyphs, start .pre)
 
-class-now-requires : tie.Need-class-now-requires Inv-loop2 μ-loop2 Inv-loop μ-loop
-class-now-requires c κs =
+class-by-requires : tie.Need-class-by-requires Inv-loop2 μ-loop2 Inv-loop μ-loop
+class-by-requires c κs =
     let at-loop2-test = c .before .before in
     let at-loop2 = at-loop2-test .before in
     let at-loop = at-loop2 .before .before in
     let g = still-here (at-loop2 .loop2 .inv) (at-loop .loop .inv) (at-loop2-test .loop2-test .taken) in
-    (going-lies _ _ _ g, g .remembers)
+    (going-lies _ _ _ _ g, g .remembers)
 
 entry-of-requires : tie.Need-entry-of-requires Inv-loop2 μ-loop2 Inv-loop μ-loop
 entry-of-requires c κs = search needs
@@ -83,13 +83,13 @@ same-length-2 c =
 returns : tie.Need-returns Inv-loop2 μ-loop2 Inv-loop μ-loop
 returns c =
     let at-entry-of = c .before .before in
-    let at-class-now = at-entry-of .before in
-    let at-loop2-test = at-class-now .before .before .before in
+    let at-class-by = at-entry-of .before in
+    let at-loop2-test = at-class-by .before .before .before in
     let at-loop2 = at-loop2-test .before in
     let at-loop-test = at-loop2 .before in
     let at-loop = at-loop-test .before in
     let g = still-here (at-loop2 .loop2 .inv) (at-loop .loop .inv) (at-loop2-test .loop2-test .taken) in
-    let e = going-ended _ _ _ g (at-loop-test .loop-test .taken) (at-class-now .class-now .ensures .0) (at-entry-of .entry-of .ensures) (c .enum-told .given .1) in
+    let e = going-ended _ _ _ _ g (at-loop-test .loop-test .taken) (at-class-by .class-by .ensures .0) (at-entry-of .entry-of .ensures) (c .enum-told .given .1) in
     (e .answers, (e .glyphs-left, e .tags-left))
 
 act-requires : tie.Need-act-requires Inv-loop2 μ-loop2 Inv-loop μ-loop
@@ -101,7 +101,7 @@ edit-requires c κs =
     let at-loop2 = at-loop2-test .before in
     let at-loop = at-loop2 .before .before in
     let g = still-here (at-loop2 .loop2 .inv) (at-loop .loop .inv) (at-loop2-test .loop2-test .taken) in
-    let start = at-loop .before .before .before .before .before .before .before .before in
+    let start = at-loop .before .before .before .before .before .before .before .before .before in
     omega (arith, g .long-glyphs, g .long-tags, start .pre)
 
 loop2-less : tie.Need-loop2-less Inv-loop2 μ-loop2 Inv-loop μ-loop
@@ -110,13 +110,13 @@ loop2-less c =
     let at-act = at-edit .before .before .before in
     let at-entry = at-act .before .before in
     let at-entry-of = at-entry .before .before in
-    let at-class-now = at-entry-of .before in
-    let at-loop2-test = at-class-now .before .before .before in
+    let at-class-by = at-entry-of .before in
+    let at-loop2-test = at-class-by .before .before .before in
     let at-loop2 = at-loop2-test .before in
     let at-loop-test = at-loop2 .before in
     let at-loop = at-loop-test .before in
     let g = still-here (at-loop2 .loop2 .inv) (at-loop .loop .inv) (at-loop2-test .loop2-test .taken) in
-    rw (at-loop2-test .loop2-test .taken) (going-less _ _ _ g (at-loop-test .loop-test .taken) (at-class-now .class-now .ensures .0) (at-entry-of .entry-of .ensures) (at-entry .entry .given .1) (at-act .act .ensures))
+    rw (at-loop2-test .loop2-test .taken) (going-less _ _ _ _ g (at-loop-test .loop-test .taken) (at-class-by .class-by .ensures .0) (at-entry-of .entry-of .ensures) (at-entry .entry .given .1) (at-act .act .ensures))
 
 loop2-again : tie.Need-loop2-again Inv-loop2 μ-loop2 Inv-loop μ-loop
 loop2-again c =
@@ -124,14 +124,14 @@ loop2-again c =
     let at-act = at-edit .before .before .before in
     let at-entry = at-act .before .before in
     let at-entry-of = at-entry .before .before in
-    let at-class-now = at-entry-of .before in
-    let at-loop2-test = at-class-now .before .before .before in
+    let at-class-by = at-entry-of .before in
+    let at-loop2-test = at-class-by .before .before .before in
     let at-loop2 = at-loop2-test .before in
     let at-loop-test = at-loop2 .before in
     record {
       leads = λ l₀ g₀.
           let g = still-here (at-loop2 .loop2 .inv) g₀ (at-loop2-test .loop2-test .taken) in
-          going-goes _ _ _ g (at-loop-test .loop-test .taken) (at-class-now .class-now .ensures .0) (at-entry-of .entry-of .ensures) (at-entry .entry .given .1) (at-act .act .ensures) (at-class-now .class-now .ensures .1) (at-edit .edit .ensures .0) (at-edit .edit .ensures .1) (at-edit .edit .kept .0) (at-edit .edit .kept .1 .0);
+          going-goes _ _ _ _ g (at-loop-test .loop-test .taken) (at-class-by .class-by .ensures .0) (at-entry-of .entry-of .ensures) (at-entry .entry .given .1) (at-act .act .ensures) (at-class-by .class-by .ensures .1) (at-edit .edit .ensures .0) (at-edit .edit .ensures .1) (at-edit .edit .kept .0) (at-edit .edit .kept .1 .0);
     }
 
 add-place : tie.Need-add-place Inv-loop2 μ-loop2 Inv-loop μ-loop
@@ -163,7 +163,7 @@ returns-2 c =
     let at-next = at-edit2 .before .before .before in
     let at-loop-test = at-next .before in
     let at-loop = at-loop-test .before in
-    let e = going-end _ _ _ (at-loop .loop .inv) (at-loop-test .loop-test .left) (at-next .next .ensures) (at-edit2 .edit2 .ensures .0) (at-edit2 .edit2 .ensures .1) in
+    let e = going-end _ _ _ _ (at-loop .loop .inv) (at-loop-test .loop-test .left) (at-next .next .ensures) (at-edit2 .edit2 .ensures .0) (at-edit2 .edit2 .ensures .1) in
     (e .answers, (e .glyphs-left, e .tags-left))
 
 pub pass-line-spec : {M : Type 1} → statement M
@@ -179,9 +179,9 @@ pass-line-spec =
     new-requires
     loop-holds
     loop2-holds
-    mul-class-now
-    slice-read-class-now
-    class-now-requires
+    mul-class-by
+    slice-read-class-by
+    class-by-requires
     entry-of-requires
     enum-known-entry
     enum-told

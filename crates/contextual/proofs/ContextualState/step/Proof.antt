@@ -1,6 +1,6 @@
 use native.Mathlib.Omega.{arith}
 use borrow.Author.Needs.{needs}
-use mathlib.Core.Path.{sym, _∙_}
+use mathlib.Core.Path.{refl, sym, _∙_}
 use Rattle.machine.proofs.Calls.{stepped-line, stepped-inside}
 use Rattle.contextual.proofs.Calls.{step-refused, step-headless, step-worked}
 use Rattle.contextual.proofs.ContextualState.step.Statement.{statement}
@@ -52,9 +52,12 @@ returns-2 c =
 from-requires-2 : tie.Need-from-requires-2
 from-requires-2 c κs = search needs
 
+slice-aggregate-run : tie.Need-slice-aggregate-run
+slice-aggregate-run c = search needs
+
 run-requires : tie.Need-run-requires
 run-requires c κs =
-    let at-enum-told = c .before .before .before .before .before in
+    let at-enum-told = c .before .before .before .before .before .before in
     let at-refuse-step = at-enum-told .before .before in
     let passed = sym (at-refuse-step .refuse-step .ensures) ∙ at-enum-told .enum-told .given .1 in
     (stepped-line _ _ _ _ _ passed .within, omega (arith, stepped-inside _ _ _ _ _ passed))
@@ -65,13 +68,13 @@ same-length-3 c = search needs
 returns-3 : tie.Need-returns-3
 returns-3 c =
     let at-run = c .before .before in
-    let at-from2 = at-run .before .before in
+    let at-from2 = at-run .before .before .before in
     let at-made = at-from2 .before .before in
     let at-enum-told = at-made .before .before in
     let at-refuse-step = at-enum-told .before .before in
     let at-open = at-refuse-step .before .before in
     let at-from = at-open .before in
-    step-worked _ _ _ _ _ _ _ _ _ _ (at-from .from .ensures) (at-open .«open» .ensures) (at-refuse-step .refuse-step .ensures) (at-enum-told .enum-told .given .1) (at-made .made .given .1) (at-from2 .from2 .ensures) (at-run .run .ensures .0) (at-run .run .ensures .1)
+    step-worked _ _ _ _ _ _ _ _ _ _ (at-from .from .ensures) (at-open .«open» .ensures) (at-refuse-step .refuse-step .ensures) _ refl (at-enum-told .enum-told .given .1) (at-made .made .given .1) (at-from2 .from2 .ensures) (at-run .run .ensures .0) (at-run .run .ensures .1)
 
 pub step-spec : {M : Type 1} → statement M
 step-spec =
@@ -89,6 +92,7 @@ step-spec =
     same-length-2
     returns-2
     from-requires-2
+    slice-aggregate-run
     run-requires
     same-length-3
     returns-3)

@@ -1,4 +1,4 @@
-use mathlib.Core.Path.{sym, _∙_}
+use mathlib.Core.Path.{refl, sym, _∙_}
 use Rattle.line.specs.Line.{lineOf}
 use Rattle.ligature.proofs.Calls.{step-fits, step-refused, step-headless, step-worked}
 use Rattle.ligature.proofs.Passes.{step-reaches}
@@ -58,9 +58,12 @@ returns-2 c =
 from-requires-2 : tie.Need-from-requires-2
 from-requires-2 c κs = search needs
 
+slice-aggregate-run : tie.Need-slice-aggregate-run
+slice-aggregate-run c = search needs
+
 run-requires : tie.Need-run-requires
 run-requires c κs =
-    let at-enum-told = c .before .before .before .before .before .before .before .before .before .before in
+    let at-enum-told = c .before .before .before .before .before .before .before .before .before .before .before in
     let at-refuse-step = at-enum-told .before .before in
     step-fits _ (lineOf _ _ _ _) _ _ _ (sym (at-refuse-step .refuse-step .ensures) ∙ at-enum-told .enum-told .given .1)
 
@@ -76,13 +79,13 @@ same-length-6 c = search needs
 returns-3 : tie.Need-returns-3
 returns-3 c =
     let at-run = c .before .before .before .before .before in
-    let at-from2 = at-run .before .before .before .before .before in
+    let at-from2 = at-run .before .before .before .before .before .before in
     let at-made = at-from2 .before .before .before .before in
     let at-enum-told = at-made .before .before in
     let at-refuse-step = at-enum-told .before .before in
     let at-open = at-refuse-step .before .before .before in
     let at-from = at-open .before in
-    step-worked _ _ _ _ _ _ _ _ _ _ (at-from .from .ensures) (at-open .«open» .ensures) (at-refuse-step .refuse-step .ensures) (at-enum-told .enum-told .given .1) (at-made .made .given .1) (at-from2 .from2 .ensures) (step-reaches _ _ _ _ _ _ _ _ (record { answers = at-run .run .ensures .0; placed = at-run .run .ensures .1 .0; stored = at-run .run .ensures .1 .1 .0; written = at-run .run .ensures .1 .1 .1 .0; joined = at-run .run .ensures .1 .1 .1 .1 })) (c .advance-of .ensures)
+    step-worked _ _ _ _ _ _ _ _ _ _ (at-from .from .ensures) (at-open .«open» .ensures) (at-refuse-step .refuse-step .ensures) (at-enum-told .enum-told .given .1) (at-made .made .given .1) (at-from2 .from2 .ensures) (step-reaches _ refl _ _ _ _ _ _ _ _ (record { answers = at-run .run .ensures .0; placed = at-run .run .ensures .1 .0; stored = at-run .run .ensures .1 .1 .0; written = at-run .run .ensures .1 .1 .1 .0; joined = at-run .run .ensures .1 .1 .1 .1 })) (c .advance-of .ensures)
 
 pub step-spec : {M : Type 1} → statement M
 step-spec =
@@ -102,6 +105,7 @@ step-spec =
     same-length-4
     returns-2
     from-requires-2
+    slice-aggregate-run
     run-requires
     advance-of-requires
     same-length-5

@@ -1,23 +1,24 @@
 use mathlib.Core.Path.{refl}
+use mathlib.Core.List.{[]}
 use Rattle.state_tables.specs.Opened.{openedClasses, nothingFound}
 use Prim.Native.Nat.{_+_, _*_, _-_}
 use native.Mathlib.Omega.{arith}
 use borrow.Author.Needs.{needs}
 use Rattle.line.specs.Line.{lineOf}
-use Rattle.rearrangement.proofs.Passes.{placeAfter, Going, Staying, still-here, moved-on, going-start, going-ended, going-less, going-goes, going-end, class-lent}
+use Rattle.rearrangement.proofs.Passes.{placeAfter, Going, Staying, still-here, moved-on, going-start, going-ended, going-less, going-goes, going-end, class-lent, lent-answers, lent-glyphs, lent-tags}
 use Rattle.rearrangement.proofs.lent.pass.Statement.{statement}
 use Rattle.rearrangement.proofs.lent.pass.Tie as tie
 
 abbrev Inv-loop2 : tie.InvT-loop2
 Inv-loop2 bytes states glyphs₀ tags₀ homes used state₀ place stays₀ glyphs tags state stays =
-    Staying bytes states (openedClasses bytes (states .edition)) homes used place nothingFound glyphs₀ tags₀ state₀ nothingFound glyphs tags state stays
+    Staying [] bytes states (openedClasses bytes (states .edition)) homes used place nothingFound glyphs₀ tags₀ state₀ nothingFound glyphs tags state stays
 
 abbrev μ-loop2 : tie.MeasureT-loop2
 μ-loop2 bytes states glyphs₀ tags₀ homes used state₀ place stays₀ glyphs tags state stays = (used - placeAfter stays place) * 18 + (18 - state .cycles)
 
 abbrev Inv-loop : tie.InvT-loop
 Inv-loop bytes states glyphs₀ tags₀ homes used state₀ place₀ glyphs tags state place =
-    Going bytes states (lineOf glyphs₀ tags₀ homes used) (openedClasses bytes (states .edition)) nothingFound glyphs tags homes used state place
+    Going [] bytes states (lineOf glyphs₀ tags₀ homes used) (openedClasses bytes (states .edition)) nothingFound glyphs tags homes used state place
 
 abbrev μ-loop : tie.MeasureT-loop
 μ-loop bytes states glyphs₀ tags₀ homes used state₀ place₀ glyphs tags state place = used - place
@@ -26,7 +27,7 @@ new-requires : tie.Need-new-requires Inv-loop2 μ-loop2 Inv-loop μ-loop
 new-requires c κs = search needs
 
 loop-holds : tie.Need-loop-holds Inv-loop2 μ-loop2 Inv-loop μ-loop
-loop-holds c = going-start _ _ _ _ _ _ refl refl (c .new .ensures)
+loop-holds c = going-start [] _ _ _ _ _ _ refl refl (c .new .ensures)
 
 loop2-holds : tie.Need-loop2-holds Inv-loop2 μ-loop2 Inv-loop μ-loop
 loop2-holds c = record { leads = λ l₀ g. g }
@@ -79,8 +80,8 @@ returns c =
     let at-loop-test = at-loop2 .before in
     let at-loop = at-loop-test .before in
     let g = still-here (at-loop2 .loop2 .inv) (at-loop .loop .inv) (at-loop2-test .loop2-test .taken) in
-    let e = going-ended _ _ _ g (at-loop-test .loop-test .taken) (class-lent _ _ _ (at-class-at .class-at .ensures)) (at-entry-of .entry-of .ensures) (c .enum-told .given .1) in
-    (e .answers, (e .glyphs-left, e .tags-left))
+    let e = going-ended [] _ _ _ g (at-loop-test .loop-test .taken) (class-lent _ _ _ (at-class-at .class-at .ensures)) (at-entry-of .entry-of .ensures) (c .enum-told .given .1) in
+    (lent-answers e, (lent-glyphs e, lent-tags e))
 
 act-requires : tie.Need-act-requires Inv-loop2 μ-loop2 Inv-loop μ-loop
 act-requires c κs = search needs
@@ -106,7 +107,7 @@ loop2-less c =
     let at-loop-test = at-loop2 .before in
     let at-loop = at-loop-test .before in
     let g = still-here (at-loop2 .loop2 .inv) (at-loop .loop .inv) (at-loop2-test .loop2-test .taken) in
-    rw (at-loop2-test .loop2-test .taken) (going-less _ _ _ g (at-loop-test .loop-test .taken) (class-lent _ _ _ (at-class-at .class-at .ensures)) (at-entry-of .entry-of .ensures) (at-entry .entry .given .1) (at-act .act .ensures))
+    rw (at-loop2-test .loop2-test .taken) (going-less [] _ _ _ g (at-loop-test .loop-test .taken) (class-lent _ _ _ (at-class-at .class-at .ensures)) (at-entry-of .entry-of .ensures) (at-entry .entry .given .1) (at-act .act .ensures))
 
 loop2-again : tie.Need-loop2-again Inv-loop2 μ-loop2 Inv-loop μ-loop
 loop2-again c =
@@ -121,7 +122,7 @@ loop2-again c =
     record {
       leads = λ l₀ g₀.
           let g = still-here (at-loop2 .loop2 .inv) g₀ (at-loop2-test .loop2-test .taken) in
-          going-goes _ _ _ g (at-loop-test .loop-test .taken) (class-lent _ _ _ (at-class-at .class-at .ensures)) (at-entry-of .entry-of .ensures) (at-entry .entry .given .1) (at-act .act .ensures) (g .remembers) (at-edit .edit .ensures .0) (at-edit .edit .ensures .1) (at-edit .edit .kept .0) (at-edit .edit .kept .1 .0);
+          going-goes [] _ _ _ g (at-loop-test .loop-test .taken) (class-lent _ _ _ (at-class-at .class-at .ensures)) (at-entry-of .entry-of .ensures) (at-entry .entry .given .1) (at-act .act .ensures) (g .remembers) (at-edit .edit .ensures .0) (at-edit .edit .ensures .1) (at-edit .edit .kept .0) (at-edit .edit .kept .1 .0);
     }
 
 add-place : tie.Need-add-place Inv-loop2 μ-loop2 Inv-loop μ-loop
@@ -153,8 +154,8 @@ returns-2 c =
     let at-next = at-edit2 .before .before .before in
     let at-loop-test = at-next .before in
     let at-loop = at-loop-test .before in
-    let e = going-end _ _ _ (at-loop .loop .inv) (at-loop-test .loop-test .left) (at-next .next .ensures) (at-edit2 .edit2 .ensures .0) (at-edit2 .edit2 .ensures .1) in
-    (e .answers, (e .glyphs-left, e .tags-left))
+    let e = going-end [] _ _ _ (at-loop .loop .inv) (at-loop-test .loop-test .left) (at-next .next .ensures) (at-edit2 .edit2 .ensures .0) (at-edit2 .edit2 .ensures .1) in
+    (lent-answers e, (lent-glyphs e, lent-tags e))
 
 pub pass-spec : {M : Type 1} → statement M
 pass-spec =

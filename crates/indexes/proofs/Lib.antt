@@ -1,0 +1,4 @@
+-- The proofs about indexes of classes.
+pub mod Laws
+pub mod Filling
+pub mod Same

@@ -1,0 +1,2 @@
+-- Indexes of classes.
+pub mod Index
