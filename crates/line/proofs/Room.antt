@@ -1,5 +1,5 @@
 -- What the proofs use of the room's limit: it is small, and the LINE test has a bit for each tag below it.
-use Prim.Native.Nat.{ℕ, _/_, _<_, _≤_}
+use Prim.Native.Nat.{ℕ, _*_, _≤_}
 use native.Mathlib.Omega.{arith}
 use Rattle.answers.specs.Limits.{roomLimit}
 
@@ -11,6 +11,6 @@ room-small = omega arith
 abbrev pub words : ℕ
 words = 512
 
-pub word-inside : (tag : ℕ) → tag < roomLimit → tag / 64 < words
+pub room-words : roomLimit ≤ words * 64
 unfolding roomLimit
-word-inside tag h = omega arith
+room-words = omega arith

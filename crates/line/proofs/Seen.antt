@@ -13,7 +13,6 @@ use lib.ListN.{length, getD, replicate, length-set, length-replicate, getD-repli
 use lib.Pow.{shl-exact, shl-shr, pow-add, pow-lt, pow-pos}
 use lib.Seq.{getD-set-same, getD-set-other}
 use borrow.Author.Tests.{lt-ltb, le-ltb, eq-eqb, ne-eqb, not-true, not-false}
-use Rattle.answers.specs.Limits.{roomLimit}
 use Rattle.laws.specs.Lists.{both, every}
 use Rattle.laws.proofs.Lists.{every-none, every-more, every-fails}
 use Rattle.laws.proofs.Numbers.{lt-or-ge, eq-or-ne}
@@ -84,44 +83,53 @@ seen-none count tag h = rw (getD-replicate {A = ℕ} count (tag / 64) 0 0 h) (ze
     zero-bit k = ap (λ (n : ℕ). eqb (n % 2) 1) (div-eq-of-lt (pow-pos k))
 
 -- The loop over the tags: each of the first p is below the used length and stands once, and the bits are theirs.
-pub record Marking (tags : List ℕ) (used : ℕ) (seen : List ℕ) (p : ℕ) : Type 0 where
+pub record Marking (words : ℕ) (tags : List ℕ) (used : ℕ) (seen : List ℕ) (p : ℕ) : Type 0 where
   pub within : p ≤ used
-  pub enough : (t : ℕ) → t < roomLimit → t / 64 < length seen
+  pub long : length seen ≡ words
+  pub enough : used ≤ words * 64
   pub so-far : every (λ q. both (ltb (getD tags q 0) used) (isNew tags q (getD tags q 0))) p ≡ true
-  pub bits : (t : ℕ) → t < roomLimit → hasSeen seen t ≡ not (isNew tags p t)
+  pub bits : (t : ℕ) → t < used → hasSeen seen t ≡ not (isNew tags p t)
 
-pub marking-start : (tags : List ℕ) (used count : ℕ) → ((t : ℕ) → t < roomLimit → t / 64 < count) → Marking tags used (replicate count 0) 0
+pub marking-start : (words : ℕ) (tags : List ℕ) (used : ℕ) (seen : List ℕ) → seen ≡ replicate words 0 → used ≤ words * 64 → Marking words tags used seen 0
 unfolding isNew
-marking-start tags used count enough =
+marking-start words tags used seen clear enough =
     record {
       within = omega arith;
-      enough = λ t h. rw (length-replicate {A = ℕ} count 0) (enough t h);
+      long = ap length clear ∙ length-replicate {A = ℕ} words 0;
+      enough = enough;
       so-far = every-none _;
-      bits = λ t h. seen-none count t (enough t h) ∙ ap not (sym (every-none (λ q. not (eqb (getD tags q 0) t))));
+      bits = λ t h.
+          ap (λ (s : List ℕ). hasSeen s t) clear
+          ∙ seen-none words t (omega arith)
+          ∙ ap not (sym (every-none (λ q. not (eqb (getD tags q 0) t))));
     }
 
-module _ (tags : List ℕ) (used : ℕ) (seen : List ℕ) (p : ℕ) (m : Marking tags used seen p) (more : p < used) where
+module _ (words : ℕ) (tags : List ℕ) (used : ℕ) (seen : List ℕ) (p : ℕ) (m : Marking words tags used seen p) (more : p < used) where
+  -- a tag of the line has its word
+  pub marking-word : getD tags p 0 < used → getD tags p 0 / 64 < length seen
+  marking-word h = omega (arith, m .enough, m .long)
+
   -- a tag that is too large, or that was met before
   pub marking-large : used ≤ getD tags p 0 → false ≡ isOnceEach tags used
   unfolding isOnceEach
   marking-large h = sym (every-fails _ used p (rw (le-ltb (getD tags p 0) used h)) more)
 
-  pub marking-again : {met : Bool} → getD tags p 0 < used → used ≤ roomLimit → met ≡ hasSeen seen (getD tags p 0) → met ≡ true
+  pub marking-again : {met : Bool} → getD tags p 0 < used → met ≡ hasSeen seen (getD tags p 0) → met ≡ true
       → false ≡ isOnceEach tags used
   unfolding isOnceEach
-  marking-again h k e i =
-      let old : isNew tags p (getD tags p 0) ≡ false = not-true _ (sym (m .bits (getD tags p 0) (omega arith)) ∙ sym e ∙ i) in
+  marking-again h e i =
+      let old : isNew tags p (getD tags p 0) ≡ false = not-true _ (sym (m .bits (getD tags p 0) h) ∙ sym e ∙ i) in
       sym (every-fails _ used p (rw (lt-ltb (getD tags p 0) used h) old) more)
 
-  marked : getD tags p 0 < used → used ≤ roomLimit → hasSeen seen (getD tags p 0) ≡ false → Marking tags used (withTag seen (getD tags p 0)) (p + 1)
+  marked : getD tags p 0 < used → hasSeen seen (getD tags p 0) ≡ false → Marking words tags used (withTag seen (getD tags p 0)) (p + 1)
   unfolding isNew withTag every
-  marked h k e =
-      let here : getD tags p 0 < roomLimit = omega arith in
-      let new : isNew tags p (getD tags p 0) ≡ true = not-false _ (sym (m .bits (getD tags p 0) here) ∙ e) in
-      let wide = m .enough (getD tags p 0) here in
+  marked h e =
+      let new : isNew tags p (getD tags p 0) ≡ true = not-false _ (sym (m .bits (getD tags p 0) h) ∙ e) in
+      let wide : getD tags p 0 / 64 < length seen = marking-word h in
       record {
         within = omega arith;
-        enough = λ t i. rw (length-set seen (getD tags p 0 / 64) _) (m .enough t i);
+        long = length-set seen (getD tags p 0 / 64) _ ∙ m .long;
+        enough = m .enough;
         so-far = rw (add-one p) (every-more _ p (m .so-far) (rw (lt-ltb (getD tags p 0) used h) new));
         bits = λ t i.
             rw (add-one p)
@@ -132,12 +140,12 @@ module _ (tags : List ℕ) (used : ℕ) (seen : List ℕ) (p : ℕ) (m : Marking
             (eq-or-ne (getD tags p 0) t));
       }
 
-  pub marking-next : {met : Bool} {after : List ℕ} → getD tags p 0 < used → used ≤ roomLimit → met ≡ hasSeen seen (getD tags p 0) → met ≡ false
-      → after ≡ withTag seen (getD tags p 0) → Marking tags used after (p + 1)
-  marking-next h k e i a = rw a (marked h k (sym e ∙ i))
+  pub marking-next : {met : Bool} {after : List ℕ} → getD tags p 0 < used → met ≡ hasSeen seen (getD tags p 0) → met ≡ false
+      → after ≡ withTag seen (getD tags p 0) → Marking words tags used after (p + 1)
+  marking-next h e i a = rw a (marked h (sym e ∙ i))
 
-pub marking-done : (tags : List ℕ) (used : ℕ) (seen : List ℕ) (p : ℕ) → Marking tags used seen p → used ≤ p → true ≡ isOnceEach tags used
+pub marking-done : (words : ℕ) (tags : List ℕ) (used : ℕ) (seen : List ℕ) (p : ℕ) → Marking words tags used seen p → used ≤ p → true ≡ isOnceEach tags used
 unfolding isOnceEach
-marking-done tags used seen p m h =
+marking-done words tags used seen p m h =
     let e : p ≡ used = omega (arith, m .within) in
     sym (rw e at (m .so-far))

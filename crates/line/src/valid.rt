@@ -1,7 +1,7 @@
 // The LINE test: one pass over the tags, with a bit for each that was met, and one over the homes.
 ghost use mathlib.Core.Path.{_≡_};
-ghost use Prim.Native.Nat.{_<_, _≤_};
-ghost use lib.ListN.{length};
+ghost use Prim.Native.Nat.{_*_, _/_, _<_, _≤_};
+ghost use lib.ListN.{length, replicate};
 ghost use Rattle.laws.specs.Lists.{both};
 ghost use Rattle.answers.specs.Limits.{roomLimit};
 ghost use Rattle.line.specs.Line.{lineOf};
@@ -9,24 +9,46 @@ ghost use Rattle.line.specs.Test.{isOnceEach, areHoused, isLegal, isVali
 ghost use Rattle.line.specs.Seen.{hasSeen, withTag, areInOrder};
 use answers::ROOM;
 
-// Words of 64 bits that have a bit for each tag.
+// Words of 64 bits that have a bit for each tag, and how many are enough for a short line, which does not wait until all are zeroed.
 pub const WORDS: usize = ROOM / 64;
 
+const SHORT: usize = 4096;
+
 // Whether the tag was met.
-pub fn has_seen(seen: &[u64; WORDS], tag: u16) -> bool
-    requires { ⌜ tag < roomLimit ⌝ }
+pub fn has_seen(seen: &[u64], tag: u16) -> bool
+    requires { ⌜ tag / 64 < length (now seen) ⌝ }
     ensures { λ r. ⌜ r ≡ hasSeen (now (seen .entry)) tag ⌝ }
 {
     (seen[(tag / 64) as usize] >> (tag % 64)) % 2 == 1
 }
 
 // The tag is met.
-pub fn mark(seen: &mut [u64; WORDS], tag: u16)
-    requires { ⌜ tag < roomLimit ⌝ }
+pub fn mark(seen: &mut [u64], tag: u16)
+    requires { ⌜ tag / 64 < length (now seen) ⌝ }
     ensures { λ _. ⌜ now (seen .exit) ≡ withTag (now (seen .entry)) tag ⌝ }
 {
     let word = (tag / 64) as usize;
     seen[word] = seen[word] | (1 << (tag % 64));
+}
+
+// Whether the used tags are 0 to `used` - 1 once each, with words in which no tag was met.
+fn once_each_in(seen: &mut [u64], tags: &[u16], used: usize) -> bool
+    requires { ⌜ (used ≤ length (now tags)) × (used ≤ roomLimit) × (used ≤ length (now seen) * 64) × (now seen ≡ replicate (length (now seen)) 0) ⌝ }
+    ensures { λ r. ⌜ r ≡ isOnceEach (now (tags .entry)) used ⌝ }
+{
+    let mut p = 0;
+    while p < used {
+        let tag = tags[p];
+        if used <= tag as usize {
+            return false;
+        }
+        if has_seen(seen, tag) {
+            return false;
+        }
+        mark(seen, tag);
+        p += 1;
+    }
+    true
 }
 
 // Whether the used tags are 0 to `used` - 1 once each.
@@ -34,20 +56,12 @@ fn once_each(tags: &[u16], used: usize) -> bool
     requires { ⌜ (used ≤ length (now tags)) × (used ≤ roomLimit) ⌝ }
     ensures { λ r. ⌜ r ≡ isOnceEach (now (tags .entry)) used ⌝ }
 {
-    let mut seen = [0u64; WORDS];
-    let mut p = 0;
-    while p < used {
-        let tag = tags[p];
-        if used <= tag as usize {
-            return false;
-        }
-        if has_seen(&seen, tag) {
-            return false;
-        }
-        mark(&mut seen, tag);
-        p += 1;
+    if used <= SHORT {
+        let mut seen = [0u64; SHORT / 64];
+        return once_each_in(&mut seen, tags, used);
     }
-    true
+    let mut seen = [0u64; WORDS];
+    once_each_in(&mut seen, tags, used)
 }
 
 // Both tests hold. The loops below look at every number, so that several are compared at once.

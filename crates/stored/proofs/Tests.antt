@@ -1,5 +1,5 @@
 -- The tests of bytes that may be a record, in the order of the code.
-use Prim.Native.Nat.{ℕ, _+_, _*_, _<_, _≤_}
+use Prim.Native.Nat.{ℕ, _+_, _*_, _/_, _<_, _≤_}
 use mathlib.Core.Path.{_≡_, _∙_, sym, ap}
 use mathlib.Core.Bool.{Bool, true, false, not}
 use mathlib.Core.List.{List}
@@ -14,7 +14,8 @@ use Rattle.laws.proofs.Lists.{both-right, length-tab, getD-tab, every-none, eve
 use Rattle.parse.specs.Reads.{u16At}
 use Rattle.line.specs.Test.{isOnceEach, areHoused, isLegal}
 use Rattle.line.specs.Seen.{hasSeen, withTag}
-use Rattle.line.proofs.Seen.{Marking, marking-large, marking-again, marking-next}
+use Rattle.line.proofs.Room.{words}
+use Rattle.line.proofs.Seen.{Marking, marking-word, marking-large, marking-again, marking-next}
 use Rattle.line.proofs.Tests.{legal-crowded, legal-homeless, legal-rest}
 use Rattle.stored.specs.Record.{versionOf, sizeOf}
 use Rattle.stored.specs.Reading.{versionIn, lengthIn, charactersIn, tagsIn, homesIn, isMarked, isKnown, isOther, isOwn, isRecord}
@@ -32,20 +33,23 @@ unfolding tagsIn
 getD-tagsIn bytes used p h = getD-tab _ used p 0 h
 
 -- The loop over the tags is that of the LINE test.
-module _ (bytes : List ℕ) (used : ℕ) (seen : List ℕ) (p : ℕ) (m : Marking (tagsIn bytes used) used seen p) (more : p < used) where
+module _ (bytes : List ℕ) (used : ℕ) (seen : List ℕ) (p : ℕ) (m : Marking words (tagsIn bytes used) used seen p) (more : p < used) where
   module _ {tag : ℕ} (e : tag ≡ u16At bytes (11 + p * 4)) where
     same : tag ≡ getD (tagsIn bytes used) p 0
     same = e ∙ sym (getD-tagsIn bytes used p more)
 
+    pub tags-word : tag < used → tag / 64 < length seen
+    tags-word h = rw same (marking-word _ _ used seen p m more (rw (← same) h))
+
     pub tags-large : used ≤ tag → false ≡ isOnceEach (tagsIn bytes used) used
-    tags-large h = marking-large _ used seen p m more (rw (← same) h)
+    tags-large h = marking-large _ _ used seen p m more (rw (← same) h)
 
-    pub tags-again : {met : Bool} → tag < used → used ≤ roomLimit → met ≡ hasSeen seen tag → met ≡ true → false ≡ isOnceEach (tagsIn bytes used) used
-    tags-again h k i j = marking-again _ used seen p m more (rw (← same) h) k (rw (← same) i) j
+    pub tags-again : {met : Bool} → tag < used → met ≡ hasSeen seen tag → met ≡ true → false ≡ isOnceEach (tagsIn bytes used) used
+    tags-again h i j = marking-again _ _ used seen p m more (rw (← same) h) (rw (← same) i) j
 
-    pub tags-next : {met : Bool} {after : List ℕ} → tag < used → used ≤ roomLimit → met ≡ hasSeen seen tag → met ≡ false → after ≡ withTag seen tag
-        → Marking (tagsIn bytes used) used after (p + 1)
-    tags-next h k i j a = marking-next _ used seen p m more (rw (← same) h) k (rw (← same) i) j (rw (← same) a)
+    pub tags-next : {met : Bool} {after : List ℕ} → tag < used → met ≡ hasSeen seen tag → met ≡ false → after ≡ withTag seen tag
+        → Marking words (tagsIn bytes used) used after (p + 1)
+    tags-next h i j a = marking-next _ _ used seen p m more (rw (← same) h) (rw (← same) i) j (rw (← same) a)
 
 -- The loop over the homes: each of the first c is below the used length.
 pub record Housing (bytes : List ℕ) (used characters c : ℕ) : Type 0 where

@@ -1,5 +1,4 @@
 use Rattle.line.specs.Seen.{hasSeen}
-use Rattle.line.proofs.Room.{word-inside}
 use borrow.Author.Needs.{needs}
 use Rattle.line.proofs.valid.has_seen.Statement.{statement}
 use Rattle.line.proofs.valid.has_seen.Tie as tie
@@ -10,8 +9,8 @@ cast-result c = search needs
 mul-result : tie.Need-mul-result
 mul-result c = search needs
 
-element-copy-out-result : tie.Need-element-copy-out-result
-element-copy-out-result c = word-inside _ (c .pre)
+shared-slice-read-result : tie.Need-shared-slice-read-result
+shared-slice-read-result c = c .before .pre
 
 cast-result-2 : tie.Need-cast-result-2
 cast-result-2 c = search needs
@@ -26,4 +25,4 @@ returns c = search needs
 pub has-seen-spec : {M : Type 1} → statement M
 has-seen-spec =
     tie.close
-    (tie.spec cast-result mul-result element-copy-out-result cast-result-2 shr-result returns)
+    (tie.spec cast-result mul-result shared-slice-read-result cast-result-2 shr-result returns)

@@ -2,7 +2,6 @@ use Prim.Native.Nat.{_%_}
 use native.Mathlib.Omega.{arith}
 use Rattle.line.specs.Seen.{withTag}
 use Rattle.line.proofs.Seen.{one-shifted}
-use Rattle.line.proofs.Room.{word-inside}
 use borrow.Author.Needs.{needs}
 use Rattle.line.proofs.valid.mark.Statement.{statement}
 use Rattle.line.proofs.valid.mark.Tie as tie
@@ -13,8 +12,8 @@ cast-word c = search needs
 mul-seen : tie.Need-mul-seen
 mul-seen c = search needs
 
-element-copy-out-seen : tie.Need-element-copy-out-seen
-element-copy-out-seen c = word-inside _ (c .pre)
+slice-read-seen : tie.Need-slice-read-seen
+slice-read-seen c = c .before .pre
 
 cast-seen : tie.Need-cast-seen
 cast-seen c = search needs
@@ -25,8 +24,11 @@ shl-seen c = search needs
 mul-seen-2 : tie.Need-mul-seen-2
 mul-seen-2 c = search needs
 
-element-write-seen : tie.Need-element-write-seen
-element-write-seen c = word-inside _ (c .before .pre)
+slice-write-seen : tie.Need-slice-write-seen
+slice-write-seen c = c .before .pre
+
+same-length : tie.Need-same-length
+same-length c = search needs
 
 returns : tie.Need-returns
 unfolding withTag
@@ -38,9 +40,10 @@ mark-spec =
     (tie.spec
     cast-word
     mul-seen
-    element-copy-out-seen
+    slice-read-seen
     cast-seen
     shl-seen
     mul-seen-2
-    element-write-seen
+    slice-write-seen
+    same-length
     returns)
