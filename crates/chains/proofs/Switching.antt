@@ -11,6 +11,7 @@ use lib.ListN.{length, getD, drop, drop-of-length-le}
 use lib.Seq.{drop-cons}
 use borrow.Author.Tests.{eq-eqb, ne-eqb, eqb-true, eqb-false}
 use Rattle.laws.specs.Choose.{ifEq}
+use Rattle.laws.specs.Lists.{either}
 use Rattle.parse.specs.Reads.{inside}
 use Rattle.chains.specs.Lists.{featureAt, nextFeature}
 use Rattle.chains.specs.Features.{requestOf, isAsked, switched, featuresOf, switchedBy, flagsBehind}
@@ -19,31 +20,35 @@ use Rattle.chains.specs.declared.Feature.{Feature}
 use Rattle.chains.specs.declared.NextFeature.{NextFeature}
 use Rattle.chains.specs.declared.NextFeature.the-variants as Feature′
 
-pub record Asking (requests : List ℕ) (wanted i : ℕ) : Type 0 where
+-- The loop over the requests: one of those gone through, or one of the rest, is the wanted one.
+pub record Asking (requests : List ℕ) (wanted : ℕ) (asked : Bool) (i : ℕ) : Type 0 where
   pub within : i ≤ length requests
-  pub same : isAsked (drop i requests) wanted ≡ isAsked requests wanted
+  pub same : either asked (isAsked (drop i requests) wanted) ≡ isAsked requests wanted
 
-pub asking-start : (requests : List ℕ) (wanted : ℕ) → Asking requests wanted 0
+pub asking-start : (requests : List ℕ) (wanted : ℕ) → Asking requests wanted false 0
 asking-start requests wanted = record { within = omega arith; same = refl }
 
-module _ {requests : List ℕ} {wanted i : ℕ} (s : Asking requests wanted i) where
-  step : i < length requests → isAsked (drop i requests) wanted ≡ ifEq (getD requests i 0) wanted true (isAsked (drop (suc i) requests) wanted)
+module _ {requests : List ℕ} {wanted : ℕ} {asked : Bool} {i : ℕ} (s : Asking requests wanted asked i) where
+  pub asking-next : {here : Bool} → i < length requests → here ≡ either (eqb (getD requests i 0) wanted) asked → Asking requests wanted here (i + 1)
   unfolding isAsked
-  step h = rw (drop-cons requests i 0 h)
-
-  pub asking-here : i < length requests → getD requests i 0 ≡ wanted → true ≡ isAsked requests wanted
-  asking-here h e = sym (step h ∙ rw (eq-eqb (getD requests i 0) wanted e)) ∙ s .same
-
-  pub asking-next : i < length requests → (getD requests i 0 ≡ wanted → ⊥) → Asking requests wanted (i + 1)
   asking-next h e =
       record {
         within = omega arith;
-        same = rw (add-one i) (sym (step h ∙ rw (ne-eqb (getD requests i 0) wanted e)) ∙ s .same);
+        same = rw (e, add-one i) (gone-on (eqb (getD requests i 0) wanted) asked (isAsked (drop (suc i) requests) wanted) ∙ rw (drop-cons requests i 0 h) at (s .same));
       }
+    where
+      gone-on : (here before rest : Bool) → either (either here before) rest ≡ either before (cond here true rest)
+      gone-on true true rest = refl
+      gone-on true false rest = refl
+      gone-on false before rest = refl
 
-  pub asking-done : length requests ≤ i → false ≡ isAsked requests wanted
+  pub asking-done : length requests ≤ i → asked ≡ isAsked requests wanted
   unfolding isAsked
-  asking-done h = ap (λ (rest : List ℕ). isAsked rest wanted) (sym (drop-of-length-le requests h)) ∙ s .same
+  asking-done h = none asked ∙ ap (λ (rest : List ℕ). either asked (isAsked rest wanted)) (sym (drop-of-length-le requests h)) ∙ s .same
+    where
+      none : (b : Bool) → b ≡ either b false
+      none true = refl
+      none false = refl
 
 -- a feature that was looked for
 module _ (requests : List ℕ) (feature : Feature) (flags : ℕ) {wanted : ℕ} {asked : Bool} (w : wanted ≡ requestOf feature) (a : asked ≡ isAsked requests wanted) where

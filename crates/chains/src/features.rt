@@ -3,6 +3,7 @@ use crate::Cursor;
 use crate::Feature;
 use crate::NextFeature;
 ghost use mathlib.Core.Path.{_≡_};
+ghost use Rattle.laws.specs.Lists.{either};
 ghost use Rattle.chains.specs.Features.{requestOf, isAsked, switched, flagsBehind};
 
 // A feature as it is asked for: its type times 65,536 plus its setting.
@@ -12,18 +13,27 @@ fn request_of(feature: Feature) -> u32
     crate::half(feature.selector) * 65536 + crate::half(feature.setting)
 }
 
+// One of two tests holds. The loop below looks at every request, so that several are compared at once.
+fn either(one: bool, other: bool) -> bool
+    ensures { λ r. ⌜ r ≡ either one other ⌝ }
+{
+    if one {
+        return true;
+    }
+    other
+}
+
 // Whether a feature's number is among the requests.
 fn is_asked(requests: &[u32], wanted: u32) -> bool
     ensures { λ r. ⌜ r ≡ isAsked (now (requests .entry)) wanted ⌝ }
 {
+    let mut asked = false;
     let mut i = 0;
     while i < requests.len() {
-        if requests[i] == wanted {
-            return true;
-        }
+        asked = either(requests[i] == wanted, asked);
         i += 1;
     }
-    false
+    asked
 }
 
 // The flags behind a feature.

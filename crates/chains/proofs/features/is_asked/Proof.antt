@@ -1,27 +1,28 @@
 use Prim.Native.Nat.{_-_}
 use native.Mathlib.Omega.{arith}
 use lib.ListN.{length}
-use Rattle.chains.proofs.Switching.{Asking, asking-start, asking-here, asking-next, asking-done}
+use borrow.Author.Needs.{needs}
+use Rattle.chains.proofs.Switching.{Asking, asking-start, asking-next, asking-done}
 use Rattle.chains.proofs.features.is_asked.Statement.{statement}
 use Rattle.chains.proofs.features.is_asked.Tie as tie
 
 abbrev Inv-loop : tie.InvT-loop
-Inv-loop requests wanted i₀ i = Asking requests wanted i
+Inv-loop requests wanted asked₀ i₀ asked i = Asking requests wanted asked i
 
 abbrev μ-loop : tie.MeasureT-loop
-μ-loop requests wanted i₀ i = length requests - i
+μ-loop requests wanted asked₀ i₀ asked i = length requests - i
 
 loop-holds : tie.Need-loop-holds Inv-loop μ-loop
 loop-holds c = asking-start _ _
 
-mul-if1 : tie.Need-mul-if1 Inv-loop μ-loop
-mul-if1 c = omega arith
+mul-either : tie.Need-mul-either Inv-loop μ-loop
+mul-either c = omega arith
 
-shared-slice-read-if1 : tie.Need-shared-slice-read-if1 Inv-loop μ-loop
-shared-slice-read-if1 c = omega arith
+shared-slice-read-either : tie.Need-shared-slice-read-either Inv-loop μ-loop
+shared-slice-read-either c = omega arith
 
-returns : tie.Need-returns Inv-loop μ-loop
-returns c = asking-here (c .before .before .before .loop .inv) (c .before .before .loop-test .taken) (c .if1 .taken)
+either-requires : tie.Need-either-requires Inv-loop μ-loop
+either-requires c κs = search needs
 
 add-i : tie.Need-add-i Inv-loop μ-loop
 add-i c = omega arith
@@ -30,10 +31,10 @@ loop-less : tie.Need-loop-less Inv-loop μ-loop
 loop-less c = omega arith
 
 loop-again : tie.Need-loop-again Inv-loop μ-loop
-loop-again c = asking-next (c .before .before .before .loop .inv) (c .before .before .loop-test .taken) (c .if1 .left)
+loop-again c = search asking-next
 
-returns-2 : tie.Need-returns-2 Inv-loop μ-loop
-returns-2 c = asking-done (c .before .loop .inv) (c .loop-test .left)
+returns : tie.Need-returns Inv-loop μ-loop
+returns c = search asking-done
 
 pub is-asked-spec : {M : Type 1} → statement M
 is-asked-spec =
@@ -42,10 +43,10 @@ is-asked-spec =
     Inv-loop
     μ-loop
     loop-holds
-    mul-if1
-    shared-slice-read-if1
-    returns
+    mul-either
+    shared-slice-read-either
+    either-requires
     add-i
     loop-less
     loop-again
-    returns-2)
+    returns)
