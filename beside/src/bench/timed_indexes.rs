@@ -76,7 +76,9 @@ pub fn subjects(random: &mut Random) -> Vec<Subject> {
     ];
     for classes in class_tables(random) {
         for (name, actions) in &machines {
-            for length in LENGTHS {
+            // In a longer line ligatures break off sooner or later.
+            let lengths = if *name == "ligature" { &LENGTHS[..1] } else { &LENGTHS[..] };
+            for &length in lengths {
                 let line = line_of(&classes.glyphs(random, length), length);
                 subjects.extend(morx(format!("{}, {}", name, classes.name), actions, &classes, line));
             }
