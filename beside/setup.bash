@@ -90,16 +90,17 @@ open_crate() {
 linked=()
 
 # Builds a program of beside/src/programs on the library of beside/src, both in a folder and with the same words to the compiler, where
-# something that they are made of is newer. Code that no program comes to is a fault.
+# something that they are made of is newer. Code that no program comes to is a fault. A failure is its status, so that nobody who tests that
+# goes on with an older program.
 build_program() { # FOLDER PROGRAM WORDS..
     local library=$1/libbeside.rlib name=$1/$2 words=(--edition 2021 -D dead_code "${@:3}")
     mkdir -p "$1"
     if is_stale "$library" "$top/beside" "$top/docs" "$firmware/aat.h"; then
         open_crate
-        quietly "$rustc" "${words[@]}" --crate-type rlib --crate-name beside "$top/beside/src/lib.rs" -o "$library"
+        quietly "$rustc" "${words[@]}" --crate-type rlib --crate-name beside "$top/beside/src/lib.rs" -o "$library" || return
     fi
     if [ ${#linked[@]} -gt 0 ] || is_stale "$name" "$library"; then
-        quietly "$rustc" "${words[@]}" --extern beside="$library" "$top/beside/src/programs/$2.rs" -o "$name" "${linked[@]}"
+        quietly "$rustc" "${words[@]}" --extern beside="$library" "$top/beside/src/programs/$2.rs" -o "$name" "${linked[@]}" || return
     fi
 }
 
