@@ -27,6 +27,8 @@
      that 400 bytes can ask for 65,534 passes, and for hours. Whenever it visits a chain, a run with requests compares every
      feature that lies in the table with each of them: 1,398,099 features of a chain that is visited again and again, and
      AAT_MOST_REQUESTS, make some 6 x 10^12 looks. A reel makes a run for each of its lines, one after the other.
+   - A report tests LINE of each of its lines, which looks at the adjustments of the whole room, too, and then looks at each used
+     adjustment three times: AAT_MOST_REPORTED lines of AAT_LARGEST_ROOM places have 8,355,840.
    - A turn is a class and an entry. Besides, at most: rearrangement moves the glyphs and tags of the line; contextual
      substitution makes two lookups; kerning adds 8 numbers; anchored marks make two lookups; insertion puts in 62 glyphs and
      moves the line, as long as there is room. The 18 turns of a ligature's step share 34 actions; each has 31 components at
@@ -50,7 +52,7 @@ typedef __SIZE_TYPE__ size_t;
 #endif
 
 /* Rises with every entry or value that is added; what is there stays. */
-#define AAT_VERSION 14
+#define AAT_VERSION 15
 
 #ifdef __cplusplus
 extern "C" {
@@ -73,7 +75,7 @@ enum aat_answer {
     AAT_RECORD_VERSION = 12, /* they begin as a record, of another version */
     AAT_TUPLES = 13, /* the kerx subtable has tuples, and the manual's reading of it is chosen */
     AAT_INDEX = 14, /* an index has more than AAT_MOST_ENTRIES, is another class table's, or the subtable has no class table */
-    AAT_REEL = 15,   /* what is lent is no reel: too many lines, not a number for each, or parts that do not add up to the slices */
+    AAT_REEL = 15,   /* a reel or a report has too many lines, not a number for each, or parts that do not add up to the slices */
     AAT_ANCHOR = 16, /* the ankr table is longer than AAT_LONGEST_TABLE */
     AAT_OVERLAP = 17, /* two records that a mended table would keep share a glyph */
     AAT_SPACE = 18,  /* what is to be written does not fit where it is lent */
@@ -95,7 +97,7 @@ enum aat_why {
 };
 
 enum { AAT_LONGEST_TABLE = 16777216, AAT_LARGEST_ROOM = 32768, AAT_MOST_HEADS = 65535, AAT_DELETED = 0xFFFF };
-enum { AAT_MOST_REQUESTS = 64, AAT_MOST_ENTRIES = 65535, AAT_MOST_LINES = 256 };
+enum { AAT_MOST_REQUESTS = 64, AAT_MOST_ENTRIES = 65535, AAT_MOST_LINES = 256, AAT_MOST_REPORTED = 255 };
 
 /* A feature as a run is asked for it: its type times 65,536 plus its setting, both of 16 bits. */
 #define AAT_FEATURE(type, setting) ((uint32_t)(type) * 65536 + (uint32_t)(setting))
@@ -116,6 +118,7 @@ enum aat_sizes {
     AAT_EDITS = 7,
     AAT_KERNING_STATE = 11,
     AAT_ANCHOR_STATE = 4,
+    AAT_TOTALS = 3,
 };
 
 /* of a cursor; the version is kern's and kerx's alone */
@@ -147,6 +150,9 @@ enum aat_anchor { AAT_ANCHOR_MARK = 1, AAT_ANCHOR_MARK_GLYPH = 2, AAT_ANCHOR_CYC
 enum aat_window { AAT_WINDOW_FIRST = 0, AAT_WINDOW_LAST = 1, AAT_WINDOW_VERB = 2 };
 enum aat_edits { AAT_EDITS_COUNT = 0, AAT_EDITS_FIRST = 1, AAT_EDITS_SECOND = 4 };
 enum aat_edit { AAT_EDIT_PLACE = 0, AAT_EDIT_GLYPHS = 1, AAT_EDIT_BYTE = 2 }; /* from where its edit begins on */
+
+/* of a report's totals */
+enum aat_totals { AAT_TOTAL_SUM = 0, AAT_TOTAL_LARGEST = 1, AAT_TOTAL_SMALLEST = 2 };
 
 enum aat_order { AAT_LAYOUT = 0, AAT_REVERSE_LAYOUT = 1, AAT_LOGICAL = 2, AAT_REVERSE_LOGICAL = 3 };
 
@@ -465,7 +471,11 @@ enum aat_choices {
 };
 
 /* The passes and runs above by choices; with choices 0 they are those. Answers and writes: the same, and AAT_TUPLES of
-   aat_kerx_pass_by. */
+   aat_kerx_pass_by.
+   Two kerx tables with the same version and the same subtables of formats 0, 1 and 2, in any two orders, leave the same along
+   after a run, whatever the choices and the direction, and where subtables break off, too. That holds where neither run is
+   refused, there are AAT_MOST_HEADS subtables at most, each lies wholly in the table, and every byte that is read or tried for it
+   lies inside the size that it states. */
 uint32_t aat_kern_pass_by(const uint8_t *table, size_t table_len, size_t start, uint16_t version, const uint16_t *glyphs,
                           size_t glyphs_len, const uint16_t *tags, size_t tags_len, const uint16_t *homes, size_t homes_len,
                           size_t used, int64_t *along, size_t along_len, uint32_t choices);
@@ -500,6 +510,39 @@ uint32_t aat_kerx_run_anchored(const uint8_t *table, size_t table_len, size_t st
                                size_t tags_len, const uint16_t *homes, size_t homes_len, size_t used, int64_t *along,
                                size_t along_len, int32_t *x, size_t x_len, int32_t *y, size_t y_len, uint16_t *back,
                                size_t back_len, uint32_t *heads);
+
+/* A report on kerned lines
+
+   How far kerning moved the glyphs of up to AAT_MOST_REPORTED lines. The lines are lent as a reel's, one behind the other in
+   glyphs, tags and homes, with one number each in rooms, characters and used. Their adjustments lie one behind the other in along,
+   one for each place of a room, as the runs above leave them. For each line the report tells the sum of its used adjustments, the
+   largest and the smallest of them, 0 each for an empty line; and in totals the sum of all sums, the largest and the smallest of
+   all used adjustments, among which an empty line has none. What is behind used does not count; a dot stands for it here:
+
+       line           0               1       2
+       rooms          5               3       4                  3 of each: rooms_len, characters_len, used_len,
+       characters     3               0       2                  sums_len, largest_len and smallest_len
+       used           3               0       2
+       glyphs, tags   0  1  2   3 4 | 0 1 2 |  0  1 2 3          12 of each: glyphs_len, tags_len and along_len
+       homes          0  1  2       |       |  0  1              5: homes_len
+       along        -12 -1 -5   . . | . . . | -3 -7 . .
+       sums         -18               0       -10                totals  -28
+       largest       -1               0        -3                         -1
+       smallest     -12               0        -7                        -12
+
+   Answers: AAT_DONE, also with no lines at all, where the totals are 0 each.
+   AAT_REEL, before AAT_LINE: more than AAT_MOST_REPORTED lines; six lengths that are not the same, those of rooms, characters,
+   used, sums, largest and smallest; rooms that do not add up to glyphs_len, to tags_len or to along_len, or characters that do not
+   add up to homes_len, where no sum is cut to 64 bits.
+   AAT_LINE as for a pass, for any of the lines: what is lent for it is no line, or an adjustment anywhere in its room, behind used,
+   too, is beyond 2^40 in size. So set along to 0 before the runs, which leave what is behind used. A run's own sums may be larger
+   than 2^40: then the report is AAT_LINE.
+   Writes: sums, largest, smallest and totals, with AAT_DONE alone. All are exact, since 255 x 32,768 x 2^40 is below 2^63. */
+uint32_t aat_kerning_report(const size_t *rooms, size_t rooms_len, const size_t *characters, size_t characters_len,
+                            const size_t *used, size_t used_len, const uint16_t *glyphs, size_t glyphs_len,
+                            const uint16_t *tags, size_t tags_len, const uint16_t *homes, size_t homes_len,
+                            const int64_t *along, size_t along_len, int64_t *sums, size_t sums_len, int64_t *largest,
+                            size_t largest_len, int64_t *smallest, size_t smallest_len, int64_t totals[AAT_TOTALS]);
 
 /* Classes by an index
 

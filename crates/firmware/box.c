@@ -90,12 +90,17 @@
                                number 2, class start 8
       60 morx_pass_indexed     as 8, then index, class start 8   answer 4, glyphs, tags, homes, sum 8, used 8
       61 kerx_pass_indexed     as 50, then index, class start 8  as 50, then sum 8
+      62 kerning_report        rooms, characters, used, glyphs,  answer 4, sums, largest, smallest, totals
+                               tags, homes, along, of all
+                               lines, sums, largest, smallest,
+                               totals 3 x 8
 
    A name or a buffer is its length 4 and the bytes. Glyphs, tags, homes and new numbers of records are each a count 4 and so many
    numbers 2, and so are distances back; the adjustments along the line are a count 4 and so many numbers 8, x and y each a count
    4 and so many numbers 4; a reply has the bytes or numbers alone. Requests are a count 4 and so many numbers 4. An ankr table is
    its length 4, then a count 4 and so many bytes, which it begins with; the others are 0. Of a reel, rooms, characters and used
-   are each a count 4 and so many numbers 8, answers and heads a count 4 and so many numbers 4. An index of classes is its length 4,
+   are each a count 4 and so many numbers 8, answers and heads a count 4 and so many numbers 4; of a report, along, sums, largest and
+   smallest are as the adjustments. An index of classes is its length 4,
    then a count 4 and so many numbers 2, which it begins with; the others are 0. One that is to be filled holds the number told in
    each entry, and in a reply it is its first 64 numbers 2, and a sum 8 of all. The record that is read is the table.
 
@@ -482,6 +487,44 @@ static void run_reel(reel_entry *entry) {
     put_reel_slice(&reel_glyphs);
     put_reel_slice(&reel_tags);
     put_reel_slice(&reel_homes);
+}
+
+/* The adjustments of all lines, and what is told of those of each. */
+static int64_t report_along[(AAT_MOST_LINES + 1) * AAT_LARGEST_ROOM];
+static int64_t sums[512], largest[512], smallest[512];
+
+static size_t take_signed(int64_t *to, size_t most) {
+    size_t len = take(4);
+    if (len > most) exit(1);
+    for (size_t i = 0; i < len; i++) to[i] = (int64_t)take(8);
+    return len;
+}
+
+static void put_signed(const int64_t *from, size_t len) {
+    for (size_t i = 0; i < len; i++) put((uint64_t)from[i], 8);
+}
+
+static void kerning_report(void) {
+    int64_t totals[3];
+    reel.rooms_len = take_sizes(reel.rooms);
+    reel.characters_len = take_sizes(reel.characters);
+    reel.used_len = take_sizes(reel.used);
+    take_reel_slice(&reel_glyphs);
+    take_reel_slice(&reel_tags);
+    take_reel_slice(&reel_homes);
+    size_t report_len = take_signed(report_along, sizeof report_along / sizeof report_along[0]);
+    size_t sums_len = take_signed(sums, sizeof sums / sizeof sums[0]);
+    size_t largest_len = take_signed(largest, sizeof largest / sizeof largest[0]);
+    size_t smallest_len = take_signed(smallest, sizeof smallest / sizeof smallest[0]);
+    for (int i = 0; i < 3; i++) totals[i] = (int64_t)take(8);
+    put(aat_kerning_report(reel.rooms, reel.rooms_len, reel.characters, reel.characters_len, reel.used, reel.used_len,
+                           reel_glyphs.numbers, reel_glyphs.len, reel_tags.numbers, reel_tags.len, reel_homes.numbers, reel_homes.len,
+                           report_along, report_len, sums, sums_len, largest, largest_len, smallest, smallest_len, totals),
+        4);
+    put_signed(sums, sums_len);
+    put_signed(largest, largest_len);
+    put_signed(smallest, smallest_len);
+    put_signed(totals, 3);
 }
 
 static void rearrangement_step(void) {
@@ -875,6 +918,7 @@ static void answer(uint8_t call) {
     case 59: index_classes(); break;
     case 60: morx_pass_indexed(); break;
     case 61: kerx_pass_indexed(); break;
+    case 62: kerning_report(); break;
     default: exit(1);
     }
 }

@@ -1,7 +1,7 @@
 /* Shapes a line and kerns it: the glyphs 3, 5 and 6 by a morx table, then by a kern table, which sets a 9 closer to the 7 before it.
    Stores the shaped line as a record, and reads it back. Then puts glyphs behind the 3 by an insertion subtable, once by single
-   steps and once by the pass, which leave the same line. Runs a reel of three lines, of which one is refused. Last it mends a
-   lookup table, and anchors a mark by a kerx and an ankr table.
+   steps and once by the pass, which leave the same line. Runs a reel of three lines, of which one is refused. Kerns three lines and
+   reports on them. Last it mends a lookup table, and anchors a mark by a kerx and an ankr table.
 
    The tables lie in one block, as in a font file, and each entry is told where its table begins. */
 
@@ -162,6 +162,34 @@ static void run_reel(void)
     }
 }
 
+/* Three lines, kerned one by one in rooms of 4, 1 and 3 places, and a report on all. The second is empty. */
+static void report_kerning(void)
+{
+    enum { LINES = 3, PLACES = 8, HOMES = 6 };
+    static const size_t rooms[LINES] = {4, 1, 3}, characters[LINES] = {4, 0, 2}, used[LINES] = {4, 0, 2};
+    static const uint16_t glyphs[PLACES] = {7, 9, 7, 9, 0, 7, 9, 0}, tags[PLACES] = {0, 1, 2, 3, 0, 0, 1, 0};
+    static const uint16_t homes[HOMES] = {0, 1, 2, 3, 0, 1};
+    int64_t along[PLACES] = {0}, sums[LINES], largest[LINES], smallest[LINES], totals[AAT_TOTALS];
+    size_t line, at = 0, from = 0;
+    uint32_t heads = 0;
+
+    for (line = 0; line < LINES; line++) {
+        expect_done(aat_kern_run(font, sizeof font, KERN, glyphs + at, rooms[line], tags + at, rooms[line], homes + from, characters[line],
+                                 used[line], along + at, rooms[line], &heads),
+                    "kern");
+        at += rooms[line];
+        from += characters[line];
+    }
+    expect_done(aat_kerning_report(rooms, LINES, characters, LINES, used, LINES, glyphs, PLACES, tags, PLACES, homes, HOMES, along, PLACES,
+                                   sums, LINES, largest, LINES, smallest, LINES, totals),
+                "report");
+    for (line = 0; line < LINES; line++)
+        printf("line %u of the report: sum %ld, largest %ld, smallest %ld\n", (unsigned)line, (long)sums[line], (long)largest[line],
+               (long)smallest[line]);
+    printf("all lines of the report: sum %ld, largest %ld, smallest %ld\n", (long)totals[AAT_TOTAL_SUM], (long)totals[AAT_TOTAL_LARGEST],
+           (long)totals[AAT_TOTAL_SMALLEST]);
+}
+
 /* A lookup table out of order, mended into a buffer that is one byte short, and into one that is not. */
 static void mend_lookup(void)
 {
@@ -223,6 +251,7 @@ int main(void)
     store_and_read(&line);
     insert_both_ways();
     run_reel();
+    report_kerning();
     mend_lookup();
     anchor_mark();
     return EXIT_SUCCESS;

@@ -15,7 +15,9 @@ use crate::compare::entries_sample::EntriesSample;
 use crate::compare::limit::Limited;
 use crate::compare::progress::Progress;
 use crate::compare::sample::Sample;
-use crate::questions::{anchored_calls, indexed_calls, kerning_choices, lookup, mort_passes, not_asked_for, reasons, Ask, PARTS};
+use crate::questions::{
+    anchored_calls, indexed_calls, kerning_choices, lookup, mort_passes, not_asked_for, orders, reasons, Ask, PARTS,
+};
 use crate::reference::oracle;
 use crate::tables::random::Random;
 use crate::wire::pipe::TheBox;
@@ -96,9 +98,14 @@ fn compare(traces: bool, part: &str, amount: &Amount, command: &[String]) -> Exi
         "panics taken for None: {} in check_range, {} at action 65,535, {} at class count 0",
         checks, actions, classes
     );
-    let mort = vec![mort_passes::counted()];
-    let counted =
-        [reasons::counted(), kerning_choices::counted(), anchored_calls::counted(), mort, indexed_calls::counted()];
+    let counted = [
+        reasons::counted(),
+        kerning_choices::counted(),
+        anchored_calls::counted(),
+        vec![mort_passes::counted()],
+        indexed_calls::counted(),
+        orders::counted(),
+    ];
     counted.concat().iter().for_each(|line| println!("{}", line));
     println!("{} cases, {} differences (seed {})", totals.cases, totals.differences, amount.seed);
     ExitCode::from(u8::from(totals.differences > 0))

@@ -70,6 +70,13 @@ impl KerningRun {
         }
     }
 
+    /// The answer, what the call leaves and the heads, of a run that is not refused; choices are not counted.
+    pub fn made_on(&self, table: &[u8]) -> Result<(Answer<()>, Kerned, u32), Fault> {
+        let mut lent = self.lent.clone();
+        let (answer, heads) = self.made(&self.run(table), &mut lent)?;
+        Ok((answer, lent, heads))
+    }
+
     /// The run by the crate, and where choices are told of by kerx's model, too.
     fn made(&self, run: &Run, lent: &mut Kerned) -> Result<(Answer<()>, u32), Fault> {
         if self.choices.is_none() || self.kerning == Kerning::Kern {

@@ -25,9 +25,11 @@ pub mod mended;
 pub mod mort_lists;
 pub mod mort_passes;
 pub mod mort_runs;
+pub mod orders;
 pub mod passes;
 pub mod reasons;
 pub mod reels;
+pub mod reports;
 pub mod runs;
 pub mod steps;
 pub mod stored;
@@ -165,6 +167,8 @@ pub static PARTS: &[&dyn Part] = &[
     &mort_runs::Runs,
     &reels::Reels,
     &indexed::Indexes,
+    &orders::Orders,
+    &reports::Reports,
 ];
 
 /// The part that an entry belongs to.

@@ -6,7 +6,8 @@ use crate::reference::kerning::{add_at, make_steps, Kerned};
 use crate::reference::kerning_by_copy::{DEEPEST, STATE};
 use crate::reference::kerning_choices::Choices;
 use crate::reference::line::DELETED;
-use crate::reference::oracle::{aat, Answer, Bytes, Fault};
+use crate::reference::opened::{aat, failed_read, noting, Bytes};
+use crate::reference::oracle::{Answer, Fault};
 use crate::reference::pass::stepped;
 use crate::reference::run::MOST_HEADS;
 
@@ -29,8 +30,13 @@ impl Reading {
 
 /// The number of so many bytes at a place, where all of them are there.
 pub fn number(data: &[u8], at: u64, bytes: u64) -> Option<u64> {
-    let data = data.get(usize::try_from(at).ok()?..usize::try_from(at.checked_add(bytes)?).ok()?)?;
-    Some(data.iter().fold(0, |number, byte| number << 8 | u64::from(*byte)))
+    let end = at.checked_add(bytes).filter(|end| *end <= data.len() as u64);
+    match end {
+        Some(end) => {
+            Some(data[at as usize..end as usize].iter().fold(0, |number, byte| number << 8 | u64::from(*byte)))
+        }
+        None => failed_read(),
+    }
 }
 
 impl Reading {
@@ -95,7 +101,8 @@ impl<'a> Kerx<'a> {
 
     /// The state table of a machine.
     pub fn states(&self) -> Option<States<'a>> {
-        Some(States { index: self.index, ..States::open(self.reading, self.data.get(12..)?)? })
+        let data = self.data.get(12..).or_else(failed_read)?;
+        Some(States { index: self.index, ..States::open(self.reading, data)? })
     }
 
     fn opened(&self) -> Option<(Head, Opened<'a>)> {
@@ -127,6 +134,32 @@ impl<'a> Kerx<'a> {
             }
         }
         Answer::Done(())
+    }
+
+    /// Whether a run works on it, if it is of a format that is not left out.
+    fn is_worked_on(&self, head: &Head) -> bool {
+        !head.is_passed_over() && !self.reading.leaves_out(head.tuples)
+    }
+
+    /// The answer of a run's pass over the line by these bytes alone, where they are as many as the head states and no read beyond them
+    /// is tried (W-214); DONE where a run passes over them.
+    pub fn alone(&self, choices: Choices, right_to_left: bool, lent: &Kerned) -> Option<Answer<()>> {
+        let (answer, has_failed) = noting(|| {
+            let head = self.head()?;
+            if head.size != self.data.len() as u64 {
+                return None;
+            }
+            if !self.is_worked_on(&head) {
+                return Some(Answer::Done(()));
+            }
+            let mut lent = lent.clone();
+            if head.is_reversed() != right_to_left {
+                lent.reverse();
+            }
+            let (glyphs, along) = lent.used();
+            Some(self.pass(choices, glyphs, along))
+        });
+        answer.filter(|_| !has_failed)
     }
 
     /// A lone step, which changes the state and adds to the adjustments of the line.
@@ -284,7 +317,8 @@ impl<'a> Machine<'a> {
     fn take_list(&self, index: u64, state: &mut [u64; STATE], along: &mut [i64]) -> Option<()> {
         self.place(index, 0)?;
         for k in 0..state[1] {
-            let number = number(self.table.data, self.place(index, k)?, 2)?;
+            let place = self.place(index, k).or_else(failed_read)?;
+            let number = number(self.table.data, place, 2)?;
             if self.ends(number) {
                 break;
             }
@@ -343,7 +377,7 @@ pub fn visit_all(
             return (Answer::Limit, heads);
         }
         heads += 1;
-        if !head.is_passed_over() && !reading.leaves_out(head.tuples) {
+        if subtable.is_worked_on(&head) {
             visit(&subtable, head.is_reversed() != right_to_left);
         }
         at += head.size;

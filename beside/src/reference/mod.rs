@@ -24,6 +24,7 @@ pub mod passes_by_crate;
 pub mod rearrange;
 pub mod reasons;
 pub mod reel;
+pub mod report;
 pub mod run;
 pub mod shaper;
 pub mod step;

@@ -35,7 +35,7 @@ pub fn by_index<T>(index: &Rc<[u16]>, work: impl FnOnce() -> T) -> T {
 }
 
 /// What a read that fails gives, in the copy; it is noted.
-fn failed_read<T>() -> Option<T> {
+pub fn failed_read<T>() -> Option<T> {
     A_READ_FAILED.with(|failed| failed.set(true));
     None
 }

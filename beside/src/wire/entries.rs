@@ -77,4 +77,5 @@ entries! {
     IndexClasses "aat_index_classes",
     MorxPassIndexed "aat_morx_pass_indexed",
     KerxPassIndexed "aat_kerx_pass_indexed",
+    KerningReport "aat_kerning_report",
 }

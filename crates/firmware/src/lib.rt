@@ -34,6 +34,7 @@ mod older;
 mod reasons;
 mod records;
 mod reels;
+mod reports;
 mod runs;
 mod steps;
 

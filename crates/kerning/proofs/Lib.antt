@@ -7,3 +7,4 @@ pub mod Walking
 pub mod Walks
 pub mod Calls
 pub mod Choosing
+pub mod Behind

@@ -8,3 +8,4 @@ mod Steps
 pub mod Calls
 mod Classes
 pub mod Turns
+pub mod Behind

@@ -13,3 +13,5 @@ pub mod SameIndex
 pub mod Plain
 pub mod ManualMarks
 pub mod Marked
+pub mod Behind
+pub mod Order

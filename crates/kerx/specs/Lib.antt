@@ -7,3 +7,5 @@ pub mod RightIndex
 pub mod Lent
 pub mod Range
 pub mod Manual
+pub mod Inside
+pub mod Order

@@ -1,2 +1,3 @@
 -- Laws of the machine.
 pub mod Bounds
+pub mod Behind

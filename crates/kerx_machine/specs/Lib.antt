@@ -1,2 +1,3 @@
 -- kerx format 1.
 pub mod Machine
+pub mod Inside

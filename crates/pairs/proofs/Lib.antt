@@ -5,3 +5,4 @@ pub mod Passes
 pub mod Manual
 pub mod Reasons
 pub mod Joined
+pub mod Behind

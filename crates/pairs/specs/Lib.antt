@@ -5,3 +5,4 @@ pub mod Pass
 pub mod Work
 pub mod Manual
 pub mod Joined
+pub mod Inside

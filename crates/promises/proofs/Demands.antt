@@ -66,15 +66,18 @@ use Rattle.kerx.proofs.ManualMarks.{marks-as-manual}
 use Rattle.kerx.proofs.Plain.{anchored-run, anchored-pass}
 use Rattle.kerx.proofs.Marked.{call-exact, run-in-range}
 use Rattle.kerx.proofs.SameIndex.{same-kerx-call, fill-then-kerx-pass}
+use Rattle.kerx.proofs.Order.{order-free, run-sums}
+use Rattle.report.proofs.Extremes.{reported, refused-stays}
 use Rattle.anchors.proofs.Manual.{points-as-manual}
 use Rattle.anchor_machine.proofs.Manual.{record-by-manual, record-past-manual}
 use Rattle.anchor_machine.proofs.Exactly.{offset-exact}
 use Rattle.promises.specs.Demand1.{Demand1}
-use Rattle.promises.specs.Demand2.{Lookups, Reasons, Mends, StateTables, Verbs, SubtableLists, Chains, Older, Features, Indexes, Kerning, Choosing, Marks, Demand2}
+use Rattle.promises.specs.Demand2.{Lookups, Reasons, Mends, StateTables, Verbs, SubtableLists, Chains, Older, Features, Indexes, Kerning, Choosing, Marks, Orders, Reports, Demand2}
 use Rattle.promises.specs.Demand3.{Stored, Demand3}
 use Rattle.promises.proofs.Reels.{reels}
 use Rattle.promises.proofs.Known.{known-answers, known-reasons, known-pairs}
 use Rattle.promises.proofs.KnownMarks.{known-marks}
+use Rattle.promises.proofs.KnownOrders.{stated-met, inside-met, needs-each}
 
 pub demand1 : Demand1
 demand1 =
@@ -266,6 +269,12 @@ marks =
       known-marks = known-marks;
     }
 
+orders : Orders
+orders = record { order-free = order-free; run-sums = run-sums; stated-met = stated-met; inside-met = inside-met; needs-each = needs-each }
+
+reports : Reports
+reports = record { reported = reported; refused-stays = refused-stays }
+
 pub demand2 : Demand2
 demand2 =
     record {
@@ -282,6 +291,8 @@ demand2 =
       kerning = kerning;
       choosing = choosing;
       marks = marks;
+      orders = orders;
+      reports = reports;
       index-as-manual = index-as-manual;
       u8-from = u8-from;
       u16-from = u16-from;

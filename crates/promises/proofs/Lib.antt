@@ -4,3 +4,4 @@ mod Alike
 mod Reels
 pub mod Demands
 pub mod KnownMarks
+pub mod KnownOrders

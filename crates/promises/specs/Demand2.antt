@@ -4,7 +4,7 @@
 use Prim.Native.Nat.{ℕ, suc, _+_, _*_, _-_, _%_, _<_, _≤_}
 use mathlib.Core.Path.{_≡_}
 use mathlib.Core.Bool.{Bool, true, false}
-use mathlib.Core.List.{List, []}
+use mathlib.Core.List.{List, [], _∷_, _++_}
 use lib.IntN.{ℤ}
 use lib.ListN.{length, getD, take, drop}
 use Rattle.laws.specs.Choose.{ifLt}
@@ -100,11 +100,13 @@ use Rattle.pairs.specs.Manual.{Rising, OrderedValue, ClassValue, Legible, Cover
 use Rattle.pairs.specs.Manual as Pair
 use Rattle.line.specs.Line.{Line}
 use Rattle.laws.specs.Bits.{isSet}
+use Rattle.kerning.specs.Additions.{addAll}
 use Rattle.kerning.specs.Choices.{ruleOf, choicesOf, unchosen}
 use Rattle.kerning.specs.declared.choices.PairRule.{PairRule}
 use Rattle.kerning.specs.declared.choices.PairRule.the-variants.{Neighbours, Joined}
 use Rattle.kerning_lists.specs.Manual as List′
 use Rattle.kerning_lists.specs.Manual.{NoneInPart}
+use Rattle.kerning_lists.specs.Run.{zeros}
 use Rattle.kerning_lists.specs.Family as Family′
 use Rattle.kern.specs.Kern.{kern}
 use Rattle.kern.specs.Manual as Kern
@@ -136,8 +138,13 @@ use Rattle.kerx.specs.Anchored as Anchored
 use Rattle.kerx.specs.Indexed as KerxIndexed
 use Rattle.kerx.specs.RightIndex as KerxIndex
 use Rattle.kerx.specs.Range.{InRange}
+use Rattle.report.specs.Report.{Lines, Page, reportAnswer, reportLeaves}
+use Rattle.report.specs.Extremes.{Reported}
+use Rattle.kerx.specs.Inside.{ReadsInside}
+use Rattle.kerx.specs.Order.{Reordered, Each, ListHas, NotRefused, BelowLimit, AsStated, alone, allAdd}
 use Rattle.promises.specs.Known.{AllKnown, KnownReasons, KnownPairs}
 use Rattle.promises.specs.KnownMarks.{KnownMarks}
+use Rattle.promises.specs.KnownOrders.{onePair, goodList, line, NeedsEach}
 
 -- Lookup tables and their survey.
 pub record Lookups : Type 0 where
@@ -508,6 +515,33 @@ pub record Marks : Type 0 where
   -- known cases by computation
   pub known-marks : KnownMarks
 
+-- The order of a kerx list's subtables: it does not matter to kerning.
+pub record Orders : Type 0 where
+  -- two tables whose lists have the same version and the same subtables, in any two orders, leave the same along numbers: in the crate's reading and in the
+  -- manual's, with neighbours and with joined pairs, in either direction. No call is refused, the head limit isn't reached, each subtable lies wholly in the
+  -- table, and every byte read or tried for it lies inside its stated size
+  pub order-free : (rtl : Bool) (l : Line) (along : List ℤ) (choices : Choices′.Choices) (one other : List ℕ) (start start′ version : ℕ) (parts parts′ : List (List ℕ))
+      → ListHas one start version parts → ListHas other start′ version parts′ → Reordered parts parts′ → NotRefused one start l along
+      → NotRefused other start′ l along → BelowLimit parts → Each AsStated parts → Each (ReadsInside rtl version (l .glyphs) (l .used) choices) parts
+      → Family′.runCall kerx one start rtl l along choices .along ≡ Family′.runCall kerx other start′ rtl l along choices .along
+  -- on these conditions a run leaves the sum of what each subtable contributes by its own bytes alone
+  pub run-sums : (rtl : Bool) (l : Line) (along : List ℤ) (choices : Choices′.Choices) (table : List ℕ) (start version : ℕ) (parts : List (List ℕ))
+      → ListHas table start version parts → NotRefused table start l along → BelowLimit parts → Each AsStated parts
+      → Each (ReadsInside rtl version (l .glyphs) (l .used) choices) parts
+      → Family′.runCall kerx table start rtl l along choices .along
+      ≡ addAll (allAdd (alone rtl version (l .glyphs) (l .used) choices) parts) (zeros (l .used)) ++ drop (l .used) along
+  -- the conditions on subtables can be met, by ordered pairs and a machine with a list, and each is needed
+  pub stated-met : Each AsStated (onePair 34 10 ∷ goodList ∷ [])
+  pub inside-met : Each (ReadsInside false 2 line 2 unchosen) (onePair 34 10 ∷ goodList ∷ [])
+  pub needs-each : NeedsEach
+
+-- The report on kerned lines.
+pub record Reports : Type 0 where
+  -- one that is DONE says of each line the sum of its used along numbers, the largest and the smallest of them, and the same of all lines
+  pub reported : (r : Lines) (page : Page) → reportAnswer r page ≡ Done → Reported r (reportLeaves r page)
+  -- a refused one leaves the page as it was
+  pub refused-stays : (r : Lines) (page : Page) (why : Refusal) → reportAnswer r page ≡ Refused why → reportLeaves r page ≡ page
+
 pub record Demand2 : Type 0 where
   pub lookups : Lookups
   pub reasons : Reasons
@@ -522,6 +556,8 @@ pub record Demand2 : Type 0 where
   pub kerning : Kerning
   pub choosing : Choosing
   pub marks : Marks
+  pub orders : Orders
+  pub reports : Reports
   -- the index of a language is that of the first tag whose bytes are the name; it is found where all tags up to it lie in the table, none of them empty at
   -- its end
   pub index-as-manual : (table : List ℕ) (start : ℕ) (name : List ℕ) → length table ≤ tableLimit

@@ -8,3 +8,4 @@ pub mod Laws
 pub mod Manual
 pub mod Differences
 pub mod Openings
+pub mod Behind

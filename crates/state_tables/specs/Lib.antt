@@ -5,3 +5,4 @@ pub mod Entries
 pub mod Opened
 pub mod Rows
 pub mod Manual
+pub mod Inside

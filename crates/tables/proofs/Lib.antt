@@ -10,3 +10,4 @@ pub mod Sizes
 pub mod Reasons
 pub mod Openings
 mod Wholeness
+pub mod Behind
