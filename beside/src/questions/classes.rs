@@ -6,6 +6,7 @@ use crate::fuzz::source::Source;
 use crate::questions::value::{Asked, Value};
 use crate::questions::{Ask, Part, Question};
 use crate::reference::oracle::{self, Answer, Fault, LONGEST_TABLE};
+use crate::tables::cuts::for_each_cut;
 use crate::tables::lookup::{record_size, with_records, words, Record};
 use crate::tables::random::Random;
 use crate::tables::states::{any_classic, any_extended, classic, extended, extended_head, CLASSIC_HEAD, EXTENDED_HEAD};
@@ -165,14 +166,10 @@ fn examples(asked: &mut dyn Ask) {
 /// Whole tables cut at every byte, at their own start and behind other bytes, as either kind.
 fn cut_tables(asked: &mut dyn Ask) {
     for (_, whole) in whole_tables() {
-        for before in [0, 1, 3] {
-            let table = [&[0, 8, 0][..before], &whole].concat();
-            for length in 0..=table.len() {
-                let table = Rc::from(&table[..length]);
-                ask_glyphs(asked, Extended, &table, before, GLYPHS);
-                ask_glyphs(asked, Classic, &table, before, GLYPHS);
-            }
-        }
+        for_each_cut([0, 8, 0], &whole, &mut |table, start| {
+            ask_glyphs(asked, Extended, table, start, GLYPHS);
+            ask_glyphs(asked, Classic, table, start, GLYPHS);
+        });
     }
 }
 

@@ -7,6 +7,7 @@ use crate::questions::value::{Asked, Value};
 use crate::questions::{Ask, Part, Question};
 use crate::reference::ltag;
 use crate::reference::oracle::{self, Answer, Fault, LONGEST_TABLE};
+use crate::tables::cuts::for_each_cut;
 use crate::tables::language::{any_ltag, any_tag, with_ranges, with_tags, Range, HEAD};
 use crate::tables::lines::any_glyphs;
 use crate::tables::random::Random;
@@ -128,12 +129,7 @@ fn with_bad_range(tags: &[&[u8]], bad: usize) -> Vec<u8> {
 /// Whole tables cut at every byte, at their own start and behind other bytes.
 fn cut_tables(asked: &mut dyn Ask) {
     let tags: [&[u8]; 7] = [b"en", b"sr", b"sr-Latn", b"", b"\xC3\xA9", b"\xC3", b"fr"];
-    for before in [0, 1, 3] {
-        let table = [&[0, 1, 0][..before], &with_tags(&tags)].concat();
-        for length in 0..=table.len() {
-            ask_names(asked, &Rc::from(&table[..length]), before as u64, NAMES);
-        }
-    }
+    for_each_cut([0, 1, 0], &with_tags(&tags), &mut |table, start| ask_names(asked, table, start as u64, NAMES));
 }
 
 /// Up to two ranges, each anywhere about the parts of the table, under every count of a few.

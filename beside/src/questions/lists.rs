@@ -7,6 +7,7 @@ use crate::questions::{Ask, Part, Question};
 use crate::reference::lists_by_copy::{chains_from, lists_of_chain, next, Cursor, List};
 use crate::reference::oracle::aat::morx::{chains, Chain, Feature, Subtable};
 use crate::reference::oracle::{caught, Answer, Fault, LONGEST_TABLE};
+use crate::tables::cuts::{for_each_cut, for_each_longest};
 use crate::tables::lookup::{damage, Made};
 use crate::tables::morx::{any_heads, chain, chosen_subtable, in_chain, morx, subtable};
 use crate::tables::random::Random;
@@ -332,12 +333,7 @@ fn examples(asked: &mut dyn Ask) {
 
 /// A table cut at every byte, at its own start and behind other bytes.
 fn cut_tables(asked: &mut dyn Ask) {
-    for before in [0, 1, 3] {
-        let table = [&[0, 2, 0][..before], &two_chains()].concat();
-        for length in 0..=table.len() {
-            ask_lists(asked, &Rc::from(&table[..length]), before as u64);
-        }
-    }
+    for_each_cut([0, 2, 0], &two_chains(), &mut |table, start| ask_lists(asked, table, start as u64));
 }
 
 /// Every count and size of a table changed to each of these numbers.
@@ -374,33 +370,34 @@ pub const LISTS: [List; 3] = [List::Chains, List::Features, List::Subtables];
 /// Cursors that no call has made.
 fn far_cursors(asked: &mut dyn Ask) {
     let table: Rc<[u8]> = Rc::from(two_chains());
-    let length = table.len() as u64;
     for list in LISTS {
-        for place in (0..=length + 1).chain(far_places(length)) {
-            for left in [0, 1, 2, u32::MAX.into(), 1 << 32, u64::MAX] {
-                ask_next(asked, &table, list, [place, left]);
-            }
+        for_each_far_cursor(table.len() as u64, &mut |cursor| ask_next(asked, &table, list, cursor));
+    }
+}
+
+/// Cursors at every place of a table of this length and at far ones, with few elements left and many.
+pub fn for_each_far_cursor(length: u64, show: &mut dyn FnMut(Cursor)) {
+    for place in (0..=length + 1).chain(far_places(length)) {
+        for left in [0, 1, 2, u32::MAX.into(), 1 << 32, u64::MAX] {
+            show([place, left]);
         }
     }
 }
 
 /// Tables at the limit of length and above it.
 fn long_tables(asked: &mut dyn Ask) {
-    for length in [LONGEST_TABLE, LONGEST_TABLE + 1] {
-        let mut table = two_chains();
-        table.resize(length, 0);
-        let table = Rc::from(table);
+    for_each_longest(two_chains(), &mut |table, length| {
         let length = length as u64;
         for start in [0, length - 8, length, length + 1, u64::MAX] {
-            asked.ask(&table, Box::new(Start { start }));
+            asked.ask(table, Box::new(Start { start }));
         }
         for list in LISTS {
             for place in [8, length - 16, length - 12, length - 11, length, length + 1] {
-                ask_next(asked, &table, list, [place, 1]);
-                ask_next(asked, &table, list, [place, 0]);
+                ask_next(asked, table, list, [place, 1]);
+                ask_next(asked, table, list, [place, 0]);
             }
         }
-    }
+    });
 }
 
 /// Every order under other bits.
@@ -413,6 +410,22 @@ fn coverages(asked: &mut dyn Ask, random: &mut Random) {
 }
 
 fn random_tables(asked: &mut dyn Ask, random: &mut Random, cases: u64) {
+    for_each_heads(asked, random, cases, any_heads, &mut |asked, random, table, start| {
+        ask_lists(asked, table, start);
+        for list in LISTS {
+            ask_next(asked, table, list, any_cursor(random, table.len()));
+        }
+    });
+}
+
+/// Hands over any tables of heads, often behind other bytes and now and then damaged, with a start, until so many questions were asked.
+pub fn for_each_heads(
+    asked: &mut dyn Ask,
+    random: &mut Random,
+    cases: u64,
+    any_heads: fn(&mut Random) -> Vec<u8>,
+    show: &mut dyn FnMut(&mut dyn Ask, &mut Random, &Rc<[u8]>, u64),
+) {
     let asked = &mut Counted::new(asked, cases);
     while asked.are_left() {
         let mut table = any_heads(random);
@@ -420,11 +433,8 @@ fn random_tables(asked: &mut dyn Ask, random: &mut Random, cases: u64) {
             damage(random, &mut table);
         }
         let made = Made::behind_others(random, table, Vec::new());
-        let table = Rc::from(&made.table[..]);
-        ask_lists(asked, &table, made.any_start(random));
-        for list in LISTS {
-            ask_next(asked, &table, list, any_cursor(random, table.len()));
-        }
+        let start = made.any_start(random);
+        show(asked, random, &Rc::from(&made.table[..]), start);
     }
 }
 

@@ -4,12 +4,13 @@
 use crate::fuzz::case::Chosen;
 use crate::fuzz::seeds::Seed;
 use crate::fuzz::source::Source;
-use crate::questions::lists::{any_cursor, far_places, lent, Counted, ELEMENTS};
+use crate::questions::lists::{any_cursor, for_each_far_cursor, for_each_heads, lent, ELEMENTS};
 use crate::questions::{Ask, Part, Question};
 use crate::reference::lists_by_copy::{chains_from, Cursor};
 use crate::reference::mort::{next_chain, next_subtable};
 use crate::reference::oracle::{Answer, Fault, LONGEST_TABLE};
-use crate::tables::lookup::{damage, Made};
+use crate::tables::cuts::{for_each_cut, for_each_longest};
+use crate::tables::lookup::Made;
 use crate::tables::mort::{any_heads, chain, chosen_subtable, mort};
 use crate::tables::random::Random;
 use crate::wire::entries::Entry;
@@ -200,12 +201,7 @@ fn coverages(asked: &mut dyn Ask) {
 
 /// A table cut at every byte, at its own start and behind other bytes.
 fn cut_tables(asked: &mut dyn Ask) {
-    for before in [0, 1, 3] {
-        let table = [&[0, 1, 0][..before], &two_chains()].concat();
-        for length in 0..=table.len() {
-            ask_lists(asked, &Rc::from(&table[..length]), before as u64);
-        }
-    }
+    for_each_cut([0, 1, 0], &two_chains(), &mut |table, start| ask_lists(asked, table, start as u64));
 }
 
 /// Every count and size of a table changed to each of these numbers.
@@ -225,44 +221,29 @@ fn counts_and_sizes(asked: &mut dyn Ask) {
 /// Cursors that no call has made.
 fn far_cursors(asked: &mut dyn Ask) {
     let table: Rc<[u8]> = Rc::from(two_chains());
-    let length = table.len() as u64;
     for entry in LISTS {
-        for place in (0..=length + 1).chain(far_places(length)) {
-            for left in [0, 1, 2, u32::MAX.into(), 1 << 32, u64::MAX] {
-                ask_next(asked, &table, entry, [place, left]);
-            }
-        }
+        for_each_far_cursor(table.len() as u64, &mut |cursor| ask_next(asked, &table, entry, cursor));
     }
 }
 
 /// Tables at the limit of length and above it.
 fn long_tables(asked: &mut dyn Ask) {
-    for length in [LONGEST_TABLE, LONGEST_TABLE + 1] {
-        let mut table = two_chains();
-        table.resize(length, 0);
-        let table = Rc::from(table);
+    for_each_longest(two_chains(), &mut |table, length| {
         let length = length as u64;
         for entry in LISTS {
             for place in [8, length - 12, length - 11, length - 8, length - 7, length, length + 1] {
-                ask_next(asked, &table, entry, [place, 1]);
-                ask_next(asked, &table, entry, [place, 0]);
+                ask_next(asked, table, entry, [place, 1]);
+                ask_next(asked, table, entry, [place, 0]);
             }
         }
-    }
+    });
 }
 
 fn random_tables(asked: &mut dyn Ask, random: &mut Random, cases: u64) {
-    let asked = &mut Counted::new(asked, cases);
-    while asked.are_left() {
-        let mut table = any_heads(random);
-        if random.once_in(3) {
-            damage(random, &mut table);
-        }
-        let made = Made::behind_others(random, table, Vec::new());
-        let table = Rc::from(&made.table[..]);
-        ask_lists(asked, &table, made.any_start(random));
+    for_each_heads(asked, random, cases, any_heads, &mut |asked, random, table, start| {
+        ask_lists(asked, table, start);
         for entry in LISTS {
-            ask_next(asked, &table, entry, any_cursor(random, table.len()));
+            ask_next(asked, table, entry, any_cursor(random, table.len()));
         }
-    }
+    });
 }

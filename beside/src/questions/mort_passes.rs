@@ -3,7 +3,7 @@
 use crate::fuzz::case::Chosen;
 use crate::fuzz::seeds::Seed;
 use crate::fuzz::source::Source;
-use crate::questions::passes::{By, Pass};
+use crate::questions::passes::{for_each_subtable, By, Pass};
 use crate::questions::{Ask, Part, Question};
 use crate::reference::line::{Line, DELETED, LARGEST_ROOM};
 use crate::reference::mort::pass;
@@ -11,9 +11,10 @@ use crate::reference::mort_as_morx::subtable_as_morx;
 use crate::reference::oracle::{caught, Answer, Fault, LONGEST_TABLE};
 use crate::reference::pass::line_of;
 use crate::reference::passes_by_crate::caught_pass;
+use crate::tables::cuts::{far_subtables, for_each_cut, for_each_longest_of};
 use crate::tables::kerx_manual::{trimmed, UNIT_SIZES};
 use crate::tables::kinds::{Written, KINDS};
-use crate::tables::lines::{any_glyphs, any_line_of, for_each_length, spoil};
+use crate::tables::lines::{any_glyphs, any_line_of, for_each_length};
 use crate::tables::lookup::{with_values, words, Made};
 use crate::tables::mort::{
     any_chained, any_lookup, any_machine, any_subtable, rearranges, small_machine, substitutes, subtable, Classic,
@@ -273,15 +274,11 @@ fn short_bodies(asked: &mut dyn Ask) {
 /// The examples cut at every byte, at their own start and behind other bytes, on their line and on an empty one.
 fn cut_subtables(asked: &mut dyn Ask) {
     for (example, glyphs, _, _) in written_examples() {
-        for before in [0, 1, 3] {
-            let table = [&[0, 8, 0][..before], &example].concat();
-            for length in 0..=table.len() {
-                let table = Rc::from(&table[..length]);
-                ask_pass(asked, &table, before, &line_of(&glyphs, glyphs.len()));
-                ask_pass(asked, &table, before, &line_of(&[], 0));
-                ask_as_morx(asked, &table, before as u64, &line_of(&glyphs, glyphs.len()));
-            }
-        }
+        for_each_cut([0, 8, 0], &example, &mut |table, start| {
+            ask_pass(asked, table, start, &line_of(&glyphs, glyphs.len()));
+            ask_pass(asked, table, start, &line_of(&[], 0));
+            ask_as_morx(asked, table, start as u64, &line_of(&glyphs, glyphs.len()));
+        });
     }
 }
 
@@ -317,11 +314,8 @@ fn unit_sizes(asked: &mut dyn Ask) {
 /// Starts about the end, and those that a number of fewer bits, or a sum without care, would take for one in the table.
 fn far_starts(asked: &mut dyn Ask) {
     for table in [rearranges(0), substitutes(0)] {
-        let length = table.len();
-        let table = Rc::from(table);
-        let near = [1, length - SUBTABLE_HEAD, length - 1, length, length + 1];
-        let far = [1 << 16, 1 << 31, 1 << 32, 1 << 63, usize::MAX - 7, usize::MAX - 3, usize::MAX];
-        for start in near.into_iter().chain(far) {
+        let table: Rc<[u8]> = Rc::from(table);
+        for start in far_subtables(table.len(), SUBTABLE_HEAD) {
             ask_pass(asked, &table, start, &line_of(&[10, 5, 11], 3));
         }
     }
@@ -341,19 +335,12 @@ fn refused_lines(asked: &mut dyn Ask) {
 
 /// Tables at the limit of length and above it, with a subtable at either end, on a line and on none.
 fn long_tables(asked: &mut dyn Ask) {
-    let subtable = rearranges(0);
     let line = line_of(&[10, 5, 11], 4);
     let no_line = Line { used: 5, ..line.clone() };
-    for length in [LONGEST_TABLE, LONGEST_TABLE + 1] {
-        let mut table = vec![0; length];
-        table[..subtable.len()].copy_from_slice(&subtable);
-        table[length - subtable.len()..].copy_from_slice(&subtable);
-        let table = Rc::from(table);
-        for start in [0, length - subtable.len(), length - 1, length, length + 1, usize::MAX] {
-            ask_pass(asked, &table, start, &line);
-            ask_pass(asked, &table, start, &no_line);
-        }
-    }
+    for_each_longest_of(&rearranges(0), &mut |table, start| {
+        ask_pass(asked, table, start, &line);
+        ask_pass(asked, table, start, &no_line);
+    });
 }
 
 /// Lines that fill the largest room, and almost, by both kinds.
@@ -368,27 +355,11 @@ fn long_lines(asked: &mut dyn Ask, random: &mut Random) {
     }
 }
 
-const LINES_FOR_ONE_TABLE: u64 = 3;
-
 fn random_subtables(asked: &mut dyn Ask, random: &mut Random, cases: u64) {
-    let mut left = cases;
-    while left > 0 {
-        let glyphs = any_glyphs(random);
-        let made = any_subtable(random, &glyphs);
-        let table = Rc::from(&made.table[..]);
-        let start = made.any_start(random);
-        let lines = left.min(LINES_FOR_ONE_TABLE);
-        for _ in 0..lines {
-            let longest = random.among(&[2, 5, 5, 12, 12, 12, 24, 60]);
-            let used = random.below(longest + 1);
-            let room = used + random.among(&[0, 0, 1, 9]);
-            let mut line = any_line_of(random, &glyphs, used, room);
-            spoil(random, &mut line);
-            if random.once_in(8) {
-                ask_as_morx(asked, &table, start, &line);
-            }
-            asked.ask(&table, Box::new(MortPass { line, start, written: None }));
+    for_each_subtable(random, cases, any_subtable, &[0, 0, 1, 9], &mut |random, table, start, line| {
+        if random.once_in(8) {
+            ask_as_morx(asked, table, start, &line);
         }
-        left -= lines;
-    }
+        asked.ask(table, Box::new(MortPass { line, start, written: None }));
+    });
 }

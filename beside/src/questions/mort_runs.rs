@@ -19,6 +19,7 @@ use crate::reference::mort_as_morx::table_as_morx;
 use crate::reference::oracle::{Answer, Fault, LONGEST_TABLE};
 use crate::reference::pass::line_of;
 use crate::reference::run::{request, Run, MOST_HEADS, MOST_REQUESTS};
+use crate::tables::cuts::{far_chains, for_each_cut};
 use crate::tables::kinds::{Written, KINDS};
 use crate::tables::lines::{any_glyphs, any_line_of, for_each_length, spoil};
 use crate::tables::lookup::{with_values, Made};
@@ -293,12 +294,7 @@ fn two_chains() -> Vec<u8> {
 
 /// A table cut at every byte, at its own start and behind other bytes.
 fn cut_tables(asked: &mut dyn Ask) {
-    for before in [0, 1, 3] {
-        let table = [&[0, 1, 0][..before], &two_chains()].concat();
-        for length in 0..=table.len() {
-            ask_run(asked, &Rc::from(&table[..length]), before, &line_of(&LINE, 9), &[]);
-        }
-    }
+    for_each_cut([0, 1, 0], &two_chains(), &mut |table, start| ask_run(asked, table, start, &line_of(&LINE, 9), &[]));
 }
 
 /// Every count and size changed to each of these numbers, 0 among them, by which the same comes again.
@@ -319,12 +315,8 @@ fn counts_and_sizes(asked: &mut dyn Ask) {
 }
 
 fn far_starts(asked: &mut dyn Ask) {
-    let table = two_chains();
-    let length = table.len();
-    let table = Rc::from(table);
-    let near = [1, 8, length - 8, length - 1, length, length + 1];
-    let far = [1 << 16, 1 << 31, 1 << 32, (1 << 32) + 1, 1 << 63, usize::MAX - 7, usize::MAX];
-    for start in near.into_iter().chain(far) {
+    let table: Rc<[u8]> = Rc::from(two_chains());
+    for start in far_chains(table.len()) {
         ask_run(asked, &table, start, &line_of(&LINE, 9), &[]);
     }
 }

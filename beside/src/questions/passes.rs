@@ -12,6 +12,7 @@ use crate::reference::pass::line_of;
 use crate::reference::passes_by_crate::{caught_pass, number};
 use crate::reference::steps_by_copy::open;
 use crate::reference::trace::describe_pass;
+use crate::tables::cuts::{far_subtables, for_each_cut, for_each_longest_of};
 use crate::tables::insertion;
 use crate::tables::kinds::{any_subtable, far_numbers, Example, Kind, Written, KINDS};
 use crate::tables::lines::{any_glyphs, any_line_of, for_each_length, spoil};
@@ -261,14 +262,10 @@ fn short_bodies(asked: &mut dyn Ask, by: By) {
 /// The examples cut at every byte, at their own start and behind other bytes, on their line and on an empty one.
 fn cut_subtables(asked: &mut dyn Ask, by: By) {
     for example in (by.kind.examples)() {
-        for before in [0, 1, 3] {
-            let table = [&[0, 8, 0][..before], &whole(by, &example)].concat();
-            for length in 0..=table.len() {
-                let table = Rc::from(&table[..length]);
-                ask_pass(asked, by, &table, before, &example.before);
-                ask_pass(asked, by, &table, before, &line_of(&[], 0));
-            }
-        }
+        for_each_cut([0, 8, 0], &whole(by, &example), &mut |table, start| {
+            ask_pass(asked, by, table, start, &example.before);
+            ask_pass(asked, by, table, start, &line_of(&[], 0));
+        });
     }
 }
 
@@ -287,12 +284,8 @@ fn coverages(asked: &mut dyn Ask, by: By) {
 /// Starts about the end, and those that a number of fewer bits, or a sum without care, would take for one in the table.
 fn far_starts(asked: &mut dyn Ask, by: By) {
     for example in (by.kind.examples)() {
-        let table = whole(by, &example);
-        let length = table.len();
-        let table = Rc::from(table);
-        let near = [1, length - SUBTABLE_HEAD, length - 1, length, length + 1];
-        let far = [1 << 16, 1 << 31, 1 << 32, 1 << 63, usize::MAX - 11, usize::MAX - 3, usize::MAX];
-        for start in near.into_iter().chain(far) {
+        let table: Rc<[u8]> = Rc::from(whole(by, &example));
+        for start in far_subtables(table.len(), SUBTABLE_HEAD) {
             ask_pass(asked, by, &table, start, &example.before);
         }
     }
@@ -328,19 +321,12 @@ fn refused_lines(asked: &mut dyn Ask, by: By) {
 /// Tables at the limit of length and above it, with a subtable at either end, on a line and on none.
 fn long_tables(asked: &mut dyn Ask, by: By) {
     let example = &(by.kind.examples)()[0];
-    let subtable = whole(by, example);
     let line = example.before.clone();
     let no_line = Line { used: line.used + 1, ..line.clone() };
-    for length in [LONGEST_TABLE, LONGEST_TABLE + 1] {
-        let mut table = vec![0; length];
-        table[..subtable.len()].copy_from_slice(&subtable);
-        table[length - subtable.len()..].copy_from_slice(&subtable);
-        let table = Rc::from(table);
-        for start in [0, length - subtable.len(), length - 1, length, length + 1, usize::MAX] {
-            ask_pass(asked, by, &table, start, &line);
-            ask_pass(asked, by, &table, start, &no_line);
-        }
-    }
+    for_each_longest_of(&whole(by, example), &mut |table, start| {
+        ask_pass(asked, by, table, start, &line);
+        ask_pass(asked, by, table, start, &no_line);
+    });
 }
 
 const LONG_LINES: usize = 2;
@@ -360,20 +346,35 @@ fn long_lines(asked: &mut dyn Ask, by: By, random: &mut Random) {
 const LINES_FOR_ONE_TABLE: u64 = 3;
 
 fn random_subtables(asked: &mut dyn Ask, by: By, random: &mut Random, cases: u64) {
+    let any_subtable = |random: &mut Random, glyphs: &Range<u16>| any_subtable(random, by.kind, glyphs);
+    for_each_subtable(random, cases, any_subtable, &[0, 0, 1, 9, 40], &mut |_, table, start, line| {
+        asked.ask(table, Box::new(Pass { by, line, start, written: None }));
+    });
+}
+
+/// Hands over subtables of any glyphs, each with a few lines that are now and then none, as many lines as there are cases, with one of these
+/// rooms behind each.
+pub fn for_each_subtable(
+    random: &mut Random,
+    cases: u64,
+    any_subtable: impl Fn(&mut Random, &Range<u16>) -> Made,
+    rooms: &[usize],
+    show: &mut dyn FnMut(&mut Random, &Rc<[u8]>, u64, Line),
+) {
     let mut left = cases;
     while left > 0 {
         let glyphs = any_glyphs(random);
-        let made = any_subtable(random, by.kind, &glyphs);
+        let made = any_subtable(random, &glyphs);
         let table = Rc::from(&made.table[..]);
         let start = made.any_start(random);
         let lines = left.min(LINES_FOR_ONE_TABLE);
         for _ in 0..lines {
             let longest = random.among(&[2, 5, 5, 12, 12, 12, 24, 60]);
             let used = random.below(longest + 1);
-            let room = used + random.among(&[0, 0, 1, 9, 40]);
+            let room = used + random.among(rooms);
             let mut line = any_line_of(random, &glyphs, used, room);
             spoil(random, &mut line);
-            asked.ask(&table, Box::new(Pass { by, line, start, written: None }));
+            show(random, &table, start, line);
         }
         left -= lines;
     }

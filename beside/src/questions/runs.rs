@@ -7,10 +7,11 @@ use crate::questions::features::any_requests;
 use crate::questions::passes::for_each_table;
 use crate::questions::{Ask, Part, Question};
 use crate::reference::line::Line;
-use crate::reference::oracle::{Answer, Fault, LONGEST_TABLE};
+use crate::reference::oracle::{Answer, Fault};
 use crate::reference::pass::line_of;
 use crate::reference::run::{Run, MOST_HEADS};
 use crate::reference::trace::describe_run;
+use crate::tables::cuts::{far_chains, for_each_cut, for_each_longest};
 use crate::tables::kinds::{Written, KINDS};
 use crate::tables::lines::{any_line_of, for_each_length, spoil};
 use crate::tables::lookup::Made;
@@ -207,21 +208,12 @@ const LINE: [u16; 4] = [5, 10, 6, 20];
 
 /// A table cut at every byte, at its own start and behind other bytes.
 fn cut_tables(asked: &mut dyn Ask) {
-    for before in [0, 1, 3] {
-        let table = [&[0, 2, 0][..before], &two_chains()].concat();
-        for length in 0..=table.len() {
-            ask_run(asked, &Rc::from(&table[..length]), before, &line_of(&LINE, 9));
-        }
-    }
+    for_each_cut([0, 2, 0], &two_chains(), &mut |table, start| ask_run(asked, table, start, &line_of(&LINE, 9)));
 }
 
 fn far_starts(asked: &mut dyn Ask) {
-    let table = two_chains();
-    let length = table.len();
-    let table = Rc::from(table);
-    let near = [1, 8, length - 8, length - 1, length, length + 1];
-    let far = [1 << 16, 1 << 31, 1 << 32, (1 << 32) + 1, 1 << 63, usize::MAX - 7, usize::MAX];
-    for start in near.into_iter().chain(far) {
+    let table: Rc<[u8]> = Rc::from(two_chains());
+    for start in far_chains(table.len()) {
         ask_run(asked, &table, start, &line_of(&LINE, 9));
     }
 }
@@ -237,15 +229,12 @@ fn refused_lines(asked: &mut dyn Ask) {
 
 /// Tables at the limit of length and above it.
 fn long_tables(asked: &mut dyn Ask) {
-    for length in [LONGEST_TABLE, LONGEST_TABLE + 1] {
-        let mut table = two_chains();
-        table.resize(length, 0);
-        let table = Rc::from(table);
+    for_each_longest(two_chains(), &mut |table, length| {
         for start in [0, length - 1, length, length + 1] {
-            ask_run(asked, &table, start, &line_of(&LINE, 9));
-            ask_run(asked, &table, start, &Line { used: 10, ..line_of(&LINE, 9) });
+            ask_run(asked, table, start, &line_of(&LINE, 9));
+            ask_run(asked, table, start, &Line { used: 10, ..line_of(&LINE, 9) });
         }
-    }
+    });
 }
 
 /// As many heads as are counted, one fewer and more: subtables that come again because their length is 0, and chains. The

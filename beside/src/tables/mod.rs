@@ -2,6 +2,7 @@
 
 pub mod anchored;
 pub mod contextual;
+pub mod cuts;
 pub mod insertion;
 pub mod kerning;
 pub mod kerning_examples;
