@@ -114,8 +114,7 @@ impl Tables {
 
     /// Those for shaping with their names, as a font has them.
     pub fn named(&self) -> Vec<([u8; 4], Vec<u8>)> {
-        let tables =
-            [(*b"morx", &self.morx), (*b"mort", &self.mort), (*b"kerx", &self.kerx), (*b"kern", &self.kern)];
+        let tables = [(*b"morx", &self.morx), (*b"mort", &self.mort), (*b"kerx", &self.kerx), (*b"kern", &self.kern)];
         tables.into_iter().filter_map(|(name, table)| Some((name, table.as_ref()?[ALONE_AT..].to_vec()))).collect()
     }
 

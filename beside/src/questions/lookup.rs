@@ -204,7 +204,8 @@ fn unit_sizes(asked: &mut dyn Ask) {
     for format in [2, 4, 6] {
         for unit in (0..=12).chain([255, 256, 0xFFFF]) {
             for count in [0, 1, 2, 300] {
-                let sorted: Vec<Record> = (0..count).map(|number| Record { first: 3 * number, last: 3 * number + 1, value: 7 }).collect();
+                let sorted: Vec<Record> =
+                    (0..count).map(|number| Record { first: 3 * number, last: 3 * number + 1, value: 7 }).collect();
                 let turned: Vec<Record> = sorted.iter().rev().copied().collect();
                 for records in [sorted, turned] {
                     let table = with_records(format, unit, count, &records);

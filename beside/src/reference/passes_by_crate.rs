@@ -3,8 +3,8 @@
 
 use crate::reference::line::Line;
 use crate::reference::oracle::aat::morx::{
-    Contextual, ContextualState, Insertion, InsertionState, Ligature, LigatureState, NonContextual,
-    Rearrangement, RearrangementState, Subtable, SubtableKind,
+    Contextual, ContextualState, Insertion, InsertionState, Ligature, LigatureState, NonContextual, Rearrangement,
+    RearrangementState, Subtable, SubtableKind,
 };
 use crate::reference::oracle::{caught_as_none, Answer, Fault};
 use crate::reference::pass::{make_steps, stepped};

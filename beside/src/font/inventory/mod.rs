@@ -258,7 +258,8 @@ impl Surveyor<'_> {
             (0, 1) => ("sorted", None),
             (0, 2) => ("NOT sorted", Some(format!("its record {} is out of order (row 5)", record))),
             (0, _) => {
-                let row = is_unsorted(self.table, at as u64).then(|| "its records are out of order as the crate steps (row 5)".into());
+                let row = is_unsorted(self.table, at as u64)
+                    .then(|| "its records are out of order as the crate steps (row 5)".into());
                 ("NOT looked at, for its unit size", row)
             }
             _ => ("it can't be read", Some("it can't be read".into())),
