@@ -8,7 +8,7 @@ use crate::fuzz::source::Source;
 use crate::questions::features::{any_features, feature};
 use crate::questions::mort_passes::{count_judged, MortPass};
 use crate::questions::passes::{for_each_table, By, Pass};
-use crate::questions::runs::{describe_requests, MorxRun};
+use crate::questions::runs::MorxRun;
 use crate::questions::{Ask, Part, Question};
 use crate::reference::carried::{Carried, Moved};
 use crate::reference::line::Line;
@@ -30,52 +30,36 @@ use crate::tables::morx::{any_morx, in_chain, subtable as as_subtable};
 use crate::tables::random::Random;
 use crate::tables::strings::for_each_string;
 use crate::wire::entries::Entry;
-use crate::wire::pipe::lend_requests;
-use crate::wire::reply::number;
 use std::ops::Range;
 use std::rc::Rc;
 
-/// A call of `aat_mort_run`.
-pub struct MortRun {
-    pub line: Line,
-    pub start: u64,
-    /// Not 0 where the text runs from right to left.
-    pub right_to_left: u32,
-    pub requests: Vec<u32>,
-    /// What a document gives, with the heads, for its own examples.
-    pub written: Option<(Written, u32)>,
-}
+/// A call of `aat_mort_run`, which is told what morx's run with features is told.
+pub struct MortRun(pub MorxRun);
 
 impl MortRun {
-    fn run<'a>(&'a self, table: &'a [u8]) -> Run<'a> {
-        Run { table, start: self.start, right_to_left: self.right_to_left != 0, requests: &self.requests }
+    /// One of these parts.
+    pub fn new(line: Line, start: u64, right_to_left: u32, requests: Vec<u32>) -> Self {
+        MortRun(MorxRun { line, start, right_to_left, requests: Some(requests), written: None })
     }
 
-    /// The answer, the line as the call has to leave it, and the heads, where they are counted.
-    fn after(&self, table: &[u8]) -> Result<(Answer<()>, Line, Option<u32>), Fault> {
-        let mut line = self.line.clone();
-        let run = self.run(table);
-        if let Some(answer) = run.refusal(&line) {
-            return Ok((answer, line, None));
-        }
-        let (answer, heads) = mort::run(&run, &mut line, &mut |_| {});
-        self.judge(table, (answer, heads), &line)?;
-        match &self.written {
-            Some((written, counted)) if !written.is(answer, &line) || *counted != heads => Err(Fault::Disputed),
-            _ => Ok((answer, line, Some(heads))),
-        }
+    /// The run by the model of mort, which the crate judges.
+    fn make(&self, run: &Run, line: &mut Line) -> Result<(Answer<()>, u32), Fault> {
+        let made = mort::run(run, line, &mut |_| {});
+        self.judge(run.table, made, line)?;
+        Ok(made)
     }
 
     /// Disputed where the crate's run of the same table of morx leaves another line, answers otherwise or counts other heads.
     fn judge(&self, table: &[u8], given: (Answer<()>, u32), left: &Line) -> Result<(), Fault> {
-        let as_morx = table_as_morx(table, self.start, &self.line)?;
+        let MortRun(told) = self;
+        let as_morx = table_as_morx(table, told.start, &told.line)?;
         count_judged(as_morx.is_some());
         let table = match &as_morx {
             Some(table) => table,
             None => return Ok(()),
         };
-        let mut line = self.line.clone();
-        let by_crate = Run { table, start: 0, ..self.run(table) }.make(&mut line, &mut |_, _| {})?;
+        let mut line = told.line.clone();
+        let by_crate = Run { table, start: 0, ..told.run(table) }.make(&mut line, &mut |_, _| {})?;
         if by_crate == given && line == *left {
             Ok(())
         } else {
@@ -90,30 +74,19 @@ impl Question for MortRun {
     }
 
     fn arguments(&self, held: u64, call: &mut Vec<u8>) {
-        self.line.lend(call);
-        call.extend(self.start.to_le_bytes());
-        call.extend(self.right_to_left.to_le_bytes());
-        call.extend((held as u32).to_le_bytes());
-        lend_requests(&self.requests, call);
+        self.0.arguments(held, call);
     }
 
     fn reply(&self, table: &[u8], held: u64, reply: &mut Vec<u8>) -> Result<(), Fault> {
-        let (answer, line, heads) = self.after(table)?;
-        line.reply(answer, reply);
-        reply.extend(heads.unwrap_or(held as u32).to_le_bytes());
-        reply.extend(line.used.to_le_bytes());
-        Ok(())
+        self.0.reply_by(table, held, &|run, line| self.make(run, line), reply)
     }
 
     fn describe(&self, held: u64) -> String {
-        let (start, flag) = (self.start, self.right_to_left);
-        let run = format!("mort run at start {}, right to left {}, lent heads {}", start, flag, held as u32);
-        format!("{}{}, {}", run, describe_requests(&self.requests), self.line.describe())
+        format!("mort {}", self.0.describe(held))
     }
 
     fn describe_reply(&self, reply: &[u8]) -> String {
-        let heads = number(&reply[reply.len() - 12..reply.len() - 8]);
-        format!("heads {}, {}", heads, self.line.describe_reply_with_used(reply))
+        self.0.describe_reply(reply)
     }
 }
 
@@ -152,7 +125,7 @@ impl Part for Runs {
         let Chosen { start, right_to_left, lent, .. } = chosen;
         let count = usize::from(source.byte()) % (MOST_REQUESTS + 3);
         let requests = (0..count).map(|_| request(source.byte().into(), source.byte().into())).collect();
-        Box::new(MortRun { line: lent.line, start, right_to_left, requests, written: None })
+        Box::new(MortRun::new(lent.line, start, right_to_left, requests))
     }
 
     fn seed(&self, random: &mut Random, _entry: Entry) -> Seed {
@@ -168,19 +141,18 @@ fn ask_run(asked: &mut dyn Ask, table: &Rc<[u8]>, start: usize, line: &Line, req
 }
 
 fn ask_one_way(asked: &mut dyn Ask, table: &Rc<[u8]>, start: usize, line: &Line, right_to_left: u32, requests: &[u32]) {
-    let (line, start, requests) = (line.clone(), start as u64, requests.to_vec());
-    asked.ask(table, Box::new(MortRun { line, start, right_to_left, requests, written: None }));
+    asked.ask(table, Box::new(MortRun::new(line.clone(), start as u64, right_to_left, requests.to_vec())));
 }
 
 /// The same run put to the old entry, by the same table of morx.
-fn ask_as_morx(asked: &mut dyn Ask, table: &[u8], run: &MortRun) {
-    if run.run(table).refusal(&run.line).is_some() {
+fn ask_as_morx(asked: &mut dyn Ask, table: &[u8], MortRun(told): &MortRun) {
+    if told.run(table).refusal(&told.line).is_some() {
         return;
     }
     // A fault is for the run itself to show.
-    if let Ok(Some(as_morx)) = table_as_morx(table, run.start, &run.line) {
-        let (line, right_to_left, requests) = (run.line.clone(), run.right_to_left, Some(run.requests.clone()));
-        asked.ask(&Rc::from(as_morx), Box::new(MorxRun { line, start: 0, right_to_left, requests, written: None }));
+    if let Ok(Some(as_morx)) = table_as_morx(table, told.start, &told.line) {
+        let (line, requests) = (told.line.clone(), told.requests.clone());
+        asked.ask(&Rc::from(as_morx), Box::new(MorxRun { line, start: 0, requests, written: None, ..*told }));
     }
 }
 
@@ -227,7 +199,8 @@ fn examples(asked: &mut dyn Ask) {
     for (table, right_to_left, glyphs, heads) in written {
         let written = Written { answer: Answer::Done(()), glyphs: glyphs.to_vec(), homes: Some(vec![0, 1, 2, 3, 4]) };
         let line = line_of(&LINE, 5);
-        let run = MortRun { line, start: 0, right_to_left, requests: vec![], written: Some((written, heads)) };
+        let mut run = MortRun::new(line, 0, right_to_left, Vec::new());
+        run.0.written = Some((written, heads));
         ask_as_morx(asked, &table, &run);
         asked.ask(&Rc::from(table), Box::new(run));
     }
@@ -416,7 +389,7 @@ fn random_tables(asked: &mut dyn Ask, random: &mut Random, cases: u64) {
         spoil(random, &mut line);
         let right_to_left = random.among(&[0, 1, 2, u32::MAX]);
         let requests = any_mort_requests(random, table, start);
-        let run = MortRun { line, start, right_to_left, requests, written: None };
+        let run = MortRun::new(line, start, right_to_left, requests);
         if random.once_in(8) {
             ask_as_morx(asked, table, &run);
         }
@@ -465,8 +438,7 @@ fn any_call(
         0 | 1 => {
             let table = Rc::from(any_table(random, glyphs));
             mort::run(&run_of(&table, right_to_left), line, see);
-            let requests = Vec::new();
-            asked.ask(&table, Box::new(MortRun { line: lent, start: 0, right_to_left, requests, written: None }));
+            asked.ask(&table, Box::new(MortRun::new(lent, 0, right_to_left, Vec::new())));
         }
         2 => {
             let (kind, bits) = (random.among(&[0, 0, 4]), random.among(&BITS));

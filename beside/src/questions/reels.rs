@@ -47,7 +47,7 @@ impl ReelRun {
         let (start, right_to_left, requests) = (self.start, self.right_to_left, self.requests.clone());
         match self.edition {
             Edition::Morx => Box::new(MorxRun { line, start, right_to_left, requests: Some(requests), written: None }),
-            Edition::Mort => Box::new(MortRun { line, start, right_to_left, requests, written: None }),
+            Edition::Mort => Box::new(MortRun::new(line, start, right_to_left, requests)),
         }
     }
 }

@@ -35,25 +35,38 @@ pub struct MorxRun {
 }
 
 impl MorxRun {
-    fn run<'a>(&'a self, table: &'a [u8]) -> Run<'a> {
+    /// What it runs by.
+    pub fn run<'a>(&'a self, table: &'a [u8]) -> Run<'a> {
         let requests = self.requests.as_deref().unwrap_or(&[]);
         Run { table, start: self.start, right_to_left: self.right_to_left != 0, requests }
     }
 
-    /// The answer, the line as the call has to leave it, and the heads, where they are counted.
-    fn after(&self, table: &[u8]) -> Result<(Answer<()>, Line, Option<u32>), Fault> {
+    /// The answer, the line as the call has to leave it, and the heads, where they are counted; unless it is refused, the run is made so.
+    fn after(&self, table: &[u8], make: Make) -> Result<(Answer<()>, Line, Option<u32>), Fault> {
         let mut line = self.line.clone();
         let run = self.run(table);
         if let Some(answer) = run.refusal(&line) {
             return Ok((answer, line, None));
         }
-        let (answer, heads) = run.make(&mut line, &mut |_, _| {})?;
+        let (answer, heads) = make(&run, &mut line)?;
         match &self.written {
             Some((written, counted)) if !written.is(answer, &line) || *counted != heads => Err(Fault::Disputed),
             _ => Ok((answer, line, Some(heads))),
         }
     }
+
+    /// Adds the reply of a run that is made so.
+    pub fn reply_by(&self, table: &[u8], held: u64, make: Make, reply: &mut Vec<u8>) -> Result<(), Fault> {
+        let (answer, line, heads) = self.after(table, make)?;
+        line.reply(answer, reply);
+        reply.extend(heads.unwrap_or(held as u32).to_le_bytes());
+        reply.extend(line.used.to_le_bytes());
+        Ok(())
+    }
 }
+
+/// How a run that is not refused is made on a line: its answer, and the heads.
+type Make<'a> = &'a dyn Fn(&Run, &mut Line) -> Result<(Answer<()>, u32), Fault>;
 
 impl Question for MorxRun {
     fn entry(&self) -> Entry {
@@ -71,11 +84,7 @@ impl Question for MorxRun {
     }
 
     fn reply(&self, table: &[u8], held: u64, reply: &mut Vec<u8>) -> Result<(), Fault> {
-        let (answer, line, heads) = self.after(table)?;
-        line.reply(answer, reply);
-        reply.extend(heads.unwrap_or(held as u32).to_le_bytes());
-        reply.extend(line.used.to_le_bytes());
-        Ok(())
+        self.reply_by(table, held, &|run, line| run.make(line, &mut |_, _| {}), reply)
     }
 
     fn describe(&self, held: u64) -> String {
