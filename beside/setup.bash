@@ -83,7 +83,7 @@ open_crate() {
         sed -E "/^ *pub struct ($opened)\\b/,/\}/ s/^( *)([a-z_]+:)/\\1pub \\2/" "$top/docs/src/$file" >"$built/$file"
     done
     sed -i '/fn from_be_data(/,/^    }/ s/^\( *\)None$/\1super::failed_read()/' "$built/parse.rs"
-    sed -i 's/^\( *\)\(lookup::<u16>(&self.data, self.class_table .*.unwrap_or(1)\)$/\1super::indexed(glyph_id).unwrap_or_else(|| \2)/' "$built/aat.rs"
+    sed -i 's/^\( *\)\(lookup::<u16>(&self.data, self.class_table .*.unwrap_or([0-9])\)$/\1super::indexed(glyph_id).unwrap_or_else(|| \2)/' "$built/aat.rs"
 }
 
 # What a program is linked with besides the library; its age tells nothing.
