@@ -85,10 +85,11 @@ fn counts(word: &str) -> ExitCode {
     ExitCode::SUCCESS
 }
 
-/// The subjects whose names have this word in them, in the groups that have any.
+/// The subjects whose names have this word in them, or whose group's heading it is, in the groups that have any.
 fn chosen(mut groups: Vec<Group>, word: &str) -> Vec<Group> {
     for group in &mut groups {
-        group.subjects.retain(|subject| subject.name.contains(word));
+        let heading = group.heading;
+        group.subjects.retain(|subject| heading == word || subject.name.contains(word));
     }
     groups.retain(|group| !group.subjects.is_empty());
     groups
