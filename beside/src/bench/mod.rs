@@ -74,10 +74,11 @@ fn times(processor: &str, word: &str, file: Option<&str>) -> ExitCode {
     ExitCode::SUCCESS
 }
 
-/// Of lines of 256 places, one line each: the places gone over, and the name.
+/// Of lines of 256 places that both sides go over, one line each: the places gone over, and the name.
 fn counts(word: &str) -> ExitCode {
     for group in chosen(groups(&mut Random::new(1)), word) {
-        for subject in group.subjects.into_iter().filter(|subject| subject.name.ends_with(", 256 places")) {
+        let is_counted = |subject: &Subject| subject.is_compared() && subject.name.ends_with(", 256 places");
+        for subject in group.subjects.into_iter().filter(is_counted) {
             let name = subject.name.clone();
             println!("{}\t{}", subject.counted(), name);
         }

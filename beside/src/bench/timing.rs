@@ -109,6 +109,11 @@ impl Subject {
         self
     }
 
+    /// Whether the crate has a counterpart.
+    pub fn is_compared(&self) -> bool {
+        self.theirs.is_some()
+    }
+
     /// Takes few turns and more of them, ours and then theirs, for a tool that counts instructions; and gives the places that
     /// they go over beyond those of the few.
     pub fn counted(mut self) -> usize {
