@@ -1,6 +1,6 @@
 -- What an entry does, from what the code has done; how large what it writes is; and that it goes by the stall rule.
 use Prim.Native.Nat.{ℕ, _-_, _<_, _≤_}
-use mathlib.Core.Path.{_≡_, refl, sym, _∙_, ap, ap₂, subst}
+use mathlib.Core.Path.{_≡_, refl, sym, _∙_, ap, ap₂, subst, subst⁻¹}
 use mathlib.Core.Bool.{Bool, true, false, cond}
 use mathlib.Core.List.{List}
 use native.Mathlib.Omega.{arith}
@@ -10,7 +10,7 @@ use lib.Signed.{mag}
 use mir.Syntax.{w16, w32}
 use mir.Val.{SFits, toZ, ofZ}
 use mir.Facts.{toZ-ofZ}
-use borrow.Author.Tests.{lt-ltb, le-ltb}
+use borrow.Author.Tests.{lt-ltb}
 use Rattle.laws.specs.Bits.{isSet}
 use Rattle.answers.specs.declared.Answer.the-variants as Answer′
 use Rattle.parse.specs.Reads.{u16At}
@@ -22,6 +22,7 @@ use Rattle.state_tables.specs.Entries.{entryOf}
 use Rattle.machine.specs.Stall.{stalled}
 use Rattle.machine.specs.Pass.{isDone}
 use Rattle.anchors.specs.Anchors.{pointOf}
+use Rattle.anchors.specs.Opened.{Placed}
 use Rattle.anchors.specs.declared.Point.{Point}
 use Rattle.anchors.specs.declared.Point.the-variants as Point′
 use Rattle.anchors.proofs.Lying.{size-difference, point-small}
@@ -91,6 +92,21 @@ written-small ankr reading s index glyph Numbers′.Short = tt
 written-small ankr reading s index glyph (Numbers′.At mark current) =
     offset-small (pointOf reading ankr (s .glyph) mark) (pointOf reading ankr glyph current) (index - s .mark)
     (point-is reading ankr (s .glyph) mark) (point-is reading ankr glyph current)
+
+-- points that are kept for a glyph
+pub placed-for : {reading : Reading} {ankr : List ℕ} {g h place : ℕ} → g ≡ h → Placed reading ankr g place → Placed reading ankr h place
+placed-for {reading} {ankr} {g} {h} {place} e p = subst (λ (n : ℕ). Placed reading ankr n place) e p
+
+-- from points that were found, whichever way
+module _ (ankr : List ℕ) (reading : Reading) (marked mark glyph current : ℕ) {p q : Point} (a : p ≡ pointOf reading ankr marked mark)
+    (b : q ≡ pointOf reading ankr glyph current) where
+  pub points-are : IsPoint p × IsPoint q
+  points-are = (subst⁻¹ IsPoint a (point-is reading ankr marked mark), subst⁻¹ IsPoint b (point-is reading ankr glyph current))
+
+  pub points-write : (s : AnchorState) (index : ℕ) {back : ℕ} {written : Written} → marked ≡ s .glyph → back ≡ index - s .mark → written ≡ offset p q back
+      → written ≡ writtenBy ankr reading s index glyph (Numbers′.At mark current)
+  unfolding writtenBy
+  points-write s index g d w = w ∙ rw (a, b, g, d)
 
 never : {A : Type 0} → false ≡ true → A
 never e = let z : _≡_ {A = ℕ} 0 1 = cc in absurd (omega arith)

@@ -23,7 +23,9 @@ ghost use Rattle.state_tables.specs.Opened.{classBy, LiesIn, Remembers};
 ghost use Rattle.indexes.specs.Index.{classesBy};
 ghost use Rattle.anchor_machine.specs.Writes.{writeX, writeY, writeBack, writesAt, areLong};
 ghost use Rattle.anchor_machine.specs.Small.{IsPoint, IsOffset};
-ghost use Rattle.anchor_machine.specs.Machine.{opened, barred, fresh, marked, numbersAt, numbersOf, offset, writtenBy, stopped, settled, areShort, settledBy, acted, next, ownClasses, passedIndexed, workedBy, workedIndexed, isShort, isTupled, isRoomy, stepTests, stepCall, stepWrites};
+ghost use Rattle.anchor_machine.specs.Machine.{opened, barred, fresh, marked, numbersAt, numbersOf, offset, writtenBy, stopped, settled, areShort, settledBy, acted, next, ownClasses, workedBy, workedIndexed, isShort, isTupled, isRoomy, stepTests, stepCall, stepWrites};
+
+mod actions;
 
 // A machine, as its subtable's head gives it: by a reading, with an action type and where its control table begins.
 pub struct Anchoring {
@@ -547,53 +549,6 @@ fn class_by(bytes: &[u8], opened: Classes, memo: &mut [u32; 64], glyph: u16, ind
     class_now(bytes, opened, memo, glyph)
 }
 
-// The pass over a line that LINE has taken.
-fn pass_line(
-    ankr: &[u8],
-    bytes: &[u8],
-    anchoring: Anchoring,
-    glyphs: &[u16],
-    used: usize,
-    x: &mut [i32],
-    y: &mut [i32],
-    back: &mut [u16],
-    index: &[u16],
-) -> Answer
-    requires { ⌜ (used ≤ length (now glyphs)) × (used ≤ length (now x)) × (used ≤ length (now y)) × (used ≤ length (now back)) × (used ≤ roomLimit) ⌝ }
-    ensures answer { λ r. ⌜ r ≡ passedIndexed (now (index .entry)) (now (ankr .entry)) (now (bytes .entry)) anchoring (now (glyphs .entry)) used .answer ⌝ }
-    ensures x { λ _. ⌜ now (x .exit) ≡ writeX (passedIndexed (now (index .entry)) (now (ankr .entry)) (now (bytes .entry)) anchoring (now (glyphs .entry)) used .writes) (now (x .entry)) ⌝ }
-    ensures y { λ _. ⌜ now (y .exit) ≡ writeY (passedIndexed (now (index .entry)) (now (ankr .entry)) (now (bytes .entry)) anchoring (now (glyphs .entry)) used .writes) (now (y .entry)) ⌝ }
-    ensures back { λ _. ⌜ now (back .exit) ≡ writeBack (passedIndexed (now (index .entry)) (now (ankr .entry)) (now (bytes .entry)) anchoring (now (glyphs .entry)) used .writes) (now (back .entry)) ⌝ }
-{
-    let states = anchoring.states;
-    let opened = opened::open(bytes, states);
-    let mut memo = opened::nothing_found();
-    let mut state = AnchorState::new();
-    let mut place = 0;
-    while place < used {
-        // A place has a loop of its own, so that the next glyph's read does not wait for this entry's flags.
-        let mut stays = true;
-        while stays {
-            // What `next` does, written out: as a call of its own its answer would go through memory.
-            let class = class_by(bytes, opened, &mut memo, glyphs[place], index);
-            let Entered::At(entry) = entries::entry_of(bytes, states, state.state, class, 2) else {
-                return Answer::Ended;
-            };
-            let step = state.act(ankr, bytes, anchoring, entry, place, glyphs[place]);
-            let answer = step.answer;
-            if !machine::is_done(answer) {
-                return answer;
-            }
-            let written = step.written;
-            put(written, used, place, x, y, back);
-            state = step.state;
-            stays = step.advance == 0;
-        }
-        place += 1;
-    }
-    Answer::Done
-}
-
 // The pass by what a head gives and the classes of an index; HEAD where it gives none, TUPLES where these are refused.
 pub fn work_by(
     ankr: &[u8],
@@ -614,7 +569,7 @@ pub fn work_by(
 {
     match opened {
         Opened::Ready(anchoring) => {
-            return pass_line(ankr, bytes, anchoring, glyphs, used, x, y, back, index);
+            return actions::pass_line(ankr, bytes, anchoring, glyphs, used, x, y, back, index);
         }
         Opened::Short => {
             return Answer::Refused(Refusal::Head);

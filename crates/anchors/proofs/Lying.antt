@@ -1,6 +1,6 @@
 -- Where points lie, and how far one may be from another.
 use Prim.Native.Nat.{ℕ, zero, suc, _+_, _-_, _*_, _<_, _≤_}
-use mathlib.Core.Path.{_≡_, refl, sym, _∙_, ap₂, subst}
+use mathlib.Core.Path.{_≡_, refl, sym, _∙_, ap, ap₂, subst}
 use mathlib.Core.Bool.{Bool, true, false, cond}
 use mathlib.Core.List.{List}
 use native.Mathlib.Omega.{arith}
@@ -11,7 +11,7 @@ use lib.Signed.{mag}
 use mir.Syntax.{w16, w32}
 use mir.Val.{SFits, toZ, ofZ}
 use mir.Facts.{toZ-ofZ}
-use borrow.Author.Tests.{ltb-true, ltb-false}
+use borrow.Author.Tests.{ltb-true}
 use Rattle.laws.specs.Signed.{signed16}
 use Rattle.laws.proofs.Signed.{signed16-size, signed16-round}
 use Rattle.parse.specs.Reads.{inside, u16At, readI16, readU32}
@@ -20,7 +20,7 @@ use Rattle.parse.specs.declared.ReadI16.the-variants as I16
 use Rattle.parse.specs.declared.ReadU32.{ReadU32}
 use Rattle.parse.specs.declared.ReadU32.the-variants as U32
 use Rattle.parse.specs.Use.{onU32}
-use Rattle.parse.proofs.Laws.{inside-fits, u32-value}
+use Rattle.parse.proofs.Laws.{inside-over, inside-yes, u32-value}
 use Rattle.tables.specs.Units.{lookupBy}
 use Rattle.tables.specs.declared.lookup.Found.{Found}
 use Rattle.tables.specs.declared.lookup.Found.the-variants as Found′
@@ -28,7 +28,6 @@ use Rattle.tables.specs.declared.units.Reading.{Reading}
 use Rattle.anchors.specs.Anchors.{onI16, onFound, onPoints, pointsOf, pointAt, pointOf}
 use Rattle.anchors.specs.declared.Points.{Points}
 use Rattle.anchors.specs.declared.Points.the-variants as Points′
-use Rattle.anchors.specs.declared.Point.{Point}
 use Rattle.anchors.specs.declared.Point.the-variants as Point′
 
 -- the difference of two numbers of 16 bits: at most 65,535 in size
@@ -77,29 +76,30 @@ module _ {a b : ℤ} (f : SFits w16 a) (g : SFits w16 b) where
   pub difference-is : toZ w32 (ofZ w32 (toZ w32 (ofZ w32 (toZ w16 (ofZ w16 a))) -ℤ toZ w32 (ofZ w32 (toZ w16 (ofZ w16 b))))) ≡ a -ℤ b
   difference-is = toZ-ofZ difference-fits ∙ difference-plain
 
--- a signed number that was read lies in the table
-pub i16-inside : (table : List ℕ) (at : ℕ) {u : ReadI16} {n : ℤ} → u ≡ readI16 table at → u ≡ I16.Got n → at + 2 ≤ length table
-unfolding readI16
-i16-inside table at {u} {n} e f = go (inside table at 2) refl
-  where
-    go : (t : Bool) → inside table at 2 ≡ t → at + 2 ≤ length table
-    go true p = inside-fits table at 2 p
-    go false p = let z : _≡_ {A = ℕ} 0 1 = cc in absurd (omega arith)
+-- a point lies in the table with both its numbers, or is not there
+module _ (ankr : List ℕ) (place : ℕ) where
+  i16-short : (at : ℕ) → length ankr < at + 2 → readI16 ankr at ≡ I16.Short
+  unfolding readI16
+  i16-short at h = rw (inside-over ankr at 2 h)
 
--- a signed number that was read keeps its value through its bits
-read-round : (table : List ℕ) (at : ℕ) {u : ReadI16} {n : ℤ} → u ≡ readI16 table at → u ≡ I16.Got n → toZ w16 (ofZ w16 n) ≡ n
-unfolding readI16
-read-round table at {u} {n} e f = go (inside table at 2) refl
-  where
-    go : (t : Bool) → inside table at 2 ≡ t → toZ w16 (ofZ w16 n) ≡ n
-    go true p = let q : n ≡ signed16 (u16At table at) = cc in signed16-round (u16At table at) q ∙ sym q
-    go false p = let z : _≡_ {A = ℕ} 0 1 = cc in absurd (omega arith)
+  i16-got : (at : ℕ) → at + 2 ≤ length ankr → readI16 ankr at ≡ I16.Got (signed16 (u16At ankr at))
+  unfolding readI16
+  i16-got at h = rw (inside-yes ankr at 2 (omega arith) (omega arith))
 
-pub point-read : (ankr : List ℕ) (place : ℕ) {u v : ReadI16} {x y : ℤ} → u ≡ readI16 ankr place → u ≡ I16.Got x → v ≡ readI16 ankr (place + 2) → v ≡ I16.Got y
-    → Point′.At (toZ w16 (ofZ w16 x)) (toZ w16 (ofZ w16 y)) ≡ pointAt ankr place
-unfolding pointAt
-point-read ankr place e f g h =
-    ap₂ (λ (a b : ℤ). Point′.At a b) (read-round ankr place e f) (read-round ankr (place + 2) g h) ∙ sym (rw (sym e ∙ f, sym g ∙ h, pointAt))
+  pub point-short : length ankr < place + 4 → Point′.None ≡ pointAt ankr place
+  unfolding pointAt
+  point-short h = rw (i16-short (place + 2) (omega arith)) (go (readI16 ankr place))
+    where
+      go : (r : ReadI16) → Point′.None ≡ onI16 r (λ x. Point′.None) Point′.None
+      go (I16.Got x) = refl
+      go I16.Short = refl
+
+  pub point-read : {m n : ℕ} {x y : ℤ} → place + 4 ≤ length ankr → m ≡ u16At ankr place → x ≡ signed16 m → n ≡ u16At ankr (place + 2) → y ≡ signed16 n
+      → Point′.At (toZ w16 (ofZ w16 x)) (toZ w16 (ofZ w16 y)) ≡ pointAt ankr place
+  unfolding pointAt
+  point-read {m} {n} h e f g k =
+      ap₂ (λ (a b : ℤ). Point′.At a b) (signed16-round m f ∙ ap signed16 e) (signed16-round n k ∙ ap signed16 g)
+      ∙ sym (rw (i16-got place (omega arith), i16-got (place + 2) (omega arith), pointAt))
 
 -- points begin within the table
 module _ (ankr : List ℕ) (place : ℕ) where

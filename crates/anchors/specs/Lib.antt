@@ -1,3 +1,4 @@
 -- Anchor points.
 pub mod Anchors
 pub mod Manual
+pub mod Opened

@@ -1,7 +1,6 @@
 // The anchor points of glyphs, in an ankr table.
 use answers::Check;
 use answers::Refusal;
-use parse::ReadI16;
 use parse::ReadU32;
 use tables::lookup::Found;
 use tables::units;
@@ -11,6 +10,8 @@ ghost use mathlib.Core.List.{[], _∷_};
 ghost use lib.IntN.{_-ℤ_};
 ghost use Rattle.answers.specs.Refuse.{refuse};
 ghost use Rattle.anchors.specs.Anchors.{anchorTest, pointsOf, pointAt, pointOf};
+
+pub mod opened;
 
 // Where the points of a glyph begin.
 pub enum Points {
@@ -62,17 +63,20 @@ fn points_of(reading: Reading, ankr: &[u8], glyph: u16) -> Points
     Points::From(place + 4)
 }
 
-// The point at a place.
+// The point at a place, where both its numbers lie in the table.
 fn point_at(ankr: &[u8], place: usize) -> Point
     ensures { λ r. ⌜ r ≡ pointAt (now (ankr .entry)) place ⌝ }
 {
-    let ReadI16::Got(x) = parse::read_i16(ankr, place) else {
+    if ankr.len() < STRIDE {
         return Point::None;
-    };
-    let ReadI16::Got(y) = parse::read_i16(ankr, place + 2) else {
+    }
+    if ankr.len() - STRIDE < place {
         return Point::None;
-    };
-    Point::At { x, y }
+    }
+    Point::At {
+        x: parse::to_signed16(parse::u16_at(ankr, place)),
+        y: parse::to_signed16(parse::u16_at(ankr, place + 2)),
+    }
 }
 
 // The point of a glyph with this number.

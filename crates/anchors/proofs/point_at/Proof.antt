@@ -1,63 +1,51 @@
-use mathlib.Core.Path.{sym, _∙_}
-use Rattle.anchors.specs.Anchors.{pointAt}
 use native.Mathlib.Omega.{arith}
-use Rattle.anchors.proofs.Lying.{i16-inside, point-read}
+use Rattle.anchors.proofs.Lying.{point-short, point-read}
 use borrow.Author.Needs.{needs}
 use Rattle.anchors.proofs.point_at.Statement.{statement}
 use Rattle.anchors.proofs.point_at.Tie as tie
 
-read-i16-requires : tie.Need-read-i16-requires
-read-i16-requires c κs = search needs
-
-enum-known-x : tie.Need-enum-known-x
-enum-known-x c = search needs
-
-enum-told : tie.Need-enum-told
-enum-told c = search needs
-
 returns : tie.Need-returns
-unfolding pointAt
-returns c = rw (sym (c .before .before .read-i16 .ensures) ∙ c .enum-told .given .1, pointAt)
+returns c = point-short _ _ (omega (arith, c .if1 .taken))
 
-add-read-i16 : tie.Need-add-read-i16
-add-read-i16 c = omega (arith, i16-inside _ _ (c .before .before .before .read-i16 .ensures) (c .before .x .given .1))
-
-read-i16-requires-2 : tie.Need-read-i16-requires-2
-read-i16-requires-2 c κs = search needs
-
-enum-known-y : tie.Need-enum-known-y
-enum-known-y c = search needs
-
-enum-told-2 : tie.Need-enum-told-2
-enum-told-2 c = search needs
+sub-if2 : tie.Need-sub-if2
+sub-if2 c = search needs
 
 returns-2 : tie.Need-returns-2
-unfolding pointAt
-returns-2 c =
-    let at-read-i162 = c .before .before in
-    let at-x = at-read-i162 .before .before in
-    let at-read-i16 = at-x .before .before in
-    rw (sym (at-read-i16 .read-i16 .ensures) ∙ at-x .x .given .1, sym (at-read-i162 .read-i162 .ensures) ∙ c .enum-told2 .given .1, pointAt)
+returns-2 c = point-short _ _ (omega (arith, c .before .if1 .left, c .if2 .taken))
+
+u16-at-requires : tie.Need-u16-at-requires
+u16-at-requires c κs = search needs
+
+to-signed16-requires : tie.Need-to-signed16-requires
+to-signed16-requires c κs = search needs
+
+add-u16-at : tie.Need-add-u16-at
+add-u16-at c = search needs
+
+u16-at-requires-2 : tie.Need-u16-at-requires-2
+u16-at-requires-2 c κs = search needs
+
+to-signed16-requires-2 : tie.Need-to-signed16-requires-2
+to-signed16-requires-2 c κs = search needs
 
 returns-3 : tie.Need-returns-3
 returns-3 c =
-    let at-y = c .before in
-    let at-read-i162 = at-y .before .before in
-    let at-x = at-read-i162 .before .before in
-    let at-read-i16 = at-x .before .before in
-    point-read _ _ (at-read-i16 .read-i16 .ensures) (at-x .x .given .1) (at-read-i162 .read-i162 .ensures) (at-y .y .given .1)
+    let at-u16-at2 = c .before in
+    let at-to-signed16 = at-u16-at2 .before in
+    let at-u16-at = at-to-signed16 .before in
+    let at-if2 = at-u16-at .before in
+    point-read _ _ (omega (arith, at-if2 .before .if1 .left, at-if2 .if2 .left)) (at-u16-at .u16-at .ensures) (at-to-signed16 .to-signed16 .ensures) (at-u16-at2 .u16-at2 .ensures) (c .to-signed162 .ensures)
 
 pub point-at-spec : {M : Type 1} → statement M
 point-at-spec =
     tie.close
     (tie.spec
-    read-i16-requires
-    enum-known-x
-    enum-told
     returns
-    add-read-i16
-    read-i16-requires-2
-    enum-known-y
-    enum-told-2
+    sub-if2
     returns-2
+    u16-at-requires
+    to-signed16-requires
+    add-u16-at
+    u16-at-requires-2
+    to-signed16-requires-2
     returns-3)
