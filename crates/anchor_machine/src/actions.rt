@@ -231,7 +231,8 @@ fn act(
     index: usize,
     glyph: u16,
 ) -> Acted
-    requires { ⌜ (anchors ≡ anchorsOf (anchoring .reading) (now ankr)) × (now part ≡ partOf (now ankr)) × Placed (anchoring .reading) (now ankr) (kept .glyph) (kept .place) × (entry .payload + 2 ≤ length (now bytes)) ⌝ }
+    requires { ⌜ (anchors ≡ anchorsOf (anchoring .reading) (now ankr)) × (now part ≡ partOf (now ankr)) × Placed (anchoring .reading) (now ankr) (kept .glyph)
+        (kept .place) × (entry .payload + 2 ≤ length (now bytes)) ⌝ }
     ensures step { λ r. ⌜ r .step ≡ acted (now (ankr .entry)) (now (bytes .entry)) anchoring state entry index glyph ⌝ }
     ensures kept { λ r. ⌜ Placed (anchoring .reading) (now (ankr .entry)) (r .kept .glyph) (r .kept .place) ⌝ }
 {
@@ -268,9 +269,12 @@ pub fn pass_line(
 ) -> Answer
     requires { ⌜ (used ≤ length (now glyphs)) × (used ≤ length (now x)) × (used ≤ length (now y)) × (used ≤ length (now back)) × (used ≤ roomLimit) ⌝ }
     ensures answer { λ r. ⌜ r ≡ passedIndexed (now (index .entry)) (now (ankr .entry)) (now (bytes .entry)) anchoring (now (glyphs .entry)) used .answer ⌝ }
-    ensures x { λ _. ⌜ now (x .exit) ≡ writeX (passedIndexed (now (index .entry)) (now (ankr .entry)) (now (bytes .entry)) anchoring (now (glyphs .entry)) used .writes) (now (x .entry)) ⌝ }
-    ensures y { λ _. ⌜ now (y .exit) ≡ writeY (passedIndexed (now (index .entry)) (now (ankr .entry)) (now (bytes .entry)) anchoring (now (glyphs .entry)) used .writes) (now (y .entry)) ⌝ }
-    ensures back { λ _. ⌜ now (back .exit) ≡ writeBack (passedIndexed (now (index .entry)) (now (ankr .entry)) (now (bytes .entry)) anchoring (now (glyphs .entry)) used .writes) (now (back .entry)) ⌝ }
+    ensures x { λ _. ⌜ now (x .exit) ≡ writeX (passedIndexed (now (index .entry)) (now (ankr .entry)) (now (bytes .entry)) anchoring (now (glyphs .entry))
+        used .writes) (now (x .entry)) ⌝ }
+    ensures y { λ _. ⌜ now (y .exit) ≡ writeY (passedIndexed (now (index .entry)) (now (ankr .entry)) (now (bytes .entry)) anchoring (now (glyphs .entry))
+        used .writes) (now (y .entry)) ⌝ }
+    ensures back { λ _. ⌜ now (back .exit) ≡ writeBack (passedIndexed (now (index .entry)) (now (ankr .entry)) (now (bytes .entry)) anchoring
+        (now (glyphs .entry)) used .writes) (now (back .entry)) ⌝ }
 {
     let states = anchoring.states;
     let opened = state_tables::opened::open(bytes, states);

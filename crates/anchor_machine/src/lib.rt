@@ -495,10 +495,14 @@ impl AnchorState {
         y: &mut [i32],
         back: &mut [u16],
     ) -> AnchorStep
-        ensures step { λ r. ⌜ r ≡ stepCall «table_length» (now (ankr .entry)) (now (bytes .entry)) opened self used index glyph (now (along .entry)) (now (x .entry)) (now (y .entry)) (now (back .entry)) ⌝ }
-        ensures x { λ _. ⌜ now (x .exit) ≡ writeX (stepWrites «table_length» (now (ankr .entry)) (now (bytes .entry)) opened self used index glyph (now (along .entry)) (now (x .entry)) (now (y .entry)) (now (back .entry))) (now (x .entry)) ⌝ }
-        ensures y { λ _. ⌜ now (y .exit) ≡ writeY (stepWrites «table_length» (now (ankr .entry)) (now (bytes .entry)) opened self used index glyph (now (along .entry)) (now (x .entry)) (now (y .entry)) (now (back .entry))) (now (y .entry)) ⌝ }
-        ensures back { λ _. ⌜ now (back .exit) ≡ writeBack (stepWrites «table_length» (now (ankr .entry)) (now (bytes .entry)) opened self used index glyph (now (along .entry)) (now (x .entry)) (now (y .entry)) (now (back .entry))) (now (back .entry)) ⌝ }
+        ensures step { λ r. ⌜ r ≡ stepCall «table_length» (now (ankr .entry)) (now (bytes .entry)) opened self used index glyph (now (along .entry))
+            (now (x .entry)) (now (y .entry)) (now (back .entry)) ⌝ }
+        ensures x { λ _. ⌜ now (x .exit) ≡ writeX (stepWrites «table_length» (now (ankr .entry)) (now (bytes .entry)) opened self used index glyph
+            (now (along .entry)) (now (x .entry)) (now (y .entry)) (now (back .entry))) (now (x .entry)) ⌝ }
+        ensures y { λ _. ⌜ now (y .exit) ≡ writeY (stepWrites «table_length» (now (ankr .entry)) (now (bytes .entry)) opened self used index glyph
+            (now (along .entry)) (now (x .entry)) (now (y .entry)) (now (back .entry))) (now (y .entry)) ⌝ }
+        ensures back { λ _. ⌜ now (back .exit) ≡ writeBack (stepWrites «table_length» (now (ankr .entry)) (now (bytes .entry)) opened self used index glyph
+            (now (along .entry)) (now (x .entry)) (now (y .entry)) (now (back .entry))) (now (back .entry)) ⌝ }
     {
         let roomy = is_roomy(along, x, y, back, used);
         if let Check::Refused(why) = self.refuse(
@@ -563,9 +567,12 @@ pub fn work_by(
 ) -> Answer
     requires { ⌜ (used ≤ length (now glyphs)) × (used ≤ length (now x)) × (used ≤ length (now y)) × (used ≤ length (now back)) × (used ≤ roomLimit) ⌝ }
     ensures answer { λ r. ⌜ r ≡ workedIndexed (now (index .entry)) (now (ankr .entry)) (now (bytes .entry)) opened (now (glyphs .entry)) used .answer ⌝ }
-    ensures x { λ _. ⌜ now (x .exit) ≡ writeX (workedIndexed (now (index .entry)) (now (ankr .entry)) (now (bytes .entry)) opened (now (glyphs .entry)) used .writes) (now (x .entry)) ⌝ }
-    ensures y { λ _. ⌜ now (y .exit) ≡ writeY (workedIndexed (now (index .entry)) (now (ankr .entry)) (now (bytes .entry)) opened (now (glyphs .entry)) used .writes) (now (y .entry)) ⌝ }
-    ensures back { λ _. ⌜ now (back .exit) ≡ writeBack (workedIndexed (now (index .entry)) (now (ankr .entry)) (now (bytes .entry)) opened (now (glyphs .entry)) used .writes) (now (back .entry)) ⌝ }
+    ensures x { λ _. ⌜ now (x .exit) ≡ writeX (workedIndexed (now (index .entry)) (now (ankr .entry)) (now (bytes .entry)) opened (now (glyphs .entry))
+        used .writes) (now (x .entry)) ⌝ }
+    ensures y { λ _. ⌜ now (y .exit) ≡ writeY (workedIndexed (now (index .entry)) (now (ankr .entry)) (now (bytes .entry)) opened (now (glyphs .entry))
+        used .writes) (now (y .entry)) ⌝ }
+    ensures back { λ _. ⌜ now (back .exit) ≡ writeBack (workedIndexed (now (index .entry)) (now (ankr .entry)) (now (bytes .entry)) opened (now (glyphs .entry))
+        used .writes) (now (back .entry)) ⌝ }
 {
     match opened {
         Opened::Ready(anchoring) => {
@@ -595,7 +602,8 @@ pub fn work(
     ensures answer { λ r. ⌜ r ≡ workedBy (now (ankr .entry)) (now (bytes .entry)) opened (now (glyphs .entry)) used .answer ⌝ }
     ensures x { λ _. ⌜ now (x .exit) ≡ writeX (workedBy (now (ankr .entry)) (now (bytes .entry)) opened (now (glyphs .entry)) used .writes) (now (x .entry)) ⌝ }
     ensures y { λ _. ⌜ now (y .exit) ≡ writeY (workedBy (now (ankr .entry)) (now (bytes .entry)) opened (now (glyphs .entry)) used .writes) (now (y .entry)) ⌝ }
-    ensures back { λ _. ⌜ now (back .exit) ≡ writeBack (workedBy (now (ankr .entry)) (now (bytes .entry)) opened (now (glyphs .entry)) used .writes) (now (back .entry)) ⌝ }
+    ensures back { λ _. ⌜ now (back .exit) ≡ writeBack (workedBy (now (ankr .entry)) (now (bytes .entry)) opened (now (glyphs .entry)) used .writes)
+        (now (back .entry)) ⌝ }
 {
     let none = [0u16; 0];
     work_by(ankr, bytes, opened, glyphs, used, x, y, back, &none)

@@ -1,4 +1,5 @@
-// The heads of a morx table, and of a mort table, its earlier edition: chains, features and subtables as lists that cursors go through, and the walk over all heads.
+// The heads of a morx table, and of a mort table, its earlier edition: chains, features and subtables as lists that cursors go through, and the walk over
+// all heads.
 use answers::Check;
 use answers::Refusal;
 use parse::ReadPart;

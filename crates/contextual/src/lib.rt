@@ -262,9 +262,11 @@ impl ContextualState {
         lent: &[u16],
     ) -> ContextualStep
         requires { ⌜ (used ≤ length (now glyphs)) × LiesIn (now bytes) table × Remembers (classBy (now bytes) table) (now memo) ⌝ }
-        ensures step { λ r. ⌜ r ≡ stepOf (stepped (next (classesBy (now (lent .entry)) (classBy (now (bytes .entry)) table)) (now (bytes .entry)) states self index glyph ends)) ⌝ }
+        ensures step { λ r. ⌜ r ≡ stepOf (stepped (next (classesBy (now (lent .entry)) (classBy (now (bytes .entry)) table)) (now (bytes .entry)) states self
+            index glyph ends)) ⌝ }
         ensures memo { λ _. ⌜ Remembers (classBy (now (bytes .entry)) table) (now (memo .exit)) ⌝ }
-        ensures glyphs { λ _. ⌜ now (glyphs .exit) ≡ writtenAll used (next (classesBy (now (lent .entry)) (classBy (now (bytes .entry)) table)) (now (bytes .entry)) states self index glyph ends .writes) (now (glyphs .entry)) ⌝ }
+        ensures glyphs { λ _. ⌜ now (glyphs .exit) ≡ writtenAll used (next (classesBy (now (lent .entry)) (classBy (now (bytes .entry)) table))
+            (now (bytes .entry)) states self index glyph ends .writes) (now (glyphs .entry)) ⌝ }
     {
         if self.idle(ends) {
             return ContextualStep {
@@ -325,8 +327,10 @@ impl ContextualState {
         lent: &[u16],
     ) -> ContextualStep
         requires { ⌜ (used ≤ length (now glyphs)) × (index + steps ≤ used + 1) ⌝ }
-        ensures step { λ r. ⌜ r ≡ stepOf (stepped (ranAll (classesBy (now (lent .entry)) (classOf (now (bytes .entry)) states)) (now (bytes .entry)) states used steps self (now (glyphs .entry)) index first over)) ⌝ }
-        ensures glyphs { λ _. ⌜ now (glyphs .exit) ≡ writtenAll used (ranAll (classesBy (now (lent .entry)) (classOf (now (bytes .entry)) states)) (now (bytes .entry)) states used steps self (now (glyphs .entry)) index first over .writes) (now (glyphs .entry)) ⌝ }
+        ensures step { λ r. ⌜ r ≡ stepOf (stepped (ranAll (classesBy (now (lent .entry)) (classOf (now (bytes .entry)) states)) (now (bytes .entry)) states used
+            steps self (now (glyphs .entry)) index first over)) ⌝ }
+        ensures glyphs { λ _. ⌜ now (glyphs .exit) ≡ writtenAll used (ranAll (classesBy (now (lent .entry)) (classOf (now (bytes .entry)) states))
+            (now (bytes .entry)) states used steps self (now (glyphs .entry)) index first over .writes) (now (glyphs .entry)) ⌝ }
     {
         let table = opened::open(bytes, states);
         let mut memo = opened::nothing_found();
@@ -387,7 +391,8 @@ impl ContextualState {
         index: usize,
         made: Made,
     ) -> Check
-        ensures { λ r. ⌜ r ≡ refuse (stepTests «table_length» (lineTest (lineOf (now (glyphs .entry)) (now (tags .entry)) (now (homes .entry)) used) ∷ []) used index (stateTests self used) made) ⌝ }
+        ensures { λ r. ⌜ r ≡ refuse (stepTests «table_length» (lineTest (lineOf (now (glyphs .entry)) (now (tags .entry)) (now (homes .entry)) used) ∷ []) used
+            index (stateTests self used) made) ⌝ }
     {
         if let Check::Refused(why) = answers::refuse_table(table_length) {
             return Check::Refused(why);
@@ -420,8 +425,10 @@ impl ContextualState {
         glyph: u16,
         ends: bool,
     ) -> ContextualStep
-        ensures step { λ r. ⌜ r ≡ stepOf (stepCall contextual (now (table .entry)) start self (lineOf (now (glyphs .entry)) (now (tags .entry)) (now (homes .entry)) used) index glyph ends) ⌝ }
-        ensures glyphs { λ _. ⌜ now (glyphs .exit) ≡ stepLeaves contextual (now (table .entry)) start self (lineOf (now (glyphs .entry)) (now (tags .entry)) (now (homes .entry)) used) index glyph ends .glyphs ⌝ }
+        ensures step { λ r. ⌜ r ≡ stepOf (stepCall contextual (now (table .entry)) start self
+            (lineOf (now (glyphs .entry)) (now (tags .entry)) (now (homes .entry)) used) index glyph ends) ⌝ }
+        ensures glyphs { λ _. ⌜ now (glyphs .exit) ≡ stepLeaves contextual (now (table .entry)) start self
+            (lineOf (now (glyphs .entry)) (now (tags .entry)) (now (homes .entry)) used) index glyph ends .glyphs ⌝ }
     {
         let bytes = parse::from(table, start);
         let made = open(bytes);
@@ -483,8 +490,10 @@ fn pass_line(
     index: &[u16],
 ) -> Answer
     requires { ⌜ used ≤ length (now glyphs) ⌝ }
-    ensures answer { λ r. ⌜ r ≡ passed (indexed (now (index .entry)) contextual) (now (bytes .entry)) states (lineOf (now (glyphs .entry)) (now (tags .entry)) (now (homes .entry)) used) .answer ⌝ }
-    ensures glyphs { λ _. ⌜ now (glyphs .exit) ≡ passedLeaves (indexed (now (index .entry)) contextual) (now (bytes .entry)) states (lineOf (now (glyphs .entry)) (now (tags .entry)) (now (homes .entry)) used) .glyphs ⌝ }
+    ensures answer { λ r. ⌜ r ≡ passed (indexed (now (index .entry)) contextual) (now (bytes .entry)) states
+        (lineOf (now (glyphs .entry)) (now (tags .entry)) (now (homes .entry)) used) .answer ⌝ }
+    ensures glyphs { λ _. ⌜ now (glyphs .exit) ≡ passedLeaves (indexed (now (index .entry)) contextual) (now (bytes .entry)) states
+        (lineOf (now (glyphs .entry)) (now (tags .entry)) (now (homes .entry)) used) .glyphs ⌝ }
 {
     let first = machine::glyph_at(glyphs, used, 0);
     let step = ContextualState::new().run(
@@ -511,8 +520,10 @@ pub fn work_by(
     index: &[u16],
 ) -> Answer
     requires { ⌜ used ≤ length (now glyphs) ⌝ }
-    ensures answer { λ r. ⌜ r ≡ subtableOf (indexed (now (index .entry)) contextual) .worked (now (bytes .entry)) (lineOf (now (glyphs .entry)) (now (tags .entry)) (now (homes .entry)) used) .answer ⌝ }
-    ensures glyphs { λ _. ⌜ now (glyphs .exit) ≡ workLeaves (subtableOf (indexed (now (index .entry)) contextual)) (now (bytes .entry)) (lineOf (now (glyphs .entry)) (now (tags .entry)) (now (homes .entry)) used) .glyphs ⌝ }
+    ensures answer { λ r. ⌜ r ≡ subtableOf (indexed (now (index .entry)) contextual) .worked (now (bytes .entry))
+        (lineOf (now (glyphs .entry)) (now (tags .entry)) (now (homes .entry)) used) .answer ⌝ }
+    ensures glyphs { λ _. ⌜ now (glyphs .exit) ≡ workLeaves (subtableOf (indexed (now (index .entry)) contextual)) (now (bytes .entry))
+        (lineOf (now (glyphs .entry)) (now (tags .entry)) (now (homes .entry)) used) .glyphs ⌝ }
 {
     let Made::Ready(states) = open(bytes) else {
         return Answer::Refused(Refusal::Head);
@@ -531,8 +542,10 @@ pub fn work_by(
 // The same by the subtable's own classes.
 pub fn work(bytes: &[u8], glyphs: &mut [u16], tags: &[u16], homes: &[u16], used: usize) -> Answer
     requires { ⌜ used ≤ length (now glyphs) ⌝ }
-    ensures answer { λ r. ⌜ r ≡ subtableOf contextual .worked (now (bytes .entry)) (lineOf (now (glyphs .entry)) (now (tags .entry)) (now (homes .entry)) used) .answer ⌝ }
-    ensures glyphs { λ _. ⌜ now (glyphs .exit) ≡ workLeaves (subtableOf contextual) (now (bytes .entry)) (lineOf (now (glyphs .entry)) (now (tags .entry)) (now (homes .entry)) used) .glyphs ⌝ }
+    ensures answer { λ r. ⌜ r ≡ subtableOf contextual .worked (now (bytes .entry))
+        (lineOf (now (glyphs .entry)) (now (tags .entry)) (now (homes .entry)) used) .answer ⌝ }
+    ensures glyphs { λ _. ⌜ now (glyphs .exit) ≡ workLeaves (subtableOf contextual) (now (bytes .entry))
+        (lineOf (now (glyphs .entry)) (now (tags .entry)) (now (homes .entry)) used) .glyphs ⌝ }
 {
     let none = [0u16; 0];
     work_by(bytes, glyphs, tags, homes, used, &none)
@@ -547,8 +560,10 @@ pub fn pass(
     homes: &[u16],
     used: usize,
 ) -> Answer
-    ensures answer { λ r. ⌜ r ≡ passCall (subtableOf contextual) (now (table .entry)) start (lineOf (now (glyphs .entry)) (now (tags .entry)) (now (homes .entry)) used) .answer ⌝ }
-    ensures glyphs { λ _. ⌜ now (glyphs .exit) ≡ callLeaves (subtableOf contextual) (now (table .entry)) start (lineOf (now (glyphs .entry)) (now (tags .entry)) (now (homes .entry)) used) .glyphs ⌝ }
+    ensures answer { λ r. ⌜ r ≡ passCall (subtableOf contextual) (now (table .entry)) start
+        (lineOf (now (glyphs .entry)) (now (tags .entry)) (now (homes .entry)) used) .answer ⌝ }
+    ensures glyphs { λ _. ⌜ now (glyphs .exit) ≡ callLeaves (subtableOf contextual) (now (table .entry)) start
+        (lineOf (now (glyphs .entry)) (now (tags .entry)) (now (homes .entry)) used) .glyphs ⌝ }
 {
     let bytes = parse::from(table, start);
     let made = open(bytes);

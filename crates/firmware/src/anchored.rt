@@ -30,11 +30,21 @@ pub extern "C" fn aat_kerx_pass_anchored(
     y: &mut [i32],
     back: &mut [u16],
 ) -> u32
-    ensures answer { λ r. ⌜ r ≡ numberOf (passCall (now (table .entry)) (now (ankr .entry)) start version (lineOf (now (glyphs .entry)) (now (tags .entry)) (now (homes .entry)) used) (now (along .entry)) (now (x .entry)) (now (y .entry)) (now (back .entry)) (choicesOf choices) .answer) ⌝ }
-    ensures along { λ _. ⌜ now (along .exit) ≡ addAll (passCall (now (table .entry)) (now (ankr .entry)) start version (lineOf (now (glyphs .entry)) (now (tags .entry)) (now (homes .entry)) used) (now (along .entry)) (now (x .entry)) (now (y .entry)) (now (back .entry)) (choicesOf choices) .additions) (now (along .entry)) ⌝ }
-    ensures x { λ _. ⌜ now (x .exit) ≡ writeX (passCall (now (table .entry)) (now (ankr .entry)) start version (lineOf (now (glyphs .entry)) (now (tags .entry)) (now (homes .entry)) used) (now (along .entry)) (now (x .entry)) (now (y .entry)) (now (back .entry)) (choicesOf choices) .writes) (now (x .entry)) ⌝ }
-    ensures y { λ _. ⌜ now (y .exit) ≡ writeY (passCall (now (table .entry)) (now (ankr .entry)) start version (lineOf (now (glyphs .entry)) (now (tags .entry)) (now (homes .entry)) used) (now (along .entry)) (now (x .entry)) (now (y .entry)) (now (back .entry)) (choicesOf choices) .writes) (now (y .entry)) ⌝ }
-    ensures back { λ _. ⌜ now (back .exit) ≡ writeBack (passCall (now (table .entry)) (now (ankr .entry)) start version (lineOf (now (glyphs .entry)) (now (tags .entry)) (now (homes .entry)) used) (now (along .entry)) (now (x .entry)) (now (y .entry)) (now (back .entry)) (choicesOf choices) .writes) (now (back .entry)) ⌝ }
+    ensures answer { λ r. ⌜ r ≡ numberOf (passCall (now (table .entry)) (now (ankr .entry)) start version
+        (lineOf (now (glyphs .entry)) (now (tags .entry)) (now (homes .entry)) used) (now (along .entry)) (now (x .entry)) (now (y .entry)) (now (back .entry))
+        (choicesOf choices) .answer) ⌝ }
+    ensures along { λ _. ⌜ now (along .exit) ≡ addAll (passCall (now (table .entry)) (now (ankr .entry)) start version
+        (lineOf (now (glyphs .entry)) (now (tags .entry)) (now (homes .entry)) used) (now (along .entry)) (now (x .entry)) (now (y .entry)) (now (back .entry))
+        (choicesOf choices) .additions) (now (along .entry)) ⌝ }
+    ensures x { λ _. ⌜ now (x .exit) ≡ writeX (passCall (now (table .entry)) (now (ankr .entry)) start version
+        (lineOf (now (glyphs .entry)) (now (tags .entry)) (now (homes .entry)) used) (now (along .entry)) (now (x .entry)) (now (y .entry)) (now (back .entry))
+        (choicesOf choices) .writes) (now (x .entry)) ⌝ }
+    ensures y { λ _. ⌜ now (y .exit) ≡ writeY (passCall (now (table .entry)) (now (ankr .entry)) start version
+        (lineOf (now (glyphs .entry)) (now (tags .entry)) (now (homes .entry)) used) (now (along .entry)) (now (x .entry)) (now (y .entry)) (now (back .entry))
+        (choicesOf choices) .writes) (now (y .entry)) ⌝ }
+    ensures back { λ _. ⌜ now (back .exit) ≡ writeBack (passCall (now (table .entry)) (now (ankr .entry)) start version
+        (lineOf (now (glyphs .entry)) (now (tags .entry)) (now (homes .entry)) used) (now (along .entry)) (now (x .entry)) (now (y .entry)) (now (back .entry))
+        (choicesOf choices) .writes) (now (back .entry)) ⌝ }
 {
     answers::number(kerx::pass_anchored(
         table,
@@ -71,14 +81,26 @@ pub extern "C" fn aat_kerx_run_anchored(
     back: &mut [u16],
     heads: &mut u32,
 ) -> u32
-    ensures answer { λ r. ⌜ r ≡ numberOf (runCall (now (table .entry)) (now (ankr .entry)) start (isFlag «right_to_left») (lineOf (now (glyphs .entry)) (now (tags .entry)) (now (homes .entry)) used) (now (along .entry)) (now (x .entry)) (now (y .entry)) (now (back .entry)) (choicesOf choices) .ran .answer) ⌝ }
+    ensures answer { λ r. ⌜ r ≡ numberOf (runCall (now (table .entry)) (now (ankr .entry)) start (isFlag «right_to_left»)
+        (lineOf (now (glyphs .entry)) (now (tags .entry)) (now (homes .entry)) used) (now (along .entry)) (now (x .entry)) (now (y .entry)) (now (back .entry))
+        (choicesOf choices) .ran .answer) ⌝ }
     ensures glyphs { λ _. ⌜ now (glyphs .exit) ≡ now (glyphs .entry) ⌝ }
     ensures tags { λ _. ⌜ now (tags .exit) ≡ now (tags .entry) ⌝ }
-    ensures along { λ _. ⌜ now (along .exit) ≡ runCall (now (table .entry)) (now (ankr .entry)) start (isFlag «right_to_left») (lineOf (now (glyphs .entry)) (now (tags .entry)) (now (homes .entry)) used) (now (along .entry)) (now (x .entry)) (now (y .entry)) (now (back .entry)) (choicesOf choices) .ran .along ⌝ }
-    ensures x { λ _. ⌜ now (x .exit) ≡ runCall (now (table .entry)) (now (ankr .entry)) start (isFlag «right_to_left») (lineOf (now (glyphs .entry)) (now (tags .entry)) (now (homes .entry)) used) (now (along .entry)) (now (x .entry)) (now (y .entry)) (now (back .entry)) (choicesOf choices) .x ⌝ }
-    ensures y { λ _. ⌜ now (y .exit) ≡ runCall (now (table .entry)) (now (ankr .entry)) start (isFlag «right_to_left») (lineOf (now (glyphs .entry)) (now (tags .entry)) (now (homes .entry)) used) (now (along .entry)) (now (x .entry)) (now (y .entry)) (now (back .entry)) (choicesOf choices) .y ⌝ }
-    ensures back { λ _. ⌜ now (back .exit) ≡ runCall (now (table .entry)) (now (ankr .entry)) start (isFlag «right_to_left») (lineOf (now (glyphs .entry)) (now (tags .entry)) (now (homes .entry)) used) (now (along .entry)) (now (x .entry)) (now (y .entry)) (now (back .entry)) (choicesOf choices) .back ⌝ }
-    ensures heads { λ _. ⌜ now (heads .exit) ≡ kerningHeads (runCall (now (table .entry)) (now (ankr .entry)) start (isFlag «right_to_left») (lineOf (now (glyphs .entry)) (now (tags .entry)) (now (homes .entry)) used) (now (along .entry)) (now (x .entry)) (now (y .entry)) (now (back .entry)) (choicesOf choices) .ran) (now (heads .entry)) ⌝ }
+    ensures along { λ _. ⌜ now (along .exit) ≡ runCall (now (table .entry)) (now (ankr .entry)) start (isFlag «right_to_left»)
+        (lineOf (now (glyphs .entry)) (now (tags .entry)) (now (homes .entry)) used) (now (along .entry)) (now (x .entry)) (now (y .entry)) (now (back .entry))
+        (choicesOf choices) .ran .along ⌝ }
+    ensures x { λ _. ⌜ now (x .exit) ≡ runCall (now (table .entry)) (now (ankr .entry)) start (isFlag «right_to_left»)
+        (lineOf (now (glyphs .entry)) (now (tags .entry)) (now (homes .entry)) used) (now (along .entry)) (now (x .entry)) (now (y .entry)) (now (back .entry))
+        (choicesOf choices) .x ⌝ }
+    ensures y { λ _. ⌜ now (y .exit) ≡ runCall (now (table .entry)) (now (ankr .entry)) start (isFlag «right_to_left»)
+        (lineOf (now (glyphs .entry)) (now (tags .entry)) (now (homes .entry)) used) (now (along .entry)) (now (x .entry)) (now (y .entry)) (now (back .entry))
+        (choicesOf choices) .y ⌝ }
+    ensures back { λ _. ⌜ now (back .exit) ≡ runCall (now (table .entry)) (now (ankr .entry)) start (isFlag «right_to_left»)
+        (lineOf (now (glyphs .entry)) (now (tags .entry)) (now (homes .entry)) used) (now (along .entry)) (now (x .entry)) (now (y .entry)) (now (back .entry))
+        (choicesOf choices) .back ⌝ }
+    ensures heads { λ _. ⌜ now (heads .exit) ≡ kerningHeads (runCall (now (table .entry)) (now (ankr .entry)) start (isFlag «right_to_left»)
+        (lineOf (now (glyphs .entry)) (now (tags .entry)) (now (homes .entry)) used) (now (along .entry)) (now (x .entry)) (now (y .entry)) (now (back .entry))
+        (choicesOf choices) .ran) (now (heads .entry)) ⌝ }
 {
     let run = kerx::run_anchored(
         table,
@@ -178,13 +200,19 @@ pub extern "C" fn aat_anchor_step(
     back: &mut [u16],
     advance: &mut usize,
 ) -> u32
-    ensures answer { λ r. ⌜ r ≡ numberOf (anchorStepped (now (table .entry)) (now (ankr .entry)) start version (now (state .entry)) used index glyph (now (along .entry)) (now (x .entry)) (now (y .entry)) (now (back .entry)) (choicesOf choices) .answer) ⌝ }
-    ensures state { λ _. ⌜ now (state .exit) ≡ stateAfter (anchorStepped (now (table .entry)) (now (ankr .entry)) start version (now (state .entry)) used index glyph (now (along .entry)) (now (x .entry)) (now (y .entry)) (now (back .entry)) (choicesOf choices)) (now (state .entry)) ⌝ }
+    ensures answer { λ r. ⌜ r ≡ numberOf (anchorStepped (now (table .entry)) (now (ankr .entry)) start version (now (state .entry)) used index glyph
+        (now (along .entry)) (now (x .entry)) (now (y .entry)) (now (back .entry)) (choicesOf choices) .answer) ⌝ }
+    ensures state { λ _. ⌜ now (state .exit) ≡ stateAfter (anchorStepped (now (table .entry)) (now (ankr .entry)) start version (now (state .entry)) used index
+        glyph (now (along .entry)) (now (x .entry)) (now (y .entry)) (now (back .entry)) (choicesOf choices)) (now (state .entry)) ⌝ }
     ensures along { λ _. ⌜ now (along .exit) ≡ now (along .entry) ⌝ }
-    ensures x { λ _. ⌜ now (x .exit) ≡ writeX (anchorWrites (now (table .entry)) (now (ankr .entry)) start version (now (state .entry)) used index glyph (now (along .entry)) (now (x .entry)) (now (y .entry)) (now (back .entry)) (choicesOf choices)) (now (x .entry)) ⌝ }
-    ensures y { λ _. ⌜ now (y .exit) ≡ writeY (anchorWrites (now (table .entry)) (now (ankr .entry)) start version (now (state .entry)) used index glyph (now (along .entry)) (now (x .entry)) (now (y .entry)) (now (back .entry)) (choicesOf choices)) (now (y .entry)) ⌝ }
-    ensures back { λ _. ⌜ now (back .exit) ≡ writeBack (anchorWrites (now (table .entry)) (now (ankr .entry)) start version (now (state .entry)) used index glyph (now (along .entry)) (now (x .entry)) (now (y .entry)) (now (back .entry)) (choicesOf choices)) (now (back .entry)) ⌝ }
-    ensures advance { λ _. ⌜ now (advance .exit) ≡ advanceAfter (anchorStepped (now (table .entry)) (now (ankr .entry)) start version (now (state .entry)) used index glyph (now (along .entry)) (now (x .entry)) (now (y .entry)) (now (back .entry)) (choicesOf choices)) (now (advance .entry)) ⌝ }
+    ensures x { λ _. ⌜ now (x .exit) ≡ writeX (anchorWrites (now (table .entry)) (now (ankr .entry)) start version (now (state .entry)) used index glyph
+        (now (along .entry)) (now (x .entry)) (now (y .entry)) (now (back .entry)) (choicesOf choices)) (now (x .entry)) ⌝ }
+    ensures y { λ _. ⌜ now (y .exit) ≡ writeY (anchorWrites (now (table .entry)) (now (ankr .entry)) start version (now (state .entry)) used index glyph
+        (now (along .entry)) (now (x .entry)) (now (y .entry)) (now (back .entry)) (choicesOf choices)) (now (y .entry)) ⌝ }
+    ensures back { λ _. ⌜ now (back .exit) ≡ writeBack (anchorWrites (now (table .entry)) (now (ankr .entry)) start version (now (state .entry)) used index
+        glyph (now (along .entry)) (now (x .entry)) (now (y .entry)) (now (back .entry)) (choicesOf choices)) (now (back .entry)) ⌝ }
+    ensures advance { λ _. ⌜ now (advance .exit) ≡ advanceAfter (anchorStepped (now (table .entry)) (now (ankr .entry)) start version (now (state .entry)) used
+        index glyph (now (along .entry)) (now (x .entry)) (now (y .entry)) (now (back .entry)) (choicesOf choices)) (now (advance .entry)) ⌝ }
 {
     let given = anchor_from(state);
     let reading = choices_of(choices).reading;

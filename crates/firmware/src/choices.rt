@@ -27,8 +27,11 @@ pub extern "C" fn aat_kern_pass_by(
     along: &mut [i64],
     choices: u32,
 ) -> u32
-    ensures answer { λ r. ⌜ r ≡ numberOf (List.passCall kern (now (table .entry)) start version (lineOf (now (glyphs .entry)) (now (tags .entry)) (now (homes .entry)) used) (now (along .entry)) (choicesOf choices) .answer) ⌝ }
-    ensures along { λ _. ⌜ now (along .exit) ≡ addAll (List.passCall kern (now (table .entry)) start version (lineOf (now (glyphs .entry)) (now (tags .entry)) (now (homes .entry)) used) (now (along .entry)) (choicesOf choices) .additions) (now (along .entry)) ⌝ }
+    ensures answer { λ r. ⌜ r ≡ numberOf (List.passCall kern (now (table .entry)) start version
+        (lineOf (now (glyphs .entry)) (now (tags .entry)) (now (homes .entry)) used) (now (along .entry)) (choicesOf choices) .answer) ⌝ }
+    ensures along { λ _. ⌜ now (along .exit) ≡ addAll (List.passCall kern (now (table .entry)) start version
+        (lineOf (now (glyphs .entry)) (now (tags .entry)) (now (homes .entry)) used) (now (along .entry)) (choicesOf choices) .additions)
+        (now (along .entry)) ⌝ }
 {
     answers::number(kern::pass_by(
         table,
@@ -56,8 +59,11 @@ pub extern "C" fn aat_kerx_pass_by(
     along: &mut [i64],
     choices: u32,
 ) -> u32
-    ensures answer { λ r. ⌜ r ≡ numberOf (List.passCall kerx (now (table .entry)) start version (lineOf (now (glyphs .entry)) (now (tags .entry)) (now (homes .entry)) used) (now (along .entry)) (choicesOf choices) .answer) ⌝ }
-    ensures along { λ _. ⌜ now (along .exit) ≡ addAll (List.passCall kerx (now (table .entry)) start version (lineOf (now (glyphs .entry)) (now (tags .entry)) (now (homes .entry)) used) (now (along .entry)) (choicesOf choices) .additions) (now (along .entry)) ⌝ }
+    ensures answer { λ r. ⌜ r ≡ numberOf (List.passCall kerx (now (table .entry)) start version
+        (lineOf (now (glyphs .entry)) (now (tags .entry)) (now (homes .entry)) used) (now (along .entry)) (choicesOf choices) .answer) ⌝ }
+    ensures along { λ _. ⌜ now (along .exit) ≡ addAll (List.passCall kerx (now (table .entry)) start version
+        (lineOf (now (glyphs .entry)) (now (tags .entry)) (now (homes .entry)) used) (now (along .entry)) (choicesOf choices) .additions)
+        (now (along .entry)) ⌝ }
 {
     answers::number(kerx::pass_by(
         table,
@@ -86,10 +92,14 @@ pub extern "C" fn aat_kerx_step_by(
     advance: &mut usize,
     choices: u32,
 ) -> u32
-    ensures answer { λ r. ⌜ r ≡ numberOf (kerxStepped (now (table .entry)) start version (now (state .entry)) used index glyph (now (along .entry)) (choicesOf choices) .step .answer) ⌝ }
-    ensures state { λ _. ⌜ now (state .exit) ≡ stateAfter (kerxStepped (now (table .entry)) start version (now (state .entry)) used index glyph (now (along .entry)) (choicesOf choices) .step) (now (state .entry)) ⌝ }
-    ensures along { λ _. ⌜ now (along .exit) ≡ addAll (kerxStepped (now (table .entry)) start version (now (state .entry)) used index glyph (now (along .entry)) (choicesOf choices) .additions) (now (along .entry)) ⌝ }
-    ensures advance { λ _. ⌜ now (advance .exit) ≡ advanceAfter (kerxStepped (now (table .entry)) start version (now (state .entry)) used index glyph (now (along .entry)) (choicesOf choices) .step) (now (advance .entry)) ⌝ }
+    ensures answer { λ r. ⌜ r ≡ numberOf (kerxStepped (now (table .entry)) start version (now (state .entry)) used index glyph (now (along .entry))
+        (choicesOf choices) .step .answer) ⌝ }
+    ensures state { λ _. ⌜ now (state .exit) ≡ stateAfter (kerxStepped (now (table .entry)) start version (now (state .entry)) used index glyph
+        (now (along .entry)) (choicesOf choices) .step) (now (state .entry)) ⌝ }
+    ensures along { λ _. ⌜ now (along .exit) ≡ addAll (kerxStepped (now (table .entry)) start version (now (state .entry)) used index glyph (now (along .entry))
+        (choicesOf choices) .additions) (now (along .entry)) ⌝ }
+    ensures advance { λ _. ⌜ now (advance .exit) ≡ advanceAfter (kerxStepped (now (table .entry)) start version (now (state .entry)) used index glyph
+        (now (along .entry)) (choicesOf choices) .step) (now (advance .entry)) ⌝ }
 {
     let given = kern_steps::kerning_from(state);
     let reading = choices_of(choices).reading;
@@ -120,9 +130,12 @@ pub extern "C" fn aat_kern_run_by(
     heads: &mut u32,
     choices: u32,
 ) -> u32
-    ensures answer { λ r. ⌜ r ≡ numberOf (List.runCall kern (now (table .entry)) start false (lineOf (now (glyphs .entry)) (now (tags .entry)) (now (homes .entry)) used) (now (along .entry)) (choicesOf choices) .answer) ⌝ }
-    ensures along { λ _. ⌜ now (along .exit) ≡ List.runCall kern (now (table .entry)) start false (lineOf (now (glyphs .entry)) (now (tags .entry)) (now (homes .entry)) used) (now (along .entry)) (choicesOf choices) .along ⌝ }
-    ensures heads { λ _. ⌜ now (heads .exit) ≡ kerningHeads (List.runCall kern (now (table .entry)) start false (lineOf (now (glyphs .entry)) (now (tags .entry)) (now (homes .entry)) used) (now (along .entry)) (choicesOf choices)) (now (heads .entry)) ⌝ }
+    ensures answer { λ r. ⌜ r ≡ numberOf (List.runCall kern (now (table .entry)) start false
+        (lineOf (now (glyphs .entry)) (now (tags .entry)) (now (homes .entry)) used) (now (along .entry)) (choicesOf choices) .answer) ⌝ }
+    ensures along { λ _. ⌜ now (along .exit) ≡ List.runCall kern (now (table .entry)) start false
+        (lineOf (now (glyphs .entry)) (now (tags .entry)) (now (homes .entry)) used) (now (along .entry)) (choicesOf choices) .along ⌝ }
+    ensures heads { λ _. ⌜ now (heads .exit) ≡ kerningHeads (List.runCall kern (now (table .entry)) start false
+        (lineOf (now (glyphs .entry)) (now (tags .entry)) (now (homes .entry)) used) (now (along .entry)) (choicesOf choices)) (now (heads .entry)) ⌝ }
 {
     let run = kern::run_by(
         table,
@@ -156,11 +169,14 @@ pub extern "C" fn aat_kerx_run_by(
     heads: &mut u32,
     choices: u32,
 ) -> u32
-    ensures answer { λ r. ⌜ r ≡ numberOf (List.runCall kerx (now (table .entry)) start (isFlag «right_to_left») (lineOf (now (glyphs .entry)) (now (tags .entry)) (now (homes .entry)) used) (now (along .entry)) (choicesOf choices) .answer) ⌝ }
+    ensures answer { λ r. ⌜ r ≡ numberOf (List.runCall kerx (now (table .entry)) start (isFlag «right_to_left»)
+        (lineOf (now (glyphs .entry)) (now (tags .entry)) (now (homes .entry)) used) (now (along .entry)) (choicesOf choices) .answer) ⌝ }
     ensures glyphs { λ _. ⌜ now (glyphs .exit) ≡ now (glyphs .entry) ⌝ }
     ensures tags { λ _. ⌜ now (tags .exit) ≡ now (tags .entry) ⌝ }
-    ensures along { λ _. ⌜ now (along .exit) ≡ List.runCall kerx (now (table .entry)) start (isFlag «right_to_left») (lineOf (now (glyphs .entry)) (now (tags .entry)) (now (homes .entry)) used) (now (along .entry)) (choicesOf choices) .along ⌝ }
-    ensures heads { λ _. ⌜ now (heads .exit) ≡ kerningHeads (List.runCall kerx (now (table .entry)) start (isFlag «right_to_left») (lineOf (now (glyphs .entry)) (now (tags .entry)) (now (homes .entry)) used) (now (along .entry)) (choicesOf choices)) (now (heads .entry)) ⌝ }
+    ensures along { λ _. ⌜ now (along .exit) ≡ List.runCall kerx (now (table .entry)) start (isFlag «right_to_left»)
+        (lineOf (now (glyphs .entry)) (now (tags .entry)) (now (homes .entry)) used) (now (along .entry)) (choicesOf choices) .along ⌝ }
+    ensures heads { λ _. ⌜ now (heads .exit) ≡ kerningHeads (List.runCall kerx (now (table .entry)) start (isFlag «right_to_left»)
+        (lineOf (now (glyphs .entry)) (now (tags .entry)) (now (homes .entry)) used) (now (along .entry)) (choicesOf choices)) (now (heads .entry)) ⌝ }
 {
     let run = kerx::run_by(
         table,

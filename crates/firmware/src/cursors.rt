@@ -198,8 +198,10 @@ pub extern "C" fn aat_morx_next_subtable(
     fields: &mut [u64; 6],
 ) -> u32
     ensures answer { λ r. ⌜ r ≡ numberOf (subtableAnswer (subtableAfter Edition.Morx (now (table .entry)) (now (cursor .entry)))) ⌝ }
-    ensures cursor { λ _. ⌜ now (cursor .exit) ≡ subtableCursor (subtableAfter Edition.Morx (now (table .entry)) (now (cursor .entry))) (now (cursor .entry)) ⌝ }
-    ensures fields { λ _. ⌜ now (fields .exit) ≡ subtableFields (subtableAfter Edition.Morx (now (table .entry)) (now (cursor .entry))) (now (fields .entry)) ⌝ }
+    ensures cursor { λ _. ⌜ now (cursor .exit) ≡ subtableCursor (subtableAfter Edition.Morx (now (table .entry)) (now (cursor .entry)))
+        (now (cursor .entry)) ⌝ }
+    ensures fields { λ _. ⌜ now (fields .exit) ≡ subtableFields (subtableAfter Edition.Morx (now (table .entry)) (now (cursor .entry)))
+        (now (fields .entry)) ⌝ }
 {
     next_subtable(Edition::Morx, table, cursor, fields)
 }

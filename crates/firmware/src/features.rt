@@ -20,12 +20,18 @@ pub fn run_of(
     used: &mut usize,
     heads: &mut u32,
 ) -> u32
-    ensures answer { λ r. ⌜ r ≡ numberOf (runOf edition (now (table .entry)) start «right_to_left» (lineOf (now (glyphs .entry)) (now (tags .entry)) (now (homes .entry)) (now (used .entry))) (now (requests .entry)) .answer) ⌝ }
-    ensures glyphs { λ _. ⌜ now (glyphs .exit) ≡ leavesOf edition (now (table .entry)) start «right_to_left» (lineOf (now (glyphs .entry)) (now (tags .entry)) (now (homes .entry)) (now (used .entry))) (now (requests .entry)) .glyphs ⌝ }
-    ensures tags { λ _. ⌜ now (tags .exit) ≡ leavesOf edition (now (table .entry)) start «right_to_left» (lineOf (now (glyphs .entry)) (now (tags .entry)) (now (homes .entry)) (now (used .entry))) (now (requests .entry)) .tags ⌝ }
-    ensures homes { λ _. ⌜ now (homes .exit) ≡ leavesOf edition (now (table .entry)) start «right_to_left» (lineOf (now (glyphs .entry)) (now (tags .entry)) (now (homes .entry)) (now (used .entry))) (now (requests .entry)) .homes ⌝ }
-    ensures used { λ _. ⌜ now (used .exit) ≡ leavesOf edition (now (table .entry)) start «right_to_left» (lineOf (now (glyphs .entry)) (now (tags .entry)) (now (homes .entry)) (now (used .entry))) (now (requests .entry)) .used ⌝ }
-    ensures heads { λ _. ⌜ now (heads .exit) ≡ morxHeads (runOf edition (now (table .entry)) start «right_to_left» (lineOf (now (glyphs .entry)) (now (tags .entry)) (now (homes .entry)) (now (used .entry))) (now (requests .entry))) (now (heads .entry)) ⌝ }
+    ensures answer { λ r. ⌜ r ≡ numberOf (runOf edition (now (table .entry)) start «right_to_left»
+        (lineOf (now (glyphs .entry)) (now (tags .entry)) (now (homes .entry)) (now (used .entry))) (now (requests .entry)) .answer) ⌝ }
+    ensures glyphs { λ _. ⌜ now (glyphs .exit) ≡ leavesOf edition (now (table .entry)) start «right_to_left»
+        (lineOf (now (glyphs .entry)) (now (tags .entry)) (now (homes .entry)) (now (used .entry))) (now (requests .entry)) .glyphs ⌝ }
+    ensures tags { λ _. ⌜ now (tags .exit) ≡ leavesOf edition (now (table .entry)) start «right_to_left»
+        (lineOf (now (glyphs .entry)) (now (tags .entry)) (now (homes .entry)) (now (used .entry))) (now (requests .entry)) .tags ⌝ }
+    ensures homes { λ _. ⌜ now (homes .exit) ≡ leavesOf edition (now (table .entry)) start «right_to_left»
+        (lineOf (now (glyphs .entry)) (now (tags .entry)) (now (homes .entry)) (now (used .entry))) (now (requests .entry)) .homes ⌝ }
+    ensures used { λ _. ⌜ now (used .exit) ≡ leavesOf edition (now (table .entry)) start «right_to_left»
+        (lineOf (now (glyphs .entry)) (now (tags .entry)) (now (homes .entry)) (now (used .entry))) (now (requests .entry)) .used ⌝ }
+    ensures heads { λ _. ⌜ now (heads .exit) ≡ morxHeads (runOf edition (now (table .entry)) start «right_to_left»
+        (lineOf (now (glyphs .entry)) (now (tags .entry)) (now (homes .entry)) (now (used .entry))) (now (requests .entry))) (now (heads .entry)) ⌝ }
 {
     let choices = Choices {
         right_to_left: right_to_left != 0,
@@ -54,12 +60,18 @@ pub extern "C" fn aat_morx_run_with(
     used: &mut usize,
     heads: &mut u32,
 ) -> u32
-    ensures answer { λ r. ⌜ r ≡ numberOf (morxRunWith (now (table .entry)) start «right_to_left» (lineOf (now (glyphs .entry)) (now (tags .entry)) (now (homes .entry)) (now (used .entry))) (now (requests .entry)) .answer) ⌝ }
-    ensures glyphs { λ _. ⌜ now (glyphs .exit) ≡ morxLeavesWith (now (table .entry)) start «right_to_left» (lineOf (now (glyphs .entry)) (now (tags .entry)) (now (homes .entry)) (now (used .entry))) (now (requests .entry)) .glyphs ⌝ }
-    ensures tags { λ _. ⌜ now (tags .exit) ≡ morxLeavesWith (now (table .entry)) start «right_to_left» (lineOf (now (glyphs .entry)) (now (tags .entry)) (now (homes .entry)) (now (used .entry))) (now (requests .entry)) .tags ⌝ }
-    ensures homes { λ _. ⌜ now (homes .exit) ≡ morxLeavesWith (now (table .entry)) start «right_to_left» (lineOf (now (glyphs .entry)) (now (tags .entry)) (now (homes .entry)) (now (used .entry))) (now (requests .entry)) .homes ⌝ }
-    ensures used { λ _. ⌜ now (used .exit) ≡ morxLeavesWith (now (table .entry)) start «right_to_left» (lineOf (now (glyphs .entry)) (now (tags .entry)) (now (homes .entry)) (now (used .entry))) (now (requests .entry)) .used ⌝ }
-    ensures heads { λ _. ⌜ now (heads .exit) ≡ morxHeads (morxRunWith (now (table .entry)) start «right_to_left» (lineOf (now (glyphs .entry)) (now (tags .entry)) (now (homes .entry)) (now (used .entry))) (now (requests .entry))) (now (heads .entry)) ⌝ }
+    ensures answer { λ r. ⌜ r ≡ numberOf (morxRunWith (now (table .entry)) start «right_to_left»
+        (lineOf (now (glyphs .entry)) (now (tags .entry)) (now (homes .entry)) (now (used .entry))) (now (requests .entry)) .answer) ⌝ }
+    ensures glyphs { λ _. ⌜ now (glyphs .exit) ≡ morxLeavesWith (now (table .entry)) start «right_to_left»
+        (lineOf (now (glyphs .entry)) (now (tags .entry)) (now (homes .entry)) (now (used .entry))) (now (requests .entry)) .glyphs ⌝ }
+    ensures tags { λ _. ⌜ now (tags .exit) ≡ morxLeavesWith (now (table .entry)) start «right_to_left»
+        (lineOf (now (glyphs .entry)) (now (tags .entry)) (now (homes .entry)) (now (used .entry))) (now (requests .entry)) .tags ⌝ }
+    ensures homes { λ _. ⌜ now (homes .exit) ≡ morxLeavesWith (now (table .entry)) start «right_to_left»
+        (lineOf (now (glyphs .entry)) (now (tags .entry)) (now (homes .entry)) (now (used .entry))) (now (requests .entry)) .homes ⌝ }
+    ensures used { λ _. ⌜ now (used .exit) ≡ morxLeavesWith (now (table .entry)) start «right_to_left»
+        (lineOf (now (glyphs .entry)) (now (tags .entry)) (now (homes .entry)) (now (used .entry))) (now (requests .entry)) .used ⌝ }
+    ensures heads { λ _. ⌜ now (heads .exit) ≡ morxHeads (morxRunWith (now (table .entry)) start «right_to_left»
+        (lineOf (now (glyphs .entry)) (now (tags .entry)) (now (homes .entry)) (now (used .entry))) (now (requests .entry))) (now (heads .entry)) ⌝ }
 {
     run_of(
         Edition::Morx,

@@ -19,9 +19,12 @@ pub extern "C" fn aat_index_classes(
     index: &mut [u16],
     class_start: &mut usize,
 ) -> u32
-    ensures answer { λ r. ⌜ r ≡ numberOf (fillCall (now (table .entry)) start (choicesOf choices .reading) (now (index .entry)) (now («class_start» .entry)) .answer) ⌝ }
-    ensures index { λ _. ⌜ now (index .exit) ≡ fillCall (now (table .entry)) start (choicesOf choices .reading) (now (index .entry)) (now («class_start» .entry)) .index ⌝ }
-    ensures start { λ _. ⌜ now («class_start» .exit) ≡ fillCall (now (table .entry)) start (choicesOf choices .reading) (now (index .entry)) (now («class_start» .entry)) .start ⌝ }
+    ensures answer { λ r. ⌜ r ≡ numberOf (fillCall (now (table .entry)) start (choicesOf choices .reading) (now (index .entry))
+        (now («class_start» .entry)) .answer) ⌝ }
+    ensures index { λ _. ⌜ now (index .exit) ≡ fillCall (now (table .entry)) start (choicesOf choices .reading) (now (index .entry))
+        (now («class_start» .entry)) .index ⌝ }
+    ensures start { λ _. ⌜ now («class_start» .exit) ≡ fillCall (now (table .entry)) start (choicesOf choices .reading) (now (index .entry))
+        (now («class_start» .entry)) .start ⌝ }
 {
     let reading = choices_of(choices).reading;
     answers::number(indexes::fill_index(table, start, reading, index, class_start))
@@ -39,11 +42,16 @@ pub extern "C" fn aat_morx_pass_indexed(
     index: &[u16],
     class_start: usize,
 ) -> u32
-    ensures answer { λ r. ⌜ r ≡ numberOf (Morx.indexedCall (now (table .entry)) start (lineOf (now (glyphs .entry)) (now (tags .entry)) (now (homes .entry)) (now (used .entry))) (now (index .entry)) «class_start» .answer) ⌝ }
-    ensures glyphs { λ _. ⌜ now (glyphs .exit) ≡ Morx.indexedLeaves (now (table .entry)) start (lineOf (now (glyphs .entry)) (now (tags .entry)) (now (homes .entry)) (now (used .entry))) (now (index .entry)) «class_start» .glyphs ⌝ }
-    ensures tags { λ _. ⌜ now (tags .exit) ≡ Morx.indexedLeaves (now (table .entry)) start (lineOf (now (glyphs .entry)) (now (tags .entry)) (now (homes .entry)) (now (used .entry))) (now (index .entry)) «class_start» .tags ⌝ }
-    ensures homes { λ _. ⌜ now (homes .exit) ≡ Morx.indexedLeaves (now (table .entry)) start (lineOf (now (glyphs .entry)) (now (tags .entry)) (now (homes .entry)) (now (used .entry))) (now (index .entry)) «class_start» .homes ⌝ }
-    ensures used { λ _. ⌜ now (used .exit) ≡ Morx.indexedLeaves (now (table .entry)) start (lineOf (now (glyphs .entry)) (now (tags .entry)) (now (homes .entry)) (now (used .entry))) (now (index .entry)) «class_start» .used ⌝ }
+    ensures answer { λ r. ⌜ r ≡ numberOf (Morx.indexedCall (now (table .entry)) start
+        (lineOf (now (glyphs .entry)) (now (tags .entry)) (now (homes .entry)) (now (used .entry))) (now (index .entry)) «class_start» .answer) ⌝ }
+    ensures glyphs { λ _. ⌜ now (glyphs .exit) ≡ Morx.indexedLeaves (now (table .entry)) start
+        (lineOf (now (glyphs .entry)) (now (tags .entry)) (now (homes .entry)) (now (used .entry))) (now (index .entry)) «class_start» .glyphs ⌝ }
+    ensures tags { λ _. ⌜ now (tags .exit) ≡ Morx.indexedLeaves (now (table .entry)) start
+        (lineOf (now (glyphs .entry)) (now (tags .entry)) (now (homes .entry)) (now (used .entry))) (now (index .entry)) «class_start» .tags ⌝ }
+    ensures homes { λ _. ⌜ now (homes .exit) ≡ Morx.indexedLeaves (now (table .entry)) start
+        (lineOf (now (glyphs .entry)) (now (tags .entry)) (now (homes .entry)) (now (used .entry))) (now (index .entry)) «class_start» .homes ⌝ }
+    ensures used { λ _. ⌜ now (used .exit) ≡ Morx.indexedLeaves (now (table .entry)) start
+        (lineOf (now (glyphs .entry)) (now (tags .entry)) (now (homes .entry)) (now (used .entry))) (now (index .entry)) «class_start» .used ⌝ }
 {
     let reply = morx::pass_indexed(table, start, glyphs, tags, homes, *used, index, class_start);
     *used = reply.used;
@@ -71,11 +79,21 @@ pub extern "C" fn aat_kerx_pass_indexed(
     index: &[u16],
     class_start: usize,
 ) -> u32
-    ensures answer { λ r. ⌜ r ≡ numberOf (Kerx.indexedCall (now (table .entry)) (now (ankr .entry)) start version (lineOf (now (glyphs .entry)) (now (tags .entry)) (now (homes .entry)) used) (now (along .entry)) (now (x .entry)) (now (y .entry)) (now (back .entry)) (choicesOf choices .reading) (now (index .entry)) «class_start» .answer) ⌝ }
-    ensures along { λ _. ⌜ now (along .exit) ≡ addAll (Kerx.indexedCall (now (table .entry)) (now (ankr .entry)) start version (lineOf (now (glyphs .entry)) (now (tags .entry)) (now (homes .entry)) used) (now (along .entry)) (now (x .entry)) (now (y .entry)) (now (back .entry)) (choicesOf choices .reading) (now (index .entry)) «class_start» .additions) (now (along .entry)) ⌝ }
-    ensures x { λ _. ⌜ now (x .exit) ≡ writeX (Kerx.indexedCall (now (table .entry)) (now (ankr .entry)) start version (lineOf (now (glyphs .entry)) (now (tags .entry)) (now (homes .entry)) used) (now (along .entry)) (now (x .entry)) (now (y .entry)) (now (back .entry)) (choicesOf choices .reading) (now (index .entry)) «class_start» .writes) (now (x .entry)) ⌝ }
-    ensures y { λ _. ⌜ now (y .exit) ≡ writeY (Kerx.indexedCall (now (table .entry)) (now (ankr .entry)) start version (lineOf (now (glyphs .entry)) (now (tags .entry)) (now (homes .entry)) used) (now (along .entry)) (now (x .entry)) (now (y .entry)) (now (back .entry)) (choicesOf choices .reading) (now (index .entry)) «class_start» .writes) (now (y .entry)) ⌝ }
-    ensures back { λ _. ⌜ now (back .exit) ≡ writeBack (Kerx.indexedCall (now (table .entry)) (now (ankr .entry)) start version (lineOf (now (glyphs .entry)) (now (tags .entry)) (now (homes .entry)) used) (now (along .entry)) (now (x .entry)) (now (y .entry)) (now (back .entry)) (choicesOf choices .reading) (now (index .entry)) «class_start» .writes) (now (back .entry)) ⌝ }
+    ensures answer { λ r. ⌜ r ≡ numberOf (Kerx.indexedCall (now (table .entry)) (now (ankr .entry)) start version
+        (lineOf (now (glyphs .entry)) (now (tags .entry)) (now (homes .entry)) used) (now (along .entry)) (now (x .entry)) (now (y .entry)) (now (back .entry))
+        (choicesOf choices .reading) (now (index .entry)) «class_start» .answer) ⌝ }
+    ensures along { λ _. ⌜ now (along .exit) ≡ addAll (Kerx.indexedCall (now (table .entry)) (now (ankr .entry)) start version
+        (lineOf (now (glyphs .entry)) (now (tags .entry)) (now (homes .entry)) used) (now (along .entry)) (now (x .entry)) (now (y .entry)) (now (back .entry))
+        (choicesOf choices .reading) (now (index .entry)) «class_start» .additions) (now (along .entry)) ⌝ }
+    ensures x { λ _. ⌜ now (x .exit) ≡ writeX (Kerx.indexedCall (now (table .entry)) (now (ankr .entry)) start version
+        (lineOf (now (glyphs .entry)) (now (tags .entry)) (now (homes .entry)) used) (now (along .entry)) (now (x .entry)) (now (y .entry)) (now (back .entry))
+        (choicesOf choices .reading) (now (index .entry)) «class_start» .writes) (now (x .entry)) ⌝ }
+    ensures y { λ _. ⌜ now (y .exit) ≡ writeY (Kerx.indexedCall (now (table .entry)) (now (ankr .entry)) start version
+        (lineOf (now (glyphs .entry)) (now (tags .entry)) (now (homes .entry)) used) (now (along .entry)) (now (x .entry)) (now (y .entry)) (now (back .entry))
+        (choicesOf choices .reading) (now (index .entry)) «class_start» .writes) (now (y .entry)) ⌝ }
+    ensures back { λ _. ⌜ now (back .exit) ≡ writeBack (Kerx.indexedCall (now (table .entry)) (now (ankr .entry)) start version
+        (lineOf (now (glyphs .entry)) (now (tags .entry)) (now (homes .entry)) used) (now (along .entry)) (now (x .entry)) (now (y .entry)) (now (back .entry))
+        (choicesOf choices .reading) (now (index .entry)) «class_start» .writes) (now (back .entry)) ⌝ }
 {
     let reading = choices_of(choices).reading;
     answers::number(kerx::pass_indexed(

@@ -151,10 +151,14 @@ pub extern "C" fn aat_kern_step(
     along: &mut [i64],
     advance: &mut usize,
 ) -> u32
-    ensures answer { λ r. ⌜ r ≡ numberOf (kernStepped (now (table .entry)) start version (now (state .entry)) used index glyph (now (along .entry)) .step .answer) ⌝ }
-    ensures state { λ _. ⌜ now (state .exit) ≡ stateAfter (kernStepped (now (table .entry)) start version (now (state .entry)) used index glyph (now (along .entry)) .step) (now (state .entry)) ⌝ }
-    ensures along { λ _. ⌜ now (along .exit) ≡ addAll (kernStepped (now (table .entry)) start version (now (state .entry)) used index glyph (now (along .entry)) .additions) (now (along .entry)) ⌝ }
-    ensures advance { λ _. ⌜ now (advance .exit) ≡ advanceAfter (kernStepped (now (table .entry)) start version (now (state .entry)) used index glyph (now (along .entry)) .step) (now (advance .entry)) ⌝ }
+    ensures answer { λ r. ⌜ r ≡ numberOf (kernStepped (now (table .entry)) start version (now (state .entry)) used index glyph
+        (now (along .entry)) .step .answer) ⌝ }
+    ensures state { λ _. ⌜ now (state .exit) ≡ stateAfter (kernStepped (now (table .entry)) start version (now (state .entry)) used index glyph
+        (now (along .entry)) .step) (now (state .entry)) ⌝ }
+    ensures along { λ _. ⌜ now (along .exit) ≡ addAll (kernStepped (now (table .entry)) start version (now (state .entry)) used index glyph
+        (now (along .entry)) .additions) (now (along .entry)) ⌝ }
+    ensures advance { λ _. ⌜ now (advance .exit) ≡ advanceAfter (kernStepped (now (table .entry)) start version (now (state .entry)) used index glyph
+        (now (along .entry)) .step) (now (advance .entry)) ⌝ }
 {
     let given = kerning_from(state);
     let step = kern_machine::step(given, table, start, version, used, index, glyph, along);
@@ -174,10 +178,14 @@ pub extern "C" fn aat_kerx_step(
     along: &mut [i64],
     advance: &mut usize,
 ) -> u32
-    ensures answer { λ r. ⌜ r ≡ numberOf (kerxStepped (now (table .entry)) start version (now (state .entry)) used index glyph (now (along .entry)) unchosen .step .answer) ⌝ }
-    ensures state { λ _. ⌜ now (state .exit) ≡ stateAfter (kerxStepped (now (table .entry)) start version (now (state .entry)) used index glyph (now (along .entry)) unchosen .step) (now (state .entry)) ⌝ }
-    ensures along { λ _. ⌜ now (along .exit) ≡ addAll (kerxStepped (now (table .entry)) start version (now (state .entry)) used index glyph (now (along .entry)) unchosen .additions) (now (along .entry)) ⌝ }
-    ensures advance { λ _. ⌜ now (advance .exit) ≡ advanceAfter (kerxStepped (now (table .entry)) start version (now (state .entry)) used index glyph (now (along .entry)) unchosen .step) (now (advance .entry)) ⌝ }
+    ensures answer { λ r. ⌜ r ≡ numberOf (kerxStepped (now (table .entry)) start version (now (state .entry)) used index glyph (now (along .entry))
+        unchosen .step .answer) ⌝ }
+    ensures state { λ _. ⌜ now (state .exit) ≡ stateAfter (kerxStepped (now (table .entry)) start version (now (state .entry)) used index glyph
+        (now (along .entry)) unchosen .step) (now (state .entry)) ⌝ }
+    ensures along { λ _. ⌜ now (along .exit) ≡ addAll (kerxStepped (now (table .entry)) start version (now (state .entry)) used index glyph (now (along .entry))
+        unchosen .additions) (now (along .entry)) ⌝ }
+    ensures advance { λ _. ⌜ now (advance .exit) ≡ advanceAfter (kerxStepped (now (table .entry)) start version (now (state .entry)) used index glyph
+        (now (along .entry)) unchosen .step) (now (advance .entry)) ⌝ }
 {
     let given = kerning_from(state);
     let step = kerx_machine::step(given, table, start, version, used, index, glyph, along);

@@ -23,8 +23,10 @@ pub extern "C" fn aat_kern_pass(
     used: usize,
     along: &mut [i64],
 ) -> u32
-    ensures answer { λ r. ⌜ r ≡ numberOf (List.passCall kern (now (table .entry)) start version (lineOf (now (glyphs .entry)) (now (tags .entry)) (now (homes .entry)) used) (now (along .entry)) unchosen .answer) ⌝ }
-    ensures along { λ _. ⌜ now (along .exit) ≡ addAll (List.passCall kern (now (table .entry)) start version (lineOf (now (glyphs .entry)) (now (tags .entry)) (now (homes .entry)) used) (now (along .entry)) unchosen .additions) (now (along .entry)) ⌝ }
+    ensures answer { λ r. ⌜ r ≡ numberOf (List.passCall kern (now (table .entry)) start version
+        (lineOf (now (glyphs .entry)) (now (tags .entry)) (now (homes .entry)) used) (now (along .entry)) unchosen .answer) ⌝ }
+    ensures along { λ _. ⌜ now (along .exit) ≡ addAll (List.passCall kern (now (table .entry)) start version
+        (lineOf (now (glyphs .entry)) (now (tags .entry)) (now (homes .entry)) used) (now (along .entry)) unchosen .additions) (now (along .entry)) ⌝ }
 {
     answers::number(kern::pass(table, start, version, glyphs, tags, homes, used, along))
 }
@@ -41,8 +43,10 @@ pub extern "C" fn aat_kerx_pass(
     used: usize,
     along: &mut [i64],
 ) -> u32
-    ensures answer { λ r. ⌜ r ≡ numberOf (List.passCall kerx (now (table .entry)) start version (lineOf (now (glyphs .entry)) (now (tags .entry)) (now (homes .entry)) used) (now (along .entry)) unchosen .answer) ⌝ }
-    ensures along { λ _. ⌜ now (along .exit) ≡ addAll (List.passCall kerx (now (table .entry)) start version (lineOf (now (glyphs .entry)) (now (tags .entry)) (now (homes .entry)) used) (now (along .entry)) unchosen .additions) (now (along .entry)) ⌝ }
+    ensures answer { λ r. ⌜ r ≡ numberOf (List.passCall kerx (now (table .entry)) start version
+        (lineOf (now (glyphs .entry)) (now (tags .entry)) (now (homes .entry)) used) (now (along .entry)) unchosen .answer) ⌝ }
+    ensures along { λ _. ⌜ now (along .exit) ≡ addAll (List.passCall kerx (now (table .entry)) start version
+        (lineOf (now (glyphs .entry)) (now (tags .entry)) (now (homes .entry)) used) (now (along .entry)) unchosen .additions) (now (along .entry)) ⌝ }
 {
     answers::number(kerx::pass(table, start, version, glyphs, tags, homes, used, along))
 }
@@ -59,9 +63,12 @@ pub extern "C" fn aat_kern_run(
     along: &mut [i64],
     heads: &mut u32,
 ) -> u32
-    ensures answer { λ r. ⌜ r ≡ numberOf (List.runCall kern (now (table .entry)) start false (lineOf (now (glyphs .entry)) (now (tags .entry)) (now (homes .entry)) used) (now (along .entry)) unchosen .answer) ⌝ }
-    ensures along { λ _. ⌜ now (along .exit) ≡ List.runCall kern (now (table .entry)) start false (lineOf (now (glyphs .entry)) (now (tags .entry)) (now (homes .entry)) used) (now (along .entry)) unchosen .along ⌝ }
-    ensures heads { λ _. ⌜ now (heads .exit) ≡ kerningHeads (List.runCall kern (now (table .entry)) start false (lineOf (now (glyphs .entry)) (now (tags .entry)) (now (homes .entry)) used) (now (along .entry)) unchosen) (now (heads .entry)) ⌝ }
+    ensures answer { λ r. ⌜ r ≡ numberOf (List.runCall kern (now (table .entry)) start false
+        (lineOf (now (glyphs .entry)) (now (tags .entry)) (now (homes .entry)) used) (now (along .entry)) unchosen .answer) ⌝ }
+    ensures along { λ _. ⌜ now (along .exit) ≡ List.runCall kern (now (table .entry)) start false
+        (lineOf (now (glyphs .entry)) (now (tags .entry)) (now (homes .entry)) used) (now (along .entry)) unchosen .along ⌝ }
+    ensures heads { λ _. ⌜ now (heads .exit) ≡ kerningHeads (List.runCall kern (now (table .entry)) start false
+        (lineOf (now (glyphs .entry)) (now (tags .entry)) (now (homes .entry)) used) (now (along .entry)) unchosen) (now (heads .entry)) ⌝ }
 {
     let run = kern::run(table, start, glyphs, tags, homes, used, along);
     let answer = run.answer;
@@ -85,11 +92,14 @@ pub extern "C" fn aat_kerx_run(
     along: &mut [i64],
     heads: &mut u32,
 ) -> u32
-    ensures answer { λ r. ⌜ r ≡ numberOf (List.runCall kerx (now (table .entry)) start (isFlag «right_to_left») (lineOf (now (glyphs .entry)) (now (tags .entry)) (now (homes .entry)) used) (now (along .entry)) unchosen .answer) ⌝ }
+    ensures answer { λ r. ⌜ r ≡ numberOf (List.runCall kerx (now (table .entry)) start (isFlag «right_to_left»)
+        (lineOf (now (glyphs .entry)) (now (tags .entry)) (now (homes .entry)) used) (now (along .entry)) unchosen .answer) ⌝ }
     ensures glyphs { λ _. ⌜ now (glyphs .exit) ≡ now (glyphs .entry) ⌝ }
     ensures tags { λ _. ⌜ now (tags .exit) ≡ now (tags .entry) ⌝ }
-    ensures along { λ _. ⌜ now (along .exit) ≡ List.runCall kerx (now (table .entry)) start (isFlag «right_to_left») (lineOf (now (glyphs .entry)) (now (tags .entry)) (now (homes .entry)) used) (now (along .entry)) unchosen .along ⌝ }
-    ensures heads { λ _. ⌜ now (heads .exit) ≡ kerningHeads (List.runCall kerx (now (table .entry)) start (isFlag «right_to_left») (lineOf (now (glyphs .entry)) (now (tags .entry)) (now (homes .entry)) used) (now (along .entry)) unchosen) (now (heads .entry)) ⌝ }
+    ensures along { λ _. ⌜ now (along .exit) ≡ List.runCall kerx (now (table .entry)) start (isFlag «right_to_left»)
+        (lineOf (now (glyphs .entry)) (now (tags .entry)) (now (homes .entry)) used) (now (along .entry)) unchosen .along ⌝ }
+    ensures heads { λ _. ⌜ now (heads .exit) ≡ kerningHeads (List.runCall kerx (now (table .entry)) start (isFlag «right_to_left»)
+        (lineOf (now (glyphs .entry)) (now (tags .entry)) (now (homes .entry)) used) (now (along .entry)) unchosen) (now (heads .entry)) ⌝ }
 {
     let run = kerx::run(
         table,

@@ -181,8 +181,10 @@ pub extern "C" fn aat_verb(
     end: usize,
 ) -> u32
     ensures answer { λ r. ⌜ r ≡ numberOf (verbCall (lineOf (now (glyphs .entry)) (now (tags .entry)) (now (homes .entry)) used) verb start end .answer) ⌝ }
-    ensures glyphs { λ _. ⌜ now (glyphs .exit) ≡ verbCall (lineOf (now (glyphs .entry)) (now (tags .entry)) (now (homes .entry)) used) verb start end .line .glyphs ⌝ }
-    ensures tags { λ _. ⌜ now (tags .exit) ≡ verbCall (lineOf (now (glyphs .entry)) (now (tags .entry)) (now (homes .entry)) used) verb start end .line .tags ⌝ }
+    ensures glyphs { λ _. ⌜ now (glyphs .exit) ≡ verbCall (lineOf (now (glyphs .entry)) (now (tags .entry)) (now (homes .entry)) used) verb start
+        end .line .glyphs ⌝ }
+    ensures tags { λ _. ⌜ now (tags .exit) ≡ verbCall (lineOf (now (glyphs .entry)) (now (tags .entry)) (now (homes .entry)) used) verb start
+        end .line .tags ⌝ }
 {
     answers::number(line::lone_verb(glyphs, tags, homes, used, verb, start, end))
 }
@@ -199,10 +201,14 @@ pub extern "C" fn aat_insert(
     used: &mut usize,
     place: usize,
 ) -> u32
-    ensures answer { λ r. ⌜ r ≡ numberOf (insertCall (now (table .entry)) start count place (lineOf (now (glyphs .entry)) (now (tags .entry)) (now (homes .entry)) (now (used .entry))) .answer) ⌝ }
-    ensures glyphs { λ _. ⌜ now (glyphs .exit) ≡ insertLeaves (now (table .entry)) start count place (lineOf (now (glyphs .entry)) (now (tags .entry)) (now (homes .entry)) (now (used .entry))) .glyphs ⌝ }
-    ensures tags { λ _. ⌜ now (tags .exit) ≡ insertLeaves (now (table .entry)) start count place (lineOf (now (glyphs .entry)) (now (tags .entry)) (now (homes .entry)) (now (used .entry))) .tags ⌝ }
-    ensures used { λ _. ⌜ now (used .exit) ≡ insertLeaves (now (table .entry)) start count place (lineOf (now (glyphs .entry)) (now (tags .entry)) (now (homes .entry)) (now (used .entry))) .used ⌝ }
+    ensures answer { λ r. ⌜ r ≡ numberOf (insertCall (now (table .entry)) start count place
+        (lineOf (now (glyphs .entry)) (now (tags .entry)) (now (homes .entry)) (now (used .entry))) .answer) ⌝ }
+    ensures glyphs { λ _. ⌜ now (glyphs .exit) ≡ insertLeaves (now (table .entry)) start count place
+        (lineOf (now (glyphs .entry)) (now (tags .entry)) (now (homes .entry)) (now (used .entry))) .glyphs ⌝ }
+    ensures tags { λ _. ⌜ now (tags .exit) ≡ insertLeaves (now (table .entry)) start count place
+        (lineOf (now (glyphs .entry)) (now (tags .entry)) (now (homes .entry)) (now (used .entry))) .tags ⌝ }
+    ensures used { λ _. ⌜ now (used .exit) ≡ insertLeaves (now (table .entry)) start count place
+        (lineOf (now (glyphs .entry)) (now (tags .entry)) (now (homes .entry)) (now (used .entry))) .used ⌝ }
 {
     let inserted = insertion::insert(table, start, count, glyphs, tags, homes, *used, place);
     *used = inserted.used;
@@ -220,9 +226,12 @@ pub extern "C" fn aat_rearrangement_pass(
     homes: &[u16],
     used: usize,
 ) -> u32
-    ensures answer { λ r. ⌜ r ≡ numberOf (passCall (subtableOf rearrangement) (now (table .entry)) start (lineOf (now (glyphs .entry)) (now (tags .entry)) (now (homes .entry)) used) .answer) ⌝ }
-    ensures glyphs { λ _. ⌜ now (glyphs .exit) ≡ callLeaves (subtableOf rearrangement) (now (table .entry)) start (lineOf (now (glyphs .entry)) (now (tags .entry)) (now (homes .entry)) used) .glyphs ⌝ }
-    ensures tags { λ _. ⌜ now (tags .exit) ≡ callLeaves (subtableOf rearrangement) (now (table .entry)) start (lineOf (now (glyphs .entry)) (now (tags .entry)) (now (homes .entry)) used) .tags ⌝ }
+    ensures answer { λ r. ⌜ r ≡ numberOf (passCall (subtableOf rearrangement) (now (table .entry)) start
+        (lineOf (now (glyphs .entry)) (now (tags .entry)) (now (homes .entry)) used) .answer) ⌝ }
+    ensures glyphs { λ _. ⌜ now (glyphs .exit) ≡ callLeaves (subtableOf rearrangement) (now (table .entry)) start
+        (lineOf (now (glyphs .entry)) (now (tags .entry)) (now (homes .entry)) used) .glyphs ⌝ }
+    ensures tags { λ _. ⌜ now (tags .exit) ≡ callLeaves (subtableOf rearrangement) (now (table .entry)) start
+        (lineOf (now (glyphs .entry)) (now (tags .entry)) (now (homes .entry)) used) .tags ⌝ }
 {
     answers::number(rearrangement::pass(table, start, glyphs, tags, homes, used))
 }
@@ -237,8 +246,10 @@ pub extern "C" fn aat_noncontextual_pass(
     homes: &[u16],
     used: usize,
 ) -> u32
-    ensures answer { λ r. ⌜ r ≡ numberOf (passCall noncontextual (now (table .entry)) start (lineOf (now (glyphs .entry)) (now (tags .entry)) (now (homes .entry)) used) .answer) ⌝ }
-    ensures glyphs { λ _. ⌜ now (glyphs .exit) ≡ callLeaves noncontextual (now (table .entry)) start (lineOf (now (glyphs .entry)) (now (tags .entry)) (now (homes .entry)) used) .glyphs ⌝ }
+    ensures answer { λ r. ⌜ r ≡ numberOf (passCall noncontextual (now (table .entry)) start
+        (lineOf (now (glyphs .entry)) (now (tags .entry)) (now (homes .entry)) used) .answer) ⌝ }
+    ensures glyphs { λ _. ⌜ now (glyphs .exit) ≡ callLeaves noncontextual (now (table .entry)) start
+        (lineOf (now (glyphs .entry)) (now (tags .entry)) (now (homes .entry)) used) .glyphs ⌝ }
 {
     answers::number(noncontextual::pass(table, start, glyphs, tags, homes, used))
 }
@@ -253,8 +264,10 @@ pub extern "C" fn aat_contextual_pass(
     homes: &[u16],
     used: usize,
 ) -> u32
-    ensures answer { λ r. ⌜ r ≡ numberOf (passCall (subtableOf contextual) (now (table .entry)) start (lineOf (now (glyphs .entry)) (now (tags .entry)) (now (homes .entry)) used) .answer) ⌝ }
-    ensures glyphs { λ _. ⌜ now (glyphs .exit) ≡ callLeaves (subtableOf contextual) (now (table .entry)) start (lineOf (now (glyphs .entry)) (now (tags .entry)) (now (homes .entry)) used) .glyphs ⌝ }
+    ensures answer { λ r. ⌜ r ≡ numberOf (passCall (subtableOf contextual) (now (table .entry)) start
+        (lineOf (now (glyphs .entry)) (now (tags .entry)) (now (homes .entry)) used) .answer) ⌝ }
+    ensures glyphs { λ _. ⌜ now (glyphs .exit) ≡ callLeaves (subtableOf contextual) (now (table .entry)) start
+        (lineOf (now (glyphs .entry)) (now (tags .entry)) (now (homes .entry)) used) .glyphs ⌝ }
 {
     answers::number(contextual::pass(table, start, glyphs, tags, homes, used))
 }
@@ -269,10 +282,14 @@ pub extern "C" fn aat_insertion_pass(
     homes: &[u16],
     used: &mut usize,
 ) -> u32
-    ensures answer { λ r. ⌜ r ≡ numberOf (passCall (subtableOf insertion) (now (table .entry)) start (lineOf (now (glyphs .entry)) (now (tags .entry)) (now (homes .entry)) (now (used .entry))) .answer) ⌝ }
-    ensures glyphs { λ _. ⌜ now (glyphs .exit) ≡ callLeaves (subtableOf insertion) (now (table .entry)) start (lineOf (now (glyphs .entry)) (now (tags .entry)) (now (homes .entry)) (now (used .entry))) .glyphs ⌝ }
-    ensures tags { λ _. ⌜ now (tags .exit) ≡ callLeaves (subtableOf insertion) (now (table .entry)) start (lineOf (now (glyphs .entry)) (now (tags .entry)) (now (homes .entry)) (now (used .entry))) .tags ⌝ }
-    ensures used { λ _. ⌜ now (used .exit) ≡ callLeaves (subtableOf insertion) (now (table .entry)) start (lineOf (now (glyphs .entry)) (now (tags .entry)) (now (homes .entry)) (now (used .entry))) .used ⌝ }
+    ensures answer { λ r. ⌜ r ≡ numberOf (passCall (subtableOf insertion) (now (table .entry)) start
+        (lineOf (now (glyphs .entry)) (now (tags .entry)) (now (homes .entry)) (now (used .entry))) .answer) ⌝ }
+    ensures glyphs { λ _. ⌜ now (glyphs .exit) ≡ callLeaves (subtableOf insertion) (now (table .entry)) start
+        (lineOf (now (glyphs .entry)) (now (tags .entry)) (now (homes .entry)) (now (used .entry))) .glyphs ⌝ }
+    ensures tags { λ _. ⌜ now (tags .exit) ≡ callLeaves (subtableOf insertion) (now (table .entry)) start
+        (lineOf (now (glyphs .entry)) (now (tags .entry)) (now (homes .entry)) (now (used .entry))) .tags ⌝ }
+    ensures used { λ _. ⌜ now (used .exit) ≡ callLeaves (subtableOf insertion) (now (table .entry)) start
+        (lineOf (now (glyphs .entry)) (now (tags .entry)) (now (homes .entry)) (now (used .entry))) .used ⌝ }
 {
     let passed = insertion::pass(table, start, glyphs, tags, homes, *used);
     *used = passed.used;
@@ -290,9 +307,12 @@ pub extern "C" fn aat_ligature_pass(
     homes: &mut [u16],
     used: usize,
 ) -> u32
-    ensures answer { λ r. ⌜ r ≡ numberOf (passCall (subtableOf ligature) (now (table .entry)) start (lineOf (now (glyphs .entry)) (now (tags .entry)) (now (homes .entry)) used) .answer) ⌝ }
-    ensures glyphs { λ _. ⌜ now (glyphs .exit) ≡ callLeaves (subtableOf ligature) (now (table .entry)) start (lineOf (now (glyphs .entry)) (now (tags .entry)) (now (homes .entry)) used) .glyphs ⌝ }
-    ensures homes { λ _. ⌜ now (homes .exit) ≡ callLeaves (subtableOf ligature) (now (table .entry)) start (lineOf (now (glyphs .entry)) (now (tags .entry)) (now (homes .entry)) used) .homes ⌝ }
+    ensures answer { λ r. ⌜ r ≡ numberOf (passCall (subtableOf ligature) (now (table .entry)) start
+        (lineOf (now (glyphs .entry)) (now (tags .entry)) (now (homes .entry)) used) .answer) ⌝ }
+    ensures glyphs { λ _. ⌜ now (glyphs .exit) ≡ callLeaves (subtableOf ligature) (now (table .entry)) start
+        (lineOf (now (glyphs .entry)) (now (tags .entry)) (now (homes .entry)) used) .glyphs ⌝ }
+    ensures homes { λ _. ⌜ now (homes .exit) ≡ callLeaves (subtableOf ligature) (now (table .entry)) start
+        (lineOf (now (glyphs .entry)) (now (tags .entry)) (now (homes .entry)) used) .homes ⌝ }
 {
     answers::number(ligature::pass(table, start, glyphs, tags, homes, used))
 }

@@ -13,8 +13,10 @@ pub extern "C" fn aat_mend(
     size: &mut usize,
 ) -> u32
     ensures answer { λ r. ⌜ r ≡ numberOf (mendCall (now (buffer .entry)) (now (numbers .entry)) (now (size .entry)) (now (table .entry)) start .answer) ⌝ }
-    ensures buffer { λ _. ⌜ now (buffer .exit) ≡ mendCall (now (buffer .entry)) (now (numbers .entry)) (now (size .entry)) (now (table .entry)) start .buffer ⌝ }
-    ensures numbers { λ _. ⌜ now (numbers .exit) ≡ mendCall (now (buffer .entry)) (now (numbers .entry)) (now (size .entry)) (now (table .entry)) start .numbers ⌝ }
+    ensures buffer { λ _. ⌜ now (buffer .exit) ≡ mendCall (now (buffer .entry)) (now (numbers .entry)) (now (size .entry)) (now (table .entry))
+        start .buffer ⌝ }
+    ensures numbers { λ _. ⌜ now (numbers .exit) ≡ mendCall (now (buffer .entry)) (now (numbers .entry)) (now (size .entry)) (now (table .entry))
+        start .numbers ⌝ }
     ensures size { λ _. ⌜ now (size .exit) ≡ mendCall (now (buffer .entry)) (now (numbers .entry)) (now (size .entry)) (now (table .entry)) start .size ⌝ }
 {
     answers::number(mend::mend(table, start, buffer, numbers, size))

@@ -32,8 +32,10 @@ pub extern "C" fn aat_mort_next_subtable(
     fields: &mut [u64; 6],
 ) -> u32
     ensures answer { λ r. ⌜ r ≡ numberOf (subtableAnswer (subtableAfter Edition.Mort (now (table .entry)) (now (cursor .entry)))) ⌝ }
-    ensures cursor { λ _. ⌜ now (cursor .exit) ≡ subtableCursor (subtableAfter Edition.Mort (now (table .entry)) (now (cursor .entry))) (now (cursor .entry)) ⌝ }
-    ensures fields { λ _. ⌜ now (fields .exit) ≡ subtableFields (subtableAfter Edition.Mort (now (table .entry)) (now (cursor .entry))) (now (fields .entry)) ⌝ }
+    ensures cursor { λ _. ⌜ now (cursor .exit) ≡ subtableCursor (subtableAfter Edition.Mort (now (table .entry)) (now (cursor .entry)))
+        (now (cursor .entry)) ⌝ }
+    ensures fields { λ _. ⌜ now (fields .exit) ≡ subtableFields (subtableAfter Edition.Mort (now (table .entry)) (now (cursor .entry)))
+        (now (fields .entry)) ⌝ }
 {
     crate::cursors::next_subtable(Edition::Mort, table, cursor, fields)
 }
@@ -48,11 +50,16 @@ pub extern "C" fn aat_mort_pass(
     homes: &mut [u16],
     used: &mut usize,
 ) -> u32
-    ensures answer { λ r. ⌜ r ≡ numberOf (passCall (anySubtable Edition.Mort) (now (table .entry)) start (lineOf (now (glyphs .entry)) (now (tags .entry)) (now (homes .entry)) (now (used .entry))) .answer) ⌝ }
-    ensures glyphs { λ _. ⌜ now (glyphs .exit) ≡ callLeaves (anySubtable Edition.Mort) (now (table .entry)) start (lineOf (now (glyphs .entry)) (now (tags .entry)) (now (homes .entry)) (now (used .entry))) .glyphs ⌝ }
-    ensures tags { λ _. ⌜ now (tags .exit) ≡ callLeaves (anySubtable Edition.Mort) (now (table .entry)) start (lineOf (now (glyphs .entry)) (now (tags .entry)) (now (homes .entry)) (now (used .entry))) .tags ⌝ }
-    ensures homes { λ _. ⌜ now (homes .exit) ≡ callLeaves (anySubtable Edition.Mort) (now (table .entry)) start (lineOf (now (glyphs .entry)) (now (tags .entry)) (now (homes .entry)) (now (used .entry))) .homes ⌝ }
-    ensures used { λ _. ⌜ now (used .exit) ≡ callLeaves (anySubtable Edition.Mort) (now (table .entry)) start (lineOf (now (glyphs .entry)) (now (tags .entry)) (now (homes .entry)) (now (used .entry))) .used ⌝ }
+    ensures answer { λ r. ⌜ r ≡ numberOf (passCall (anySubtable Edition.Mort) (now (table .entry)) start
+        (lineOf (now (glyphs .entry)) (now (tags .entry)) (now (homes .entry)) (now (used .entry))) .answer) ⌝ }
+    ensures glyphs { λ _. ⌜ now (glyphs .exit) ≡ callLeaves (anySubtable Edition.Mort) (now (table .entry)) start
+        (lineOf (now (glyphs .entry)) (now (tags .entry)) (now (homes .entry)) (now (used .entry))) .glyphs ⌝ }
+    ensures tags { λ _. ⌜ now (tags .exit) ≡ callLeaves (anySubtable Edition.Mort) (now (table .entry)) start
+        (lineOf (now (glyphs .entry)) (now (tags .entry)) (now (homes .entry)) (now (used .entry))) .tags ⌝ }
+    ensures homes { λ _. ⌜ now (homes .exit) ≡ callLeaves (anySubtable Edition.Mort) (now (table .entry)) start
+        (lineOf (now (glyphs .entry)) (now (tags .entry)) (now (homes .entry)) (now (used .entry))) .homes ⌝ }
+    ensures used { λ _. ⌜ now (used .exit) ≡ callLeaves (anySubtable Edition.Mort) (now (table .entry)) start
+        (lineOf (now (glyphs .entry)) (now (tags .entry)) (now (homes .entry)) (now (used .entry))) .used ⌝ }
 {
     crate::runs::pass_of(Edition::Mort, table, start, glyphs, tags, homes, used)
 }
@@ -70,12 +77,18 @@ pub extern "C" fn aat_mort_run(
     used: &mut usize,
     heads: &mut u32,
 ) -> u32
-    ensures answer { λ r. ⌜ r ≡ numberOf (mortRun (now (table .entry)) start «right_to_left» (lineOf (now (glyphs .entry)) (now (tags .entry)) (now (homes .entry)) (now (used .entry))) (now (requests .entry)) .answer) ⌝ }
-    ensures glyphs { λ _. ⌜ now (glyphs .exit) ≡ mortLeaves (now (table .entry)) start «right_to_left» (lineOf (now (glyphs .entry)) (now (tags .entry)) (now (homes .entry)) (now (used .entry))) (now (requests .entry)) .glyphs ⌝ }
-    ensures tags { λ _. ⌜ now (tags .exit) ≡ mortLeaves (now (table .entry)) start «right_to_left» (lineOf (now (glyphs .entry)) (now (tags .entry)) (now (homes .entry)) (now (used .entry))) (now (requests .entry)) .tags ⌝ }
-    ensures homes { λ _. ⌜ now (homes .exit) ≡ mortLeaves (now (table .entry)) start «right_to_left» (lineOf (now (glyphs .entry)) (now (tags .entry)) (now (homes .entry)) (now (used .entry))) (now (requests .entry)) .homes ⌝ }
-    ensures used { λ _. ⌜ now (used .exit) ≡ mortLeaves (now (table .entry)) start «right_to_left» (lineOf (now (glyphs .entry)) (now (tags .entry)) (now (homes .entry)) (now (used .entry))) (now (requests .entry)) .used ⌝ }
-    ensures heads { λ _. ⌜ now (heads .exit) ≡ morxHeads (mortRun (now (table .entry)) start «right_to_left» (lineOf (now (glyphs .entry)) (now (tags .entry)) (now (homes .entry)) (now (used .entry))) (now (requests .entry))) (now (heads .entry)) ⌝ }
+    ensures answer { λ r. ⌜ r ≡ numberOf (mortRun (now (table .entry)) start «right_to_left»
+        (lineOf (now (glyphs .entry)) (now (tags .entry)) (now (homes .entry)) (now (used .entry))) (now (requests .entry)) .answer) ⌝ }
+    ensures glyphs { λ _. ⌜ now (glyphs .exit) ≡ mortLeaves (now (table .entry)) start «right_to_left»
+        (lineOf (now (glyphs .entry)) (now (tags .entry)) (now (homes .entry)) (now (used .entry))) (now (requests .entry)) .glyphs ⌝ }
+    ensures tags { λ _. ⌜ now (tags .exit) ≡ mortLeaves (now (table .entry)) start «right_to_left»
+        (lineOf (now (glyphs .entry)) (now (tags .entry)) (now (homes .entry)) (now (used .entry))) (now (requests .entry)) .tags ⌝ }
+    ensures homes { λ _. ⌜ now (homes .exit) ≡ mortLeaves (now (table .entry)) start «right_to_left»
+        (lineOf (now (glyphs .entry)) (now (tags .entry)) (now (homes .entry)) (now (used .entry))) (now (requests .entry)) .homes ⌝ }
+    ensures used { λ _. ⌜ now (used .exit) ≡ mortLeaves (now (table .entry)) start «right_to_left»
+        (lineOf (now (glyphs .entry)) (now (tags .entry)) (now (homes .entry)) (now (used .entry))) (now (requests .entry)) .used ⌝ }
+    ensures heads { λ _. ⌜ now (heads .exit) ≡ morxHeads (mortRun (now (table .entry)) start «right_to_left»
+        (lineOf (now (glyphs .entry)) (now (tags .entry)) (now (homes .entry)) (now (used .entry))) (now (requests .entry))) (now (heads .entry)) ⌝ }
 {
     crate::features::run_of(
         Edition::Mort,

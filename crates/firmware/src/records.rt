@@ -16,9 +16,12 @@ pub extern "C" fn aat_store_line(
     buffer: &mut [u8],
     size: &mut usize,
 ) -> u32
-    ensures answer { λ r. ⌜ r ≡ numberOf (storeAnswer (storeCall (lineOf (now (glyphs .entry)) (now (tags .entry)) (now (homes .entry)) used) (now (buffer .entry)) .reply)) ⌝ }
-    ensures buffer { λ _. ⌜ now (buffer .exit) ≡ storeCall (lineOf (now (glyphs .entry)) (now (tags .entry)) (now (homes .entry)) used) (now (buffer .entry)) .buffer ⌝ }
-    ensures size { λ _. ⌜ now (size .exit) ≡ storeSize (storeCall (lineOf (now (glyphs .entry)) (now (tags .entry)) (now (homes .entry)) used) (now (buffer .entry)) .reply) (now (size .entry)) ⌝ }
+    ensures answer { λ r. ⌜ r ≡ numberOf (storeAnswer (storeCall (lineOf (now (glyphs .entry)) (now (tags .entry)) (now (homes .entry)) used)
+        (now (buffer .entry)) .reply)) ⌝ }
+    ensures buffer { λ _. ⌜ now (buffer .exit) ≡ storeCall (lineOf (now (glyphs .entry)) (now (tags .entry)) (now (homes .entry)) used)
+        (now (buffer .entry)) .buffer ⌝ }
+    ensures size { λ _. ⌜ now (size .exit) ≡ storeSize (storeCall (lineOf (now (glyphs .entry)) (now (tags .entry)) (now (homes .entry)) used)
+        (now (buffer .entry)) .reply) (now (size .entry)) ⌝ }
 {
     let reply = stored::store_line(glyphs, tags, homes, used, buffer);
     match reply {
@@ -40,12 +43,18 @@ pub extern "C" fn aat_read_line(
     used: &mut usize,
     characters: &mut usize,
 ) -> u32
-    ensures answer { λ r. ⌜ r ≡ numberOf (readAnswer (readCall newestVersion (now (bytes .entry)) (now (glyphs .entry)) (now (tags .entry)) (now (homes .entry)) .reply)) ⌝ }
-    ensures glyphs { λ _. ⌜ now (glyphs .exit) ≡ readCall newestVersion (now (bytes .entry)) (now (glyphs .entry)) (now (tags .entry)) (now (homes .entry)) .glyphs ⌝ }
-    ensures tags { λ _. ⌜ now (tags .exit) ≡ readCall newestVersion (now (bytes .entry)) (now (glyphs .entry)) (now (tags .entry)) (now (homes .entry)) .tags ⌝ }
-    ensures homes { λ _. ⌜ now (homes .exit) ≡ readCall newestVersion (now (bytes .entry)) (now (glyphs .entry)) (now (tags .entry)) (now (homes .entry)) .homes ⌝ }
-    ensures used { λ _. ⌜ now (used .exit) ≡ readUsed (readCall newestVersion (now (bytes .entry)) (now (glyphs .entry)) (now (tags .entry)) (now (homes .entry)) .reply) (now (used .entry)) ⌝ }
-    ensures characters { λ _. ⌜ now (characters .exit) ≡ readCharacters (readCall newestVersion (now (bytes .entry)) (now (glyphs .entry)) (now (tags .entry)) (now (homes .entry)) .reply) (now (characters .entry)) ⌝ }
+    ensures answer { λ r. ⌜ r ≡ numberOf (readAnswer (readCall newestVersion (now (bytes .entry)) (now (glyphs .entry)) (now (tags .entry))
+        (now (homes .entry)) .reply)) ⌝ }
+    ensures glyphs { λ _. ⌜ now (glyphs .exit) ≡ readCall newestVersion (now (bytes .entry)) (now (glyphs .entry)) (now (tags .entry))
+        (now (homes .entry)) .glyphs ⌝ }
+    ensures tags { λ _. ⌜ now (tags .exit) ≡ readCall newestVersion (now (bytes .entry)) (now (glyphs .entry)) (now (tags .entry))
+        (now (homes .entry)) .tags ⌝ }
+    ensures homes { λ _. ⌜ now (homes .exit) ≡ readCall newestVersion (now (bytes .entry)) (now (glyphs .entry)) (now (tags .entry))
+        (now (homes .entry)) .homes ⌝ }
+    ensures used { λ _. ⌜ now (used .exit) ≡ readUsed (readCall newestVersion (now (bytes .entry)) (now (glyphs .entry)) (now (tags .entry))
+        (now (homes .entry)) .reply) (now (used .entry)) ⌝ }
+    ensures characters { λ _. ⌜ now (characters .exit) ≡ readCharacters (readCall newestVersion (now (bytes .entry)) (now (glyphs .entry)) (now (tags .entry))
+        (now (homes .entry)) .reply) (now (characters .entry)) ⌝ }
 {
     let reply = stored::read_line(bytes, glyphs, tags, homes);
     match reply {

@@ -24,17 +24,23 @@ pub extern "C" fn aat_morx_reel(
 ) -> u32
     ensures answer { λ r. ⌜ r ≡ numberOf (reelAnswer (reelOf (now (rooms .entry)) (now (characters .entry))
         (now (used .entry)) (now (answers .entry)) (now (heads .entry)) (now (glyphs .entry)) (now (tags .entry)) (now (homes .entry)))) ⌝ }
-    ensures used { λ _. ⌜ now (used .exit) ≡ morxReel (now (table .entry)) start «right_to_left» (now (requests .entry)) (reelOf (now (rooms .entry)) (now (characters .entry))
+    ensures used { λ _. ⌜ now (used .exit) ≡ morxReel (now (table .entry)) start «right_to_left» (now (requests .entry))
+        (reelOf (now (rooms .entry)) (now (characters .entry))
         (now (used .entry)) (now (answers .entry)) (now (heads .entry)) (now (glyphs .entry)) (now (tags .entry)) (now (homes .entry))) .used ⌝ }
-    ensures answers { λ _. ⌜ now (answers .exit) ≡ morxReel (now (table .entry)) start «right_to_left» (now (requests .entry)) (reelOf (now (rooms .entry)) (now (characters .entry))
+    ensures answers { λ _. ⌜ now (answers .exit) ≡ morxReel (now (table .entry)) start «right_to_left» (now (requests .entry))
+        (reelOf (now (rooms .entry)) (now (characters .entry))
         (now (used .entry)) (now (answers .entry)) (now (heads .entry)) (now (glyphs .entry)) (now (tags .entry)) (now (homes .entry))) .answers ⌝ }
-    ensures heads { λ _. ⌜ now (heads .exit) ≡ morxReel (now (table .entry)) start «right_to_left» (now (requests .entry)) (reelOf (now (rooms .entry)) (now (characters .entry))
+    ensures heads { λ _. ⌜ now (heads .exit) ≡ morxReel (now (table .entry)) start «right_to_left» (now (requests .entry))
+        (reelOf (now (rooms .entry)) (now (characters .entry))
         (now (used .entry)) (now (answers .entry)) (now (heads .entry)) (now (glyphs .entry)) (now (tags .entry)) (now (homes .entry))) .heads ⌝ }
-    ensures glyphs { λ _. ⌜ now (glyphs .exit) ≡ morxReel (now (table .entry)) start «right_to_left» (now (requests .entry)) (reelOf (now (rooms .entry)) (now (characters .entry))
+    ensures glyphs { λ _. ⌜ now (glyphs .exit) ≡ morxReel (now (table .entry)) start «right_to_left» (now (requests .entry))
+        (reelOf (now (rooms .entry)) (now (characters .entry))
         (now (used .entry)) (now (answers .entry)) (now (heads .entry)) (now (glyphs .entry)) (now (tags .entry)) (now (homes .entry))) .glyphs ⌝ }
-    ensures tags { λ _. ⌜ now (tags .exit) ≡ morxReel (now (table .entry)) start «right_to_left» (now (requests .entry)) (reelOf (now (rooms .entry)) (now (characters .entry))
+    ensures tags { λ _. ⌜ now (tags .exit) ≡ morxReel (now (table .entry)) start «right_to_left» (now (requests .entry))
+        (reelOf (now (rooms .entry)) (now (characters .entry))
         (now (used .entry)) (now (answers .entry)) (now (heads .entry)) (now (glyphs .entry)) (now (tags .entry)) (now (homes .entry))) .tags ⌝ }
-    ensures homes { λ _. ⌜ now (homes .exit) ≡ morxReel (now (table .entry)) start «right_to_left» (now (requests .entry)) (reelOf (now (rooms .entry)) (now (characters .entry))
+    ensures homes { λ _. ⌜ now (homes .exit) ≡ morxReel (now (table .entry)) start «right_to_left» (now (requests .entry))
+        (reelOf (now (rooms .entry)) (now (characters .entry))
         (now (used .entry)) (now (answers .entry)) (now (heads .entry)) (now (glyphs .entry)) (now (tags .entry)) (now (homes .entry))) .homes ⌝ }
 {
     let choices = Choices {
@@ -76,17 +82,23 @@ pub extern "C" fn aat_mort_reel(
 ) -> u32
     ensures answer { λ r. ⌜ r ≡ numberOf (reelAnswer (reelOf (now (rooms .entry)) (now (characters .entry))
         (now (used .entry)) (now (answers .entry)) (now (heads .entry)) (now (glyphs .entry)) (now (tags .entry)) (now (homes .entry)))) ⌝ }
-    ensures used { λ _. ⌜ now (used .exit) ≡ mortReel (now (table .entry)) start «right_to_left» (now (requests .entry)) (reelOf (now (rooms .entry)) (now (characters .entry))
+    ensures used { λ _. ⌜ now (used .exit) ≡ mortReel (now (table .entry)) start «right_to_left» (now (requests .entry))
+        (reelOf (now (rooms .entry)) (now (characters .entry))
         (now (used .entry)) (now (answers .entry)) (now (heads .entry)) (now (glyphs .entry)) (now (tags .entry)) (now (homes .entry))) .used ⌝ }
-    ensures answers { λ _. ⌜ now (answers .exit) ≡ mortReel (now (table .entry)) start «right_to_left» (now (requests .entry)) (reelOf (now (rooms .entry)) (now (characters .entry))
+    ensures answers { λ _. ⌜ now (answers .exit) ≡ mortReel (now (table .entry)) start «right_to_left» (now (requests .entry))
+        (reelOf (now (rooms .entry)) (now (characters .entry))
         (now (used .entry)) (now (answers .entry)) (now (heads .entry)) (now (glyphs .entry)) (now (tags .entry)) (now (homes .entry))) .answers ⌝ }
-    ensures heads { λ _. ⌜ now (heads .exit) ≡ mortReel (now (table .entry)) start «right_to_left» (now (requests .entry)) (reelOf (now (rooms .entry)) (now (characters .entry))
+    ensures heads { λ _. ⌜ now (heads .exit) ≡ mortReel (now (table .entry)) start «right_to_left» (now (requests .entry))
+        (reelOf (now (rooms .entry)) (now (characters .entry))
         (now (used .entry)) (now (answers .entry)) (now (heads .entry)) (now (glyphs .entry)) (now (tags .entry)) (now (homes .entry))) .heads ⌝ }
-    ensures glyphs { λ _. ⌜ now (glyphs .exit) ≡ mortReel (now (table .entry)) start «right_to_left» (now (requests .entry)) (reelOf (now (rooms .entry)) (now (characters .entry))
+    ensures glyphs { λ _. ⌜ now (glyphs .exit) ≡ mortReel (now (table .entry)) start «right_to_left» (now (requests .entry))
+        (reelOf (now (rooms .entry)) (now (characters .entry))
         (now (used .entry)) (now (answers .entry)) (now (heads .entry)) (now (glyphs .entry)) (now (tags .entry)) (now (homes .entry))) .glyphs ⌝ }
-    ensures tags { λ _. ⌜ now (tags .exit) ≡ mortReel (now (table .entry)) start «right_to_left» (now (requests .entry)) (reelOf (now (rooms .entry)) (now (characters .entry))
+    ensures tags { λ _. ⌜ now (tags .exit) ≡ mortReel (now (table .entry)) start «right_to_left» (now (requests .entry))
+        (reelOf (now (rooms .entry)) (now (characters .entry))
         (now (used .entry)) (now (answers .entry)) (now (heads .entry)) (now (glyphs .entry)) (now (tags .entry)) (now (homes .entry))) .tags ⌝ }
-    ensures homes { λ _. ⌜ now (homes .exit) ≡ mortReel (now (table .entry)) start «right_to_left» (now (requests .entry)) (reelOf (now (rooms .entry)) (now (characters .entry))
+    ensures homes { λ _. ⌜ now (homes .exit) ≡ mortReel (now (table .entry)) start «right_to_left» (now (requests .entry))
+        (reelOf (now (rooms .entry)) (now (characters .entry))
         (now (used .entry)) (now (answers .entry)) (now (heads .entry)) (now (glyphs .entry)) (now (tags .entry)) (now (homes .entry))) .homes ⌝ }
 {
     let choices = Choices {

@@ -18,11 +18,16 @@ pub fn pass_of(
     homes: &mut [u16],
     used: &mut usize,
 ) -> u32
-    ensures answer { λ r. ⌜ r ≡ numberOf (passCall (anySubtable edition) (now (table .entry)) start (lineOf (now (glyphs .entry)) (now (tags .entry)) (now (homes .entry)) (now (used .entry))) .answer) ⌝ }
-    ensures glyphs { λ _. ⌜ now (glyphs .exit) ≡ callLeaves (anySubtable edition) (now (table .entry)) start (lineOf (now (glyphs .entry)) (now (tags .entry)) (now (homes .entry)) (now (used .entry))) .glyphs ⌝ }
-    ensures tags { λ _. ⌜ now (tags .exit) ≡ callLeaves (anySubtable edition) (now (table .entry)) start (lineOf (now (glyphs .entry)) (now (tags .entry)) (now (homes .entry)) (now (used .entry))) .tags ⌝ }
-    ensures homes { λ _. ⌜ now (homes .exit) ≡ callLeaves (anySubtable edition) (now (table .entry)) start (lineOf (now (glyphs .entry)) (now (tags .entry)) (now (homes .entry)) (now (used .entry))) .homes ⌝ }
-    ensures used { λ _. ⌜ now (used .exit) ≡ callLeaves (anySubtable edition) (now (table .entry)) start (lineOf (now (glyphs .entry)) (now (tags .entry)) (now (homes .entry)) (now (used .entry))) .used ⌝ }
+    ensures answer { λ r. ⌜ r ≡ numberOf (passCall (anySubtable edition) (now (table .entry)) start
+        (lineOf (now (glyphs .entry)) (now (tags .entry)) (now (homes .entry)) (now (used .entry))) .answer) ⌝ }
+    ensures glyphs { λ _. ⌜ now (glyphs .exit) ≡ callLeaves (anySubtable edition) (now (table .entry)) start
+        (lineOf (now (glyphs .entry)) (now (tags .entry)) (now (homes .entry)) (now (used .entry))) .glyphs ⌝ }
+    ensures tags { λ _. ⌜ now (tags .exit) ≡ callLeaves (anySubtable edition) (now (table .entry)) start
+        (lineOf (now (glyphs .entry)) (now (tags .entry)) (now (homes .entry)) (now (used .entry))) .tags ⌝ }
+    ensures homes { λ _. ⌜ now (homes .exit) ≡ callLeaves (anySubtable edition) (now (table .entry)) start
+        (lineOf (now (glyphs .entry)) (now (tags .entry)) (now (homes .entry)) (now (used .entry))) .homes ⌝ }
+    ensures used { λ _. ⌜ now (used .exit) ≡ callLeaves (anySubtable edition) (now (table .entry)) start
+        (lineOf (now (glyphs .entry)) (now (tags .entry)) (now (homes .entry)) (now (used .entry))) .used ⌝ }
 {
     let reply = morx::pass(edition, table, start, glyphs, tags, homes, *used);
     *used = reply.used;
@@ -40,11 +45,16 @@ pub extern "C" fn aat_morx_pass(
     homes: &mut [u16],
     used: &mut usize,
 ) -> u32
-    ensures answer { λ r. ⌜ r ≡ numberOf (passCall (anySubtable Edition.Morx) (now (table .entry)) start (lineOf (now (glyphs .entry)) (now (tags .entry)) (now (homes .entry)) (now (used .entry))) .answer) ⌝ }
-    ensures glyphs { λ _. ⌜ now (glyphs .exit) ≡ callLeaves (anySubtable Edition.Morx) (now (table .entry)) start (lineOf (now (glyphs .entry)) (now (tags .entry)) (now (homes .entry)) (now (used .entry))) .glyphs ⌝ }
-    ensures tags { λ _. ⌜ now (tags .exit) ≡ callLeaves (anySubtable Edition.Morx) (now (table .entry)) start (lineOf (now (glyphs .entry)) (now (tags .entry)) (now (homes .entry)) (now (used .entry))) .tags ⌝ }
-    ensures homes { λ _. ⌜ now (homes .exit) ≡ callLeaves (anySubtable Edition.Morx) (now (table .entry)) start (lineOf (now (glyphs .entry)) (now (tags .entry)) (now (homes .entry)) (now (used .entry))) .homes ⌝ }
-    ensures used { λ _. ⌜ now (used .exit) ≡ callLeaves (anySubtable Edition.Morx) (now (table .entry)) start (lineOf (now (glyphs .entry)) (now (tags .entry)) (now (homes .entry)) (now (used .entry))) .used ⌝ }
+    ensures answer { λ r. ⌜ r ≡ numberOf (passCall (anySubtable Edition.Morx) (now (table .entry)) start
+        (lineOf (now (glyphs .entry)) (now (tags .entry)) (now (homes .entry)) (now (used .entry))) .answer) ⌝ }
+    ensures glyphs { λ _. ⌜ now (glyphs .exit) ≡ callLeaves (anySubtable Edition.Morx) (now (table .entry)) start
+        (lineOf (now (glyphs .entry)) (now (tags .entry)) (now (homes .entry)) (now (used .entry))) .glyphs ⌝ }
+    ensures tags { λ _. ⌜ now (tags .exit) ≡ callLeaves (anySubtable Edition.Morx) (now (table .entry)) start
+        (lineOf (now (glyphs .entry)) (now (tags .entry)) (now (homes .entry)) (now (used .entry))) .tags ⌝ }
+    ensures homes { λ _. ⌜ now (homes .exit) ≡ callLeaves (anySubtable Edition.Morx) (now (table .entry)) start
+        (lineOf (now (glyphs .entry)) (now (tags .entry)) (now (homes .entry)) (now (used .entry))) .homes ⌝ }
+    ensures used { λ _. ⌜ now (used .exit) ≡ callLeaves (anySubtable Edition.Morx) (now (table .entry)) start
+        (lineOf (now (glyphs .entry)) (now (tags .entry)) (now (homes .entry)) (now (used .entry))) .used ⌝ }
 {
     pass_of(Edition::Morx, table, start, glyphs, tags, homes, used)
 }
@@ -61,12 +71,18 @@ pub extern "C" fn aat_morx_run(
     used: &mut usize,
     heads: &mut u32,
 ) -> u32
-    ensures answer { λ r. ⌜ r ≡ numberOf (morxRun (now (table .entry)) start «right_to_left» (lineOf (now (glyphs .entry)) (now (tags .entry)) (now (homes .entry)) (now (used .entry))) .answer) ⌝ }
-    ensures glyphs { λ _. ⌜ now (glyphs .exit) ≡ morxLeaves (now (table .entry)) start «right_to_left» (lineOf (now (glyphs .entry)) (now (tags .entry)) (now (homes .entry)) (now (used .entry))) .glyphs ⌝ }
-    ensures tags { λ _. ⌜ now (tags .exit) ≡ morxLeaves (now (table .entry)) start «right_to_left» (lineOf (now (glyphs .entry)) (now (tags .entry)) (now (homes .entry)) (now (used .entry))) .tags ⌝ }
-    ensures homes { λ _. ⌜ now (homes .exit) ≡ morxLeaves (now (table .entry)) start «right_to_left» (lineOf (now (glyphs .entry)) (now (tags .entry)) (now (homes .entry)) (now (used .entry))) .homes ⌝ }
-    ensures used { λ _. ⌜ now (used .exit) ≡ morxLeaves (now (table .entry)) start «right_to_left» (lineOf (now (glyphs .entry)) (now (tags .entry)) (now (homes .entry)) (now (used .entry))) .used ⌝ }
-    ensures heads { λ _. ⌜ now (heads .exit) ≡ morxHeads (morxRun (now (table .entry)) start «right_to_left» (lineOf (now (glyphs .entry)) (now (tags .entry)) (now (homes .entry)) (now (used .entry)))) (now (heads .entry)) ⌝ }
+    ensures answer { λ r. ⌜ r ≡ numberOf (morxRun (now (table .entry)) start «right_to_left»
+        (lineOf (now (glyphs .entry)) (now (tags .entry)) (now (homes .entry)) (now (used .entry))) .answer) ⌝ }
+    ensures glyphs { λ _. ⌜ now (glyphs .exit) ≡ morxLeaves (now (table .entry)) start «right_to_left»
+        (lineOf (now (glyphs .entry)) (now (tags .entry)) (now (homes .entry)) (now (used .entry))) .glyphs ⌝ }
+    ensures tags { λ _. ⌜ now (tags .exit) ≡ morxLeaves (now (table .entry)) start «right_to_left»
+        (lineOf (now (glyphs .entry)) (now (tags .entry)) (now (homes .entry)) (now (used .entry))) .tags ⌝ }
+    ensures homes { λ _. ⌜ now (homes .exit) ≡ morxLeaves (now (table .entry)) start «right_to_left»
+        (lineOf (now (glyphs .entry)) (now (tags .entry)) (now (homes .entry)) (now (used .entry))) .homes ⌝ }
+    ensures used { λ _. ⌜ now (used .exit) ≡ morxLeaves (now (table .entry)) start «right_to_left»
+        (lineOf (now (glyphs .entry)) (now (tags .entry)) (now (homes .entry)) (now (used .entry))) .used ⌝ }
+    ensures heads { λ _. ⌜ now (heads .exit) ≡ morxHeads (morxRun (now (table .entry)) start «right_to_left»
+        (lineOf (now (glyphs .entry)) (now (tags .entry)) (now (homes .entry)) (now (used .entry)))) (now (heads .entry)) ⌝ }
 {
     let choices = Choices {
         right_to_left: right_to_left != 0,

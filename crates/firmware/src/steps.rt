@@ -101,9 +101,12 @@ pub extern "C" fn aat_rearrangement_step(
     window: &mut [u64; 3],
 ) -> u32
     ensures answer { λ r. ⌜ r ≡ numberOf (rearrangementStepped (now (table .entry)) start (now (state .entry)) used index glyph ends .answer) ⌝ }
-    ensures state { λ _. ⌜ now (state .exit) ≡ rearrangementState (rearrangementStepped (now (table .entry)) start (now (state .entry)) used index glyph ends) (now (state .entry)) ⌝ }
-    ensures advance { λ _. ⌜ now (advance .exit) ≡ rearrangementAdvance (rearrangementStepped (now (table .entry)) start (now (state .entry)) used index glyph ends) (now (advance .entry)) ⌝ }
-    ensures window { λ _. ⌜ now (window .exit) ≡ rearrangementWindow (rearrangementStepped (now (table .entry)) start (now (state .entry)) used index glyph ends) (now (window .entry)) ⌝ }
+    ensures state { λ _. ⌜ now (state .exit) ≡ rearrangementState (rearrangementStepped (now (table .entry)) start (now (state .entry)) used index glyph ends)
+        (now (state .entry)) ⌝ }
+    ensures advance { λ _. ⌜ now (advance .exit) ≡ rearrangementAdvance (rearrangementStepped (now (table .entry)) start (now (state .entry)) used index glyph
+        ends) (now (advance .entry)) ⌝ }
+    ensures window { λ _. ⌜ now (window .exit) ≡ rearrangementWindow (rearrangementStepped (now (table .entry)) start (now (state .entry)) used index glyph
+        ends) (now (window .entry)) ⌝ }
 {
     let given = rearrangement_from(state);
     let step = given.step(table, start, used, index, glyph, ends != 0);
@@ -182,10 +185,14 @@ pub extern "C" fn aat_contextual_step(
     ends: u32,
     advance: &mut usize,
 ) -> u32
-    ensures answer { λ r. ⌜ r ≡ numberOf (contextualStepped (now (table .entry)) start (now (state .entry)) (lineOf (now (glyphs .entry)) (now (tags .entry)) (now (homes .entry)) used) index glyph ends .answer) ⌝ }
-    ensures state { λ _. ⌜ now (state .exit) ≡ contextualState (contextualStepped (now (table .entry)) start (now (state .entry)) (lineOf (now (glyphs .entry)) (now (tags .entry)) (now (homes .entry)) used) index glyph ends) (now (state .entry)) ⌝ }
-    ensures glyphs { λ _. ⌜ now (glyphs .exit) ≡ contextualLeaves (now (table .entry)) start (now (state .entry)) (lineOf (now (glyphs .entry)) (now (tags .entry)) (now (homes .entry)) used) index glyph ends .glyphs ⌝ }
-    ensures advance { λ _. ⌜ now (advance .exit) ≡ advanceBy (contextualStepped (now (table .entry)) start (now (state .entry)) (lineOf (now (glyphs .entry)) (now (tags .entry)) (now (homes .entry)) used) index glyph ends) (now (advance .entry)) ⌝ }
+    ensures answer { λ r. ⌜ r ≡ numberOf (contextualStepped (now (table .entry)) start (now (state .entry))
+        (lineOf (now (glyphs .entry)) (now (tags .entry)) (now (homes .entry)) used) index glyph ends .answer) ⌝ }
+    ensures state { λ _. ⌜ now (state .exit) ≡ contextualState (contextualStepped (now (table .entry)) start (now (state .entry))
+        (lineOf (now (glyphs .entry)) (now (tags .entry)) (now (homes .entry)) used) index glyph ends) (now (state .entry)) ⌝ }
+    ensures glyphs { λ _. ⌜ now (glyphs .exit) ≡ contextualLeaves (now (table .entry)) start (now (state .entry))
+        (lineOf (now (glyphs .entry)) (now (tags .entry)) (now (homes .entry)) used) index glyph ends .glyphs ⌝ }
+    ensures advance { λ _. ⌜ now (advance .exit) ≡ advanceBy (contextualStepped (now (table .entry)) start (now (state .entry))
+        (lineOf (now (glyphs .entry)) (now (tags .entry)) (now (homes .entry)) used) index glyph ends) (now (advance .entry)) ⌝ }
 {
     let given = contextual_from(state);
     let step = given.step(
@@ -308,9 +315,12 @@ pub extern "C" fn aat_insertion_step(
     edits: &mut [u64; 7],
 ) -> u32
     ensures answer { λ r. ⌜ r ≡ numberOf (insertionStepped (now (table .entry)) start (now (state .entry)) used room index glyph ends .answer) ⌝ }
-    ensures state { λ _. ⌜ now (state .exit) ≡ insertionState (insertionStepped (now (table .entry)) start (now (state .entry)) used room index glyph ends) (now (state .entry)) ⌝ }
-    ensures advance { λ _. ⌜ now (advance .exit) ≡ insertionAdvance (insertionStepped (now (table .entry)) start (now (state .entry)) used room index glyph ends) (now (advance .entry)) ⌝ }
-    ensures edits { λ _. ⌜ now (edits .exit) ≡ insertionEdits (insertionStepped (now (table .entry)) start (now (state .entry)) used room index glyph ends) (now (edits .entry)) ⌝ }
+    ensures state { λ _. ⌜ now (state .exit) ≡ insertionState (insertionStepped (now (table .entry)) start (now (state .entry)) used room index glyph ends)
+        (now (state .entry)) ⌝ }
+    ensures advance { λ _. ⌜ now (advance .exit) ≡ insertionAdvance (insertionStepped (now (table .entry)) start (now (state .entry)) used room index glyph
+        ends) (now (advance .entry)) ⌝ }
+    ensures edits { λ _. ⌜ now (edits .exit) ≡ insertionEdits (insertionStepped (now (table .entry)) start (now (state .entry)) used room index glyph ends)
+        (now (edits .entry)) ⌝ }
 {
     let given = insertion_from(state);
     let step = given.step(table, start, used, room, index, glyph, ends != 0);
@@ -456,11 +466,16 @@ pub extern "C" fn aat_ligature_step(
     ends: u32,
     advance: &mut usize,
 ) -> u32
-    ensures answer { λ r. ⌜ r ≡ numberOf (ligatureStepped (now (table .entry)) start (now (state .entry)) (lineOf (now (glyphs .entry)) (now (tags .entry)) (now (homes .entry)) used) index glyph ends .answer) ⌝ }
-    ensures state { λ _. ⌜ now (state .exit) ≡ ligatureState (ligatureStepped (now (table .entry)) start (now (state .entry)) (lineOf (now (glyphs .entry)) (now (tags .entry)) (now (homes .entry)) used) index glyph ends) (now (state .entry)) ⌝ }
-    ensures glyphs { λ _. ⌜ now (glyphs .exit) ≡ ligatureLeaves (now (table .entry)) start (now (state .entry)) (lineOf (now (glyphs .entry)) (now (tags .entry)) (now (homes .entry)) used) index glyph ends .glyphs ⌝ }
-    ensures homes { λ _. ⌜ now (homes .exit) ≡ ligatureLeaves (now (table .entry)) start (now (state .entry)) (lineOf (now (glyphs .entry)) (now (tags .entry)) (now (homes .entry)) used) index glyph ends .homes ⌝ }
-    ensures advance { λ _. ⌜ now (advance .exit) ≡ advanceBy (ligatureStepped (now (table .entry)) start (now (state .entry)) (lineOf (now (glyphs .entry)) (now (tags .entry)) (now (homes .entry)) used) index glyph ends) (now (advance .entry)) ⌝ }
+    ensures answer { λ r. ⌜ r ≡ numberOf (ligatureStepped (now (table .entry)) start (now (state .entry))
+        (lineOf (now (glyphs .entry)) (now (tags .entry)) (now (homes .entry)) used) index glyph ends .answer) ⌝ }
+    ensures state { λ _. ⌜ now (state .exit) ≡ ligatureState (ligatureStepped (now (table .entry)) start (now (state .entry))
+        (lineOf (now (glyphs .entry)) (now (tags .entry)) (now (homes .entry)) used) index glyph ends) (now (state .entry)) ⌝ }
+    ensures glyphs { λ _. ⌜ now (glyphs .exit) ≡ ligatureLeaves (now (table .entry)) start (now (state .entry))
+        (lineOf (now (glyphs .entry)) (now (tags .entry)) (now (homes .entry)) used) index glyph ends .glyphs ⌝ }
+    ensures homes { λ _. ⌜ now (homes .exit) ≡ ligatureLeaves (now (table .entry)) start (now (state .entry))
+        (lineOf (now (glyphs .entry)) (now (tags .entry)) (now (homes .entry)) used) index glyph ends .homes ⌝ }
+    ensures advance { λ _. ⌜ now (advance .exit) ≡ advanceBy (ligatureStepped (now (table .entry)) start (now (state .entry))
+        (lineOf (now (glyphs .entry)) (now (tags .entry)) (now (homes .entry)) used) index glyph ends) (now (advance .entry)) ⌝ }
 {
     let given = ligature_from(state);
     let step = given.step(

@@ -496,10 +496,14 @@ fn put_at(
     count: u16,
     from: usize,
 ) -> usize
-    requires { ⌜ (from + count * 2 ≤ length (now bytes)) × (used + count ≤ length (now glyphs)) × (length (now tags) ≡ length (now glyphs)) × (length (now glyphs) ≤ Limits.roomLimit) ⌝ }
-    ensures glyphs { λ _. ⌜ now (glyphs .exit) ≡ applyAll (changesOf (now (bytes .entry)) (Inserted.At place count from)) (lineOf (now (glyphs .entry)) (now (tags .entry)) (now (homes .entry)) used) .glyphs ⌝ }
-    ensures tags { λ _. ⌜ now (tags .exit) ≡ applyAll (changesOf (now (bytes .entry)) (Inserted.At place count from)) (lineOf (now (glyphs .entry)) (now (tags .entry)) (now (homes .entry)) used) .tags ⌝ }
-    ensures used { λ r. ⌜ r ≡ applyAll (changesOf (now (bytes .entry)) (Inserted.At place count from)) (lineOf (now (glyphs .entry)) (now (tags .entry)) (now (homes .entry)) used) .used ⌝ }
+    requires { ⌜ (from + count * 2 ≤ length (now bytes)) × (used + count ≤ length (now glyphs)) × (length (now tags) ≡ length (now glyphs)) ×
+        (length (now glyphs) ≤ Limits.roomLimit) ⌝ }
+    ensures glyphs { λ _. ⌜ now (glyphs .exit) ≡ applyAll (changesOf (now (bytes .entry)) (Inserted.At place count from))
+        (lineOf (now (glyphs .entry)) (now (tags .entry)) (now (homes .entry)) used) .glyphs ⌝ }
+    ensures tags { λ _. ⌜ now (tags .exit) ≡ applyAll (changesOf (now (bytes .entry)) (Inserted.At place count from))
+        (lineOf (now (glyphs .entry)) (now (tags .entry)) (now (homes .entry)) used) .tags ⌝ }
+    ensures used { λ r. ⌜ r ≡ applyAll (changesOf (now (bytes .entry)) (Inserted.At place count from))
+        (lineOf (now (glyphs .entry)) (now (tags .entry)) (now (homes .entry)) used) .used ⌝ }
 {
     line::edits::insert(glyphs, tags, used, place, list_at(bytes, from, count))
 }
@@ -513,10 +517,14 @@ fn put(
     used: usize,
     edit: Inserted,
 ) -> usize
-    requires { ⌜ (endOf edit ≤ length (now bytes)) × (used + countOf edit ≤ length (now glyphs)) × (length (now tags) ≡ length (now glyphs)) × (length (now glyphs) ≤ Limits.roomLimit) ⌝ }
-    ensures glyphs { λ _. ⌜ now (glyphs .exit) ≡ applyAll (changesOf (now (bytes .entry)) edit) (lineOf (now (glyphs .entry)) (now (tags .entry)) (now (homes .entry)) used) .glyphs ⌝ }
-    ensures tags { λ _. ⌜ now (tags .exit) ≡ applyAll (changesOf (now (bytes .entry)) edit) (lineOf (now (glyphs .entry)) (now (tags .entry)) (now (homes .entry)) used) .tags ⌝ }
-    ensures used { λ r. ⌜ r ≡ applyAll (changesOf (now (bytes .entry)) edit) (lineOf (now (glyphs .entry)) (now (tags .entry)) (now (homes .entry)) used) .used ⌝ }
+    requires { ⌜ (endOf edit ≤ length (now bytes)) × (used + countOf edit ≤ length (now glyphs)) × (length (now tags) ≡ length (now glyphs)) ×
+        (length (now glyphs) ≤ Limits.roomLimit) ⌝ }
+    ensures glyphs { λ _. ⌜ now (glyphs .exit) ≡ applyAll (changesOf (now (bytes .entry)) edit)
+        (lineOf (now (glyphs .entry)) (now (tags .entry)) (now (homes .entry)) used) .glyphs ⌝ }
+    ensures tags { λ _. ⌜ now (tags .exit) ≡ applyAll (changesOf (now (bytes .entry)) edit)
+        (lineOf (now (glyphs .entry)) (now (tags .entry)) (now (homes .entry)) used) .tags ⌝ }
+    ensures used { λ r. ⌜ r ≡ applyAll (changesOf (now (bytes .entry)) edit)
+        (lineOf (now (glyphs .entry)) (now (tags .entry)) (now (homes .entry)) used) .used ⌝ }
 {
     let Inserted::At {
         place,
@@ -539,10 +547,14 @@ fn edit(
     marked: Inserted,
     current: Inserted,
 ) -> usize
-    requires { ⌜ (endOf marked ≤ length (now bytes)) × (endOf current ≤ length (now bytes)) × (used + countOf marked + countOf current ≤ length (now glyphs)) × (length (now tags) ≡ length (now glyphs)) × (length (now glyphs) ≤ Limits.roomLimit) ⌝ }
-    ensures glyphs { λ _. ⌜ now (glyphs .exit) ≡ applyAll (bothChanges (now (bytes .entry)) marked current) (lineOf (now (glyphs .entry)) (now (tags .entry)) (now (homes .entry)) used) .glyphs ⌝ }
-    ensures tags { λ _. ⌜ now (tags .exit) ≡ applyAll (bothChanges (now (bytes .entry)) marked current) (lineOf (now (glyphs .entry)) (now (tags .entry)) (now (homes .entry)) used) .tags ⌝ }
-    ensures used { λ r. ⌜ r ≡ applyAll (bothChanges (now (bytes .entry)) marked current) (lineOf (now (glyphs .entry)) (now (tags .entry)) (now (homes .entry)) used) .used ⌝ }
+    requires { ⌜ (endOf marked ≤ length (now bytes)) × (endOf current ≤ length (now bytes)) × (used + countOf marked + countOf current ≤ length (now glyphs)) ×
+        (length (now tags) ≡ length (now glyphs)) × (length (now glyphs) ≤ Limits.roomLimit) ⌝ }
+    ensures glyphs { λ _. ⌜ now (glyphs .exit) ≡ applyAll (bothChanges (now (bytes .entry)) marked current)
+        (lineOf (now (glyphs .entry)) (now (tags .entry)) (now (homes .entry)) used) .glyphs ⌝ }
+    ensures tags { λ _. ⌜ now (tags .exit) ≡ applyAll (bothChanges (now (bytes .entry)) marked current)
+        (lineOf (now (glyphs .entry)) (now (tags .entry)) (now (homes .entry)) used) .tags ⌝ }
+    ensures used { λ r. ⌜ r ≡ applyAll (bothChanges (now (bytes .entry)) marked current)
+        (lineOf (now (glyphs .entry)) (now (tags .entry)) (now (homes .entry)) used) .used ⌝ }
 {
     let between = put(bytes, glyphs, tags, homes, used, marked);
     put(bytes, glyphs, tags, homes, between, current)
@@ -582,7 +594,8 @@ fn class_by(
     index: &[u16],
 ) -> u16
     requires { ⌜ LiesIn (now bytes) opened × Remembers (classBy (now bytes) opened) (now memo) × (place ≤ used) × (used ≤ length (now glyphs)) ⌝ }
-    ensures class { λ r. ⌜ r ≡ classHere (classesBy (now (index .entry)) (classBy (now (bytes .entry)) opened)) (getD (now (glyphs .entry)) place 0) (eqb place used) ⌝ }
+    ensures class { λ r. ⌜ r ≡ classHere (classesBy (now (index .entry)) (classBy (now (bytes .entry)) opened)) (getD (now (glyphs .entry)) place 0)
+        (eqb place used) ⌝ }
     ensures memo { λ _. ⌜ Remembers (classBy (now (bytes .entry)) opened) (now (memo .exit)) ⌝ }
 {
     if place == used {
@@ -621,10 +634,14 @@ fn pass_line(
     index: &[u16],
 ) -> InsertionPass
     requires { ⌜ (used ≤ length (now glyphs)) × (length (now tags) ≡ length (now glyphs)) × (length (now glyphs) ≤ Limits.roomLimit) ⌝ }
-    ensures answer { λ r. ⌜ r .answer ≡ passed (indexed (now (index .entry)) insertion) (now (bytes .entry)) states (lineOf (now (glyphs .entry)) (now (tags .entry)) (now (homes .entry)) used) .answer ⌝ }
-    ensures used { λ r. ⌜ r .used ≡ passedLeaves (indexed (now (index .entry)) insertion) (now (bytes .entry)) states (lineOf (now (glyphs .entry)) (now (tags .entry)) (now (homes .entry)) used) .used ⌝ }
-    ensures glyphs { λ _. ⌜ now (glyphs .exit) ≡ passedLeaves (indexed (now (index .entry)) insertion) (now (bytes .entry)) states (lineOf (now (glyphs .entry)) (now (tags .entry)) (now (homes .entry)) used) .glyphs ⌝ }
-    ensures tags { λ _. ⌜ now (tags .exit) ≡ passedLeaves (indexed (now (index .entry)) insertion) (now (bytes .entry)) states (lineOf (now (glyphs .entry)) (now (tags .entry)) (now (homes .entry)) used) .tags ⌝ }
+    ensures answer { λ r. ⌜ r .answer ≡ passed (indexed (now (index .entry)) insertion) (now (bytes .entry)) states
+        (lineOf (now (glyphs .entry)) (now (tags .entry)) (now (homes .entry)) used) .answer ⌝ }
+    ensures used { λ r. ⌜ r .used ≡ passedLeaves (indexed (now (index .entry)) insertion) (now (bytes .entry)) states
+        (lineOf (now (glyphs .entry)) (now (tags .entry)) (now (homes .entry)) used) .used ⌝ }
+    ensures glyphs { λ _. ⌜ now (glyphs .exit) ≡ passedLeaves (indexed (now (index .entry)) insertion) (now (bytes .entry)) states
+        (lineOf (now (glyphs .entry)) (now (tags .entry)) (now (homes .entry)) used) .glyphs ⌝ }
+    ensures tags { λ _. ⌜ now (tags .exit) ≡ passedLeaves (indexed (now (index .entry)) insertion) (now (bytes .entry)) states
+        (lineOf (now (glyphs .entry)) (now (tags .entry)) (now (homes .entry)) used) .tags ⌝ }
 {
     let opened = opened::open(bytes, states);
     let mut memo = opened::nothing_found();
@@ -689,10 +706,14 @@ pub fn work_by(
     index: &[u16],
 ) -> InsertionPass
     requires { ⌜ (used ≤ length (now glyphs)) × (length (now tags) ≡ length (now glyphs)) × (length (now glyphs) ≤ Limits.roomLimit) ⌝ }
-    ensures answer { λ r. ⌜ r .answer ≡ subtableOf (indexed (now (index .entry)) insertion) .worked (now (bytes .entry)) (lineOf (now (glyphs .entry)) (now (tags .entry)) (now (homes .entry)) used) .answer ⌝ }
-    ensures used { λ r. ⌜ r .used ≡ workLeaves (subtableOf (indexed (now (index .entry)) insertion)) (now (bytes .entry)) (lineOf (now (glyphs .entry)) (now (tags .entry)) (now (homes .entry)) used) .used ⌝ }
-    ensures glyphs { λ _. ⌜ now (glyphs .exit) ≡ workLeaves (subtableOf (indexed (now (index .entry)) insertion)) (now (bytes .entry)) (lineOf (now (glyphs .entry)) (now (tags .entry)) (now (homes .entry)) used) .glyphs ⌝ }
-    ensures tags { λ _. ⌜ now (tags .exit) ≡ workLeaves (subtableOf (indexed (now (index .entry)) insertion)) (now (bytes .entry)) (lineOf (now (glyphs .entry)) (now (tags .entry)) (now (homes .entry)) used) .tags ⌝ }
+    ensures answer { λ r. ⌜ r .answer ≡ subtableOf (indexed (now (index .entry)) insertion) .worked (now (bytes .entry))
+        (lineOf (now (glyphs .entry)) (now (tags .entry)) (now (homes .entry)) used) .answer ⌝ }
+    ensures used { λ r. ⌜ r .used ≡ workLeaves (subtableOf (indexed (now (index .entry)) insertion)) (now (bytes .entry))
+        (lineOf (now (glyphs .entry)) (now (tags .entry)) (now (homes .entry)) used) .used ⌝ }
+    ensures glyphs { λ _. ⌜ now (glyphs .exit) ≡ workLeaves (subtableOf (indexed (now (index .entry)) insertion)) (now (bytes .entry))
+        (lineOf (now (glyphs .entry)) (now (tags .entry)) (now (homes .entry)) used) .glyphs ⌝ }
+    ensures tags { λ _. ⌜ now (tags .exit) ≡ workLeaves (subtableOf (indexed (now (index .entry)) insertion)) (now (bytes .entry))
+        (lineOf (now (glyphs .entry)) (now (tags .entry)) (now (homes .entry)) used) .tags ⌝ }
 {
     let Made::Ready(states) = open(bytes) else {
         return InsertionPass {
@@ -720,10 +741,14 @@ pub fn work(
     used: usize,
 ) -> InsertionPass
     requires { ⌜ (used ≤ length (now glyphs)) × (length (now tags) ≡ length (now glyphs)) × (length (now glyphs) ≤ Limits.roomLimit) ⌝ }
-    ensures answer { λ r. ⌜ r .answer ≡ subtableOf insertion .worked (now (bytes .entry)) (lineOf (now (glyphs .entry)) (now (tags .entry)) (now (homes .entry)) used) .answer ⌝ }
-    ensures used { λ r. ⌜ r .used ≡ workLeaves (subtableOf insertion) (now (bytes .entry)) (lineOf (now (glyphs .entry)) (now (tags .entry)) (now (homes .entry)) used) .used ⌝ }
-    ensures glyphs { λ _. ⌜ now (glyphs .exit) ≡ workLeaves (subtableOf insertion) (now (bytes .entry)) (lineOf (now (glyphs .entry)) (now (tags .entry)) (now (homes .entry)) used) .glyphs ⌝ }
-    ensures tags { λ _. ⌜ now (tags .exit) ≡ workLeaves (subtableOf insertion) (now (bytes .entry)) (lineOf (now (glyphs .entry)) (now (tags .entry)) (now (homes .entry)) used) .tags ⌝ }
+    ensures answer { λ r. ⌜ r .answer ≡ subtableOf insertion .worked (now (bytes .entry))
+        (lineOf (now (glyphs .entry)) (now (tags .entry)) (now (homes .entry)) used) .answer ⌝ }
+    ensures used { λ r. ⌜ r .used ≡ workLeaves (subtableOf insertion) (now (bytes .entry))
+        (lineOf (now (glyphs .entry)) (now (tags .entry)) (now (homes .entry)) used) .used ⌝ }
+    ensures glyphs { λ _. ⌜ now (glyphs .exit) ≡ workLeaves (subtableOf insertion) (now (bytes .entry))
+        (lineOf (now (glyphs .entry)) (now (tags .entry)) (now (homes .entry)) used) .glyphs ⌝ }
+    ensures tags { λ _. ⌜ now (tags .exit) ≡ workLeaves (subtableOf insertion) (now (bytes .entry))
+        (lineOf (now (glyphs .entry)) (now (tags .entry)) (now (homes .entry)) used) .tags ⌝ }
 {
     let none = [0u16; 0];
     work_by(bytes, glyphs, tags, homes, used, &none)
@@ -738,10 +763,14 @@ pub fn pass(
     homes: &[u16],
     used: usize,
 ) -> InsertionPass
-    ensures answer { λ r. ⌜ r .answer ≡ passCall (subtableOf insertion) (now (table .entry)) start (lineOf (now (glyphs .entry)) (now (tags .entry)) (now (homes .entry)) used) .answer ⌝ }
-    ensures used { λ r. ⌜ r .used ≡ callLeaves (subtableOf insertion) (now (table .entry)) start (lineOf (now (glyphs .entry)) (now (tags .entry)) (now (homes .entry)) used) .used ⌝ }
-    ensures glyphs { λ _. ⌜ now (glyphs .exit) ≡ callLeaves (subtableOf insertion) (now (table .entry)) start (lineOf (now (glyphs .entry)) (now (tags .entry)) (now (homes .entry)) used) .glyphs ⌝ }
-    ensures tags { λ _. ⌜ now (tags .exit) ≡ callLeaves (subtableOf insertion) (now (table .entry)) start (lineOf (now (glyphs .entry)) (now (tags .entry)) (now (homes .entry)) used) .tags ⌝ }
+    ensures answer { λ r. ⌜ r .answer ≡ passCall (subtableOf insertion) (now (table .entry)) start
+        (lineOf (now (glyphs .entry)) (now (tags .entry)) (now (homes .entry)) used) .answer ⌝ }
+    ensures used { λ r. ⌜ r .used ≡ callLeaves (subtableOf insertion) (now (table .entry)) start
+        (lineOf (now (glyphs .entry)) (now (tags .entry)) (now (homes .entry)) used) .used ⌝ }
+    ensures glyphs { λ _. ⌜ now (glyphs .exit) ≡ callLeaves (subtableOf insertion) (now (table .entry)) start
+        (lineOf (now (glyphs .entry)) (now (tags .entry)) (now (homes .entry)) used) .glyphs ⌝ }
+    ensures tags { λ _. ⌜ now (tags .exit) ≡ callLeaves (subtableOf insertion) (now (table .entry)) start
+        (lineOf (now (glyphs .entry)) (now (tags .entry)) (now (homes .entry)) used) .tags ⌝ }
 {
     let bytes = parse::from(table, start);
     if let Check::Refused(why) = machine::refuse_pass(
@@ -794,10 +823,14 @@ pub fn insert(
     used: usize,
     place: usize,
 ) -> InsertionPass
-    ensures answer { λ r. ⌜ r .answer ≡ insertCall (now (table .entry)) start count place (lineOf (now (glyphs .entry)) (now (tags .entry)) (now (homes .entry)) used) .answer ⌝ }
-    ensures used { λ r. ⌜ r .used ≡ insertLeaves (now (table .entry)) start count place (lineOf (now (glyphs .entry)) (now (tags .entry)) (now (homes .entry)) used) .used ⌝ }
-    ensures glyphs { λ _. ⌜ now (glyphs .exit) ≡ insertLeaves (now (table .entry)) start count place (lineOf (now (glyphs .entry)) (now (tags .entry)) (now (homes .entry)) used) .glyphs ⌝ }
-    ensures tags { λ _. ⌜ now (tags .exit) ≡ insertLeaves (now (table .entry)) start count place (lineOf (now (glyphs .entry)) (now (tags .entry)) (now (homes .entry)) used) .tags ⌝ }
+    ensures answer { λ r. ⌜ r .answer ≡ insertCall (now (table .entry)) start count place
+        (lineOf (now (glyphs .entry)) (now (tags .entry)) (now (homes .entry)) used) .answer ⌝ }
+    ensures used { λ r. ⌜ r .used ≡ insertLeaves (now (table .entry)) start count place
+        (lineOf (now (glyphs .entry)) (now (tags .entry)) (now (homes .entry)) used) .used ⌝ }
+    ensures glyphs { λ _. ⌜ now (glyphs .exit) ≡ insertLeaves (now (table .entry)) start count place
+        (lineOf (now (glyphs .entry)) (now (tags .entry)) (now (homes .entry)) used) .glyphs ⌝ }
+    ensures tags { λ _. ⌜ now (tags .exit) ≡ insertLeaves (now (table .entry)) start count place
+        (lineOf (now (glyphs .entry)) (now (tags .entry)) (now (homes .entry)) used) .tags ⌝ }
 {
     if let Check::Refused(why) = refuse_insert(table.len(), glyphs, tags, homes, used, place) {
         return InsertionPass {

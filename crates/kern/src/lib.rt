@@ -162,7 +162,8 @@ fn work(
 ) -> Answer
     requires { ⌜ (used ≤ length (now glyphs)) × (used ≤ length (now along)) × (used ≤ roomLimit) × Within (2 ^ 60) (now along) ⌝ }
     ensures answer { λ r. ⌜ r ≡ worked (now (bytes .entry)) version format (now (glyphs .entry)) used choices .answer ⌝ }
-    ensures along { λ _. ⌜ now (along .exit) ≡ addAll (worked (now (bytes .entry)) version format (now (glyphs .entry)) used choices .additions) (now (along .entry)) ⌝ }
+    ensures along { λ _. ⌜ now (along .exit) ≡ addAll (worked (now (bytes .entry)) version format (now (glyphs .entry)) used choices .additions)
+        (now (along .entry)) ⌝ }
 {
     let rule = choices.pairs;
     if format == 0 {
@@ -217,7 +218,8 @@ fn visit(
     choices: Choices,
 )
     requires { ⌜ (used ≤ length (now glyphs)) × (used ≤ length (now along)) × (used ≤ roomLimit) × Within (2 ^ 60) (now along) × (subtable .turned ≡ false) ⌝ }
-    ensures { λ _. ⌜ now (along .exit) ≡ addAll (contribution (adds kern (now (bytes .entry)) version used choices) (now (glyphs .entry)) used subtable) (now (along .entry)) ⌝ }
+    ensures { λ _. ⌜ now (along .exit) ≡ addAll (contribution (adds kern (now (bytes .entry)) version used choices) (now (glyphs .entry)) used subtable)
+        (now (along .entry)) ⌝ }
 {
     if subtable.passed_over {
         return;
@@ -238,7 +240,8 @@ fn run_list(
     requires { ⌜ (used ≤ length (now glyphs)) × (used ≤ length (now along)) × (used ≤ roomLimit) × Within 0 (now along) ⌝ }
     ensures answer { λ r. ⌜ r .answer ≡ walkAnswer (headsFrom (headAt kern false (now (bytes .entry)) (list .version)) (list .count) (list .first)) ⌝ }
     ensures heads { λ r. ⌜ r .heads ≡ length (visited (headsFrom (headAt kern false (now (bytes .entry)) (list .version)) (list .count) (list .first))) ⌝ }
-    ensures along { λ _. ⌜ now (along .exit) ≡ addAll (contributions (adds kern (now (bytes .entry)) (list .version) used choices) (now (glyphs .entry)) used (visited (headsFrom (headAt kern false (now (bytes .entry)) (list .version)) (list .count) (list .first)))) (now (along .entry)) ⌝ }
+    ensures along { λ _. ⌜ now (along .exit) ≡ addAll (contributions (adds kern (now (bytes .entry)) (list .version) used choices) (now (glyphs .entry)) used
+        (visited (headsFrom (headAt kern false (now (bytes .entry)) (list .version)) (list .count) (list .first)))) (now (along .entry)) ⌝ }
 {
     let mut heads = 0;
     let mut left = list.count;
@@ -272,7 +275,9 @@ fn run_part(bytes: &[u8], glyphs: &[u16], along: &mut [i64], choices: Choices) -
     requires { ⌜ (length (now along) ≤ length (now glyphs)) × (length (now along) ≤ roomLimit) ⌝ }
     ensures answer { λ r. ⌜ r .answer ≡ walkAnswer (walkOf kern false (now (bytes .entry))) ⌝ }
     ensures heads { λ r. ⌜ r .heads ≡ length (visited (walkOf kern false (now (bytes .entry)))) ⌝ }
-    ensures along { λ _. ⌜ now (along .exit) ≡ usedPart (walkOf kern false (now (bytes .entry))) (adds kern (now (bytes .entry)) (listOf (now (bytes .entry)) .version) (length (now (along .entry))) choices) (now (glyphs .entry)) (length (now (along .entry))) ⌝ }
+    ensures along { λ _. ⌜ now (along .exit) ≡ usedPart (walkOf kern false (now (bytes .entry)))
+        (adds kern (now (bytes .entry)) (listOf (now (bytes .entry)) .version) (length (now (along .entry))) choices) (now (glyphs .entry))
+        (length (now (along .entry))) ⌝ }
 {
     kerning_lists::zero(along);
     let used = along.len();
@@ -290,9 +295,12 @@ pub fn run_by(
     along: &mut [i64],
     choices: Choices,
 ) -> Run
-    ensures answer { λ r. ⌜ r .answer ≡ runCall kern (now (table .entry)) start false (lineOf (now (glyphs .entry)) (now (tags .entry)) (now (homes .entry)) used) (now (along .entry)) choices .answer ⌝ }
-    ensures heads { λ r. ⌜ r .heads ≡ runCall kern (now (table .entry)) start false (lineOf (now (glyphs .entry)) (now (tags .entry)) (now (homes .entry)) used) (now (along .entry)) choices .heads ⌝ }
-    ensures along { λ _. ⌜ now (along .exit) ≡ runCall kern (now (table .entry)) start false (lineOf (now (glyphs .entry)) (now (tags .entry)) (now (homes .entry)) used) (now (along .entry)) choices .along ⌝ }
+    ensures answer { λ r. ⌜ r .answer ≡ runCall kern (now (table .entry)) start false
+        (lineOf (now (glyphs .entry)) (now (tags .entry)) (now (homes .entry)) used) (now (along .entry)) choices .answer ⌝ }
+    ensures heads { λ r. ⌜ r .heads ≡ runCall kern (now (table .entry)) start false (lineOf (now (glyphs .entry)) (now (tags .entry)) (now (homes .entry)) used)
+        (now (along .entry)) choices .heads ⌝ }
+    ensures along { λ _. ⌜ now (along .exit) ≡ runCall kern (now (table .entry)) start false
+        (lineOf (now (glyphs .entry)) (now (tags .entry)) (now (homes .entry)) used) (now (along .entry)) choices .along ⌝ }
 {
     if let Check::Refused(why) = kerning_lists::refuse_run(
         table.len(),
@@ -326,9 +334,12 @@ pub fn run(
     used: usize,
     along: &mut [i64],
 ) -> Run
-    ensures answer { λ r. ⌜ r .answer ≡ runCall kern (now (table .entry)) start false (lineOf (now (glyphs .entry)) (now (tags .entry)) (now (homes .entry)) used) (now (along .entry)) unchosen .answer ⌝ }
-    ensures heads { λ r. ⌜ r .heads ≡ runCall kern (now (table .entry)) start false (lineOf (now (glyphs .entry)) (now (tags .entry)) (now (homes .entry)) used) (now (along .entry)) unchosen .heads ⌝ }
-    ensures along { λ _. ⌜ now (along .exit) ≡ runCall kern (now (table .entry)) start false (lineOf (now (glyphs .entry)) (now (tags .entry)) (now (homes .entry)) used) (now (along .entry)) unchosen .along ⌝ }
+    ensures answer { λ r. ⌜ r .answer ≡ runCall kern (now (table .entry)) start false
+        (lineOf (now (glyphs .entry)) (now (tags .entry)) (now (homes .entry)) used) (now (along .entry)) unchosen .answer ⌝ }
+    ensures heads { λ r. ⌜ r .heads ≡ runCall kern (now (table .entry)) start false (lineOf (now (glyphs .entry)) (now (tags .entry)) (now (homes .entry)) used)
+        (now (along .entry)) unchosen .heads ⌝ }
+    ensures along { λ _. ⌜ now (along .exit) ≡ runCall kern (now (table .entry)) start false
+        (lineOf (now (glyphs .entry)) (now (tags .entry)) (now (homes .entry)) used) (now (along .entry)) unchosen .along ⌝ }
 {
     run_by(
         table,
@@ -353,7 +364,8 @@ fn pass_in(
 ) -> Answer
     requires { ⌜ (used ≤ length (now glyphs)) × (used ≤ length (now along)) × (used ≤ roomLimit) × Within (2 ^ 60) (now along) ⌝ }
     ensures answer { λ r. ⌜ r ≡ passed kern (now (bytes .entry)) version (now (glyphs .entry)) used choices .answer ⌝ }
-    ensures along { λ _. ⌜ now (along .exit) ≡ addAll (passed kern (now (bytes .entry)) version (now (glyphs .entry)) used choices .additions) (now (along .entry)) ⌝ }
+    ensures along { λ _. ⌜ now (along .exit) ≡ addAll (passed kern (now (bytes .entry)) version (now (glyphs .entry)) used choices .additions)
+        (now (along .entry)) ⌝ }
 {
     let Head::At(subtable) = head_in(version, 0, bytes) else {
         return Answer::Refused(Refusal::Head);
@@ -381,8 +393,10 @@ pub fn pass_by(
     along: &mut [i64],
     choices: Choices,
 ) -> Answer
-    ensures answer { λ r. ⌜ r ≡ passCall kern (now (table .entry)) start version (lineOf (now (glyphs .entry)) (now (tags .entry)) (now (homes .entry)) used) (now (along .entry)) choices .answer ⌝ }
-    ensures along { λ _. ⌜ now (along .exit) ≡ addAll (passCall kern (now (table .entry)) start version (lineOf (now (glyphs .entry)) (now (tags .entry)) (now (homes .entry)) used) (now (along .entry)) choices .additions) (now (along .entry)) ⌝ }
+    ensures answer { λ r. ⌜ r ≡ passCall kern (now (table .entry)) start version (lineOf (now (glyphs .entry)) (now (tags .entry)) (now (homes .entry)) used)
+        (now (along .entry)) choices .answer ⌝ }
+    ensures along { λ _. ⌜ now (along .exit) ≡ addAll (passCall kern (now (table .entry)) start version
+        (lineOf (now (glyphs .entry)) (now (tags .entry)) (now (homes .entry)) used) (now (along .entry)) choices .additions) (now (along .entry)) ⌝ }
 {
     if let Check::Refused(why) = kerning::refuse_pass(
         table.len(),
@@ -415,8 +429,10 @@ pub fn pass(
     used: usize,
     along: &mut [i64],
 ) -> Answer
-    ensures answer { λ r. ⌜ r ≡ passCall kern (now (table .entry)) start version (lineOf (now (glyphs .entry)) (now (tags .entry)) (now (homes .entry)) used) (now (along .entry)) unchosen .answer ⌝ }
-    ensures along { λ _. ⌜ now (along .exit) ≡ addAll (passCall kern (now (table .entry)) start version (lineOf (now (glyphs .entry)) (now (tags .entry)) (now (homes .entry)) used) (now (along .entry)) unchosen .additions) (now (along .entry)) ⌝ }
+    ensures answer { λ r. ⌜ r ≡ passCall kern (now (table .entry)) start version (lineOf (now (glyphs .entry)) (now (tags .entry)) (now (homes .entry)) used)
+        (now (along .entry)) unchosen .answer ⌝ }
+    ensures along { λ _. ⌜ now (along .exit) ≡ addAll (passCall kern (now (table .entry)) start version
+        (lineOf (now (glyphs .entry)) (now (tags .entry)) (now (homes .entry)) used) (now (along .entry)) unchosen .additions) (now (along .entry)) ⌝ }
 {
     pass_by(
         table,

@@ -102,7 +102,8 @@ pub fn step(
     along: &mut [i64],
 ) -> KerningStep
     ensures step { λ r. ⌜ r ≡ stepCall (now (table .entry)) start version state used index glyph (now (along .entry)) .step ⌝ }
-    ensures along { λ _. ⌜ now (along .exit) ≡ addAll (stepCall (now (table .entry)) start version state used index glyph (now (along .entry)) .additions) (now (along .entry)) ⌝ }
+    ensures along { λ _. ⌜ now (along .exit) ≡ addAll (stepCall (now (table .entry)) start version state used index glyph (now (along .entry)) .additions)
+        (now (along .entry)) ⌝ }
 {
     let bytes = parse::from(table, start);
     let machine = open(bytes, version);

@@ -90,7 +90,8 @@ pub fn refuse_pass(
     used: usize,
     along: &[i64],
 ) -> Check
-    ensures { λ r. ⌜ r ≡ refuse (kerningTests «table_length» (lineOf (now (glyphs .entry)) (now (tags .entry)) (now (homes .entry)) used) (now (along .entry))) ⌝ }
+    ensures { λ r. ⌜ r ≡ refuse (kerningTests «table_length» (lineOf (now (glyphs .entry)) (now (tags .entry)) (now (homes .entry)) used)
+        (now (along .entry))) ⌝ }
 {
     if let Check::Refused(why) = answers::refuse_table(table_length) {
         return Check::Refused(why);

@@ -119,7 +119,8 @@ pub fn walk(
 ) -> Walked
     requires { ⌜ (stride ≤ 2 ^ 40) × (depth ≤ 8) × (used ≤ length (now along)) × Within (2 ^ 61) (now along) ⌝ }
     ensures left { λ r. ⌜ r ≡ walk (now (bytes .entry)) rule stride (now (stack .entry)) used depth place .left ⌝ }
-    ensures along { λ _. ⌜ now (along .exit) ≡ addAll (walk (now (bytes .entry)) rule stride (now (stack .entry)) used depth place .additions) (now (along .entry)) ⌝ }
+    ensures along { λ _. ⌜ now (along .exit) ≡ addAll (walk (now (bytes .entry)) rule stride (now (stack .entry)) used depth place .additions)
+        (now (along .entry)) ⌝ }
 {
     let mut next = place;
     let mut left = depth;
@@ -170,7 +171,8 @@ pub fn walk_kern(
 ) -> Walked
     requires { ⌜ (depth ≤ 8) × (used ≤ length (now along)) × Within (2 ^ 61) (now along) ⌝ }
     ensures left { λ r. ⌜ r ≡ walk (now (bytes .entry)) (Rule.Odd crossed) 2 (now (stack .entry)) used depth place .left ⌝ }
-    ensures along { λ _. ⌜ now (along .exit) ≡ addAll (walk (now (bytes .entry)) (Rule.Odd crossed) 2 (now (stack .entry)) used depth place .additions) (now (along .entry)) ⌝ }
+    ensures along { λ _. ⌜ now (along .exit) ≡ addAll (walk (now (bytes .entry)) (Rule.Odd crossed) 2 (now (stack .entry)) used depth place .additions)
+        (now (along .entry)) ⌝ }
 {
     let mut next = place;
     let mut left = depth;
@@ -221,7 +223,8 @@ pub fn walk_kerx(
 ) -> Walked
     requires { ⌜ (stride ≤ 2 ^ 40) × (depth ≤ 8) × (used ≤ length (now along)) × Within (2 ^ 61) (now along) ⌝ }
     ensures left { λ r. ⌜ r ≡ walk (now (bytes .entry)) Rule.Never stride (now (stack .entry)) used depth place .left ⌝ }
-    ensures along { λ _. ⌜ now (along .exit) ≡ addAll (walk (now (bytes .entry)) Rule.Never stride (now (stack .entry)) used depth place .additions) (now (along .entry)) ⌝ }
+    ensures along { λ _. ⌜ now (along .exit) ≡ addAll (walk (now (bytes .entry)) Rule.Never stride (now (stack .entry)) used depth place .additions)
+        (now (along .entry)) ⌝ }
 {
     let mut next = place;
     let mut left = depth;

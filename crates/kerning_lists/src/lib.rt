@@ -176,7 +176,8 @@ pub fn refuse_run(
     used: usize,
     along: &[i64],
 ) -> Check
-    ensures { λ r. ⌜ r ≡ refuse (runTests «table_length» start (lineOf (now (glyphs .entry)) (now (tags .entry)) (now (homes .entry)) used) (now (along .entry))) ⌝ }
+    ensures { λ r. ⌜ r ≡ refuse (runTests «table_length» start (lineOf (now (glyphs .entry)) (now (tags .entry)) (now (homes .entry)) used)
+        (now (along .entry))) ⌝ }
 {
     if let Check::Refused(why) = answers::refuse_table(table_length) {
         return Check::Refused(why);

@@ -233,7 +233,8 @@ fn follow(
 ) -> Walked
     requires { ⌜ (depth ≤ 8) × (used ≤ length (now along)) × Within (2 ^ 61) (now along) ⌝ }
     ensures left { λ r. ⌜ r ≡ walkedFrom (now (bytes .entry)) reading start (now (stack .entry)) depth used .left ⌝ }
-    ensures along { λ _. ⌜ now (along .exit) ≡ addAll (walkedFrom (now (bytes .entry)) reading start (now (stack .entry)) depth used .additions) (now (along .entry)) ⌝ }
+    ensures along { λ _. ⌜ now (along .exit) ≡ addAll (walkedFrom (now (bytes .entry)) reading start (now (stack .entry)) depth used .additions)
+        (now (along .entry)) ⌝ }
 {
     match start {
         Start::None => {
@@ -286,7 +287,8 @@ fn push(
     index: usize,
 ) -> usize
     requires { ⌜ (depth ≤ 8) × (isFull pushes depth ≡ false) ⌝ }
-    ensures { λ r. ⌜ ((state cycles : ℕ) → standing state (now (stack .exit)) r cycles ≡ stacked (standing state (now (stack .entry)) depth cycles) pushes clears index) ⌝ }
+    ensures { λ r. ⌜ ((state cycles : ℕ) → standing state (now (stack .exit)) r cycles ≡ stacked (standing state (now (stack .entry)) depth cycles) pushes
+        clears index) ⌝ }
 {
     let left = kept(clears, depth);
     if !pushes {
@@ -335,8 +337,10 @@ fn act(
     along: &mut [i64],
 ) -> Walked
     requires { ⌜ (depth ≤ 8) × (used ≤ length (now along)) × Within (2 ^ 61) (now along) ⌝ }
-    ensures step { λ r. ⌜ ((state cycles : ℕ) → behind orders (standing state (now (stack .exit)) (r .depth) cycles) r ≡ acted (now (bytes .entry)) reading (standing state (now (stack .entry)) depth cycles) orders used index .step) ⌝ }
-    ensures along { λ _. ⌜ ((state cycles : ℕ) → now (along .exit) ≡ addAll (acted (now (bytes .entry)) reading (standing state (now (stack .entry)) depth cycles) orders used index .additions) (now (along .entry))) ⌝ }
+    ensures step { λ r. ⌜ ((state cycles : ℕ) → behind orders (standing state (now (stack .exit)) (r .depth) cycles) r ≡ acted (now (bytes .entry)) reading
+        (standing state (now (stack .entry)) depth cycles) orders used index .step) ⌝ }
+    ensures along { λ _. ⌜ ((state cycles : ℕ) → now (along .exit) ≡ addAll
+        (acted (now (bytes .entry)) reading (standing state (now (stack .entry)) depth cycles) orders used index .additions) (now (along .entry))) ⌝ }
 {
     if is_full(orders.pushes, depth) {
         return Walked { ended: true, depth };
@@ -358,7 +362,8 @@ fn follow_kern(
 ) -> Walked
     requires { ⌜ (depth ≤ 8) × (used ≤ length (now along)) × Within (2 ^ 61) (now along) ⌝ }
     ensures left { λ r. ⌜ r ≡ walkedFrom (now (bytes .entry)) (Reading.Kern crossed) start (now (stack .entry)) depth used .left ⌝ }
-    ensures along { λ _. ⌜ now (along .exit) ≡ addAll (walkedFrom (now (bytes .entry)) (Reading.Kern crossed) start (now (stack .entry)) depth used .additions) (now (along .entry)) ⌝ }
+    ensures along { λ _. ⌜ now (along .exit) ≡ addAll (walkedFrom (now (bytes .entry)) (Reading.Kern crossed) start (now (stack .entry)) depth used .additions)
+        (now (along .entry)) ⌝ }
 {
     match start {
         Start::None => {
@@ -388,8 +393,11 @@ fn act_kern(
     along: &mut [i64],
 ) -> Walked
     requires { ⌜ (depth ≤ 8) × (used ≤ length (now along)) × Within (2 ^ 61) (now along) ⌝ }
-    ensures step { λ r. ⌜ ((state cycles : ℕ) → behind orders (standing state (now (stack .exit)) (r .depth) cycles) r ≡ acted (now (bytes .entry)) (Reading.Kern crossed) (standing state (now (stack .entry)) depth cycles) orders used index .step) ⌝ }
-    ensures along { λ _. ⌜ ((state cycles : ℕ) → now (along .exit) ≡ addAll (acted (now (bytes .entry)) (Reading.Kern crossed) (standing state (now (stack .entry)) depth cycles) orders used index .additions) (now (along .entry))) ⌝ }
+    ensures step { λ r. ⌜ ((state cycles : ℕ) → behind orders (standing state (now (stack .exit)) (r .depth) cycles) r ≡ acted (now (bytes .entry))
+        (Reading.Kern crossed) (standing state (now (stack .entry)) depth cycles) orders used index .step) ⌝ }
+    ensures along { λ _. ⌜ ((state cycles : ℕ) → now (along .exit) ≡ addAll
+        (acted (now (bytes .entry)) (Reading.Kern crossed) (standing state (now (stack .entry)) depth cycles) orders used index .additions)
+        (now (along .entry))) ⌝ }
 {
     if is_full(orders.pushes, depth) {
         return Walked { ended: true, depth };
@@ -411,7 +419,8 @@ fn follow_kerx(
 ) -> Walked
     requires { ⌜ (depth ≤ 8) × (used ≤ length (now along)) × Within (2 ^ 61) (now along) ⌝ }
     ensures left { λ r. ⌜ ((values : ℕ) → r ≡ walkedFrom (now (bytes .entry)) (Reading.Kerx values tuples) start (now (stack .entry)) depth used .left) ⌝ }
-    ensures along { λ _. ⌜ ((values : ℕ) → now (along .exit) ≡ addAll (walkedFrom (now (bytes .entry)) (Reading.Kerx values tuples) start (now (stack .entry)) depth used .additions) (now (along .entry))) ⌝ }
+    ensures along { λ _. ⌜ ((values : ℕ) → now (along .exit) ≡ addAll (walkedFrom (now (bytes .entry)) (Reading.Kerx values tuples) start (now (stack .entry))
+        depth used .additions) (now (along .entry))) ⌝ }
 {
     match start {
         Start::None => {
@@ -441,8 +450,11 @@ fn act_kerx(
     along: &mut [i64],
 ) -> Walked
     requires { ⌜ (depth ≤ 8) × (used ≤ length (now along)) × Within (2 ^ 61) (now along) ⌝ }
-    ensures step { λ r. ⌜ ((values state cycles : ℕ) → behind orders (standing state (now (stack .exit)) (r .depth) cycles) r ≡ acted (now (bytes .entry)) (Reading.Kerx values tuples) (standing state (now (stack .entry)) depth cycles) orders used index .step) ⌝ }
-    ensures along { λ _. ⌜ ((values state cycles : ℕ) → now (along .exit) ≡ addAll (acted (now (bytes .entry)) (Reading.Kerx values tuples) (standing state (now (stack .entry)) depth cycles) orders used index .additions) (now (along .entry))) ⌝ }
+    ensures step { λ r. ⌜ ((values state cycles : ℕ) → behind orders (standing state (now (stack .exit)) (r .depth) cycles) r ≡ acted (now (bytes .entry))
+        (Reading.Kerx values tuples) (standing state (now (stack .entry)) depth cycles) orders used index .step) ⌝ }
+    ensures along { λ _. ⌜ ((values state cycles : ℕ) → now (along .exit) ≡ addAll
+        (acted (now (bytes .entry)) (Reading.Kerx values tuples) (standing state (now (stack .entry)) depth cycles) orders used index .additions)
+        (now (along .entry))) ⌝ }
 {
     if is_full(orders.pushes, depth) {
         return Walked { ended: true, depth };
@@ -477,8 +489,10 @@ fn next(
     lent: &[u16],
 ) -> Moved
     requires { ⌜ (depth ≤ 8) × (used ≤ length (now along)) × Within (2 ^ 61) (now along) ⌝ }
-    ensures step { λ r. ⌜ stepOf r (now (stack .exit)) ≡ next (classesBy (now (lent .entry)) (ownClasses (now (bytes .entry)) kerning)) (now (bytes .entry)) kerning (standing state (now (stack .entry)) depth cycles) used index glyph .step ⌝ }
-    ensures along { λ _. ⌜ now (along .exit) ≡ addAll (next (classesBy (now (lent .entry)) (ownClasses (now (bytes .entry)) kerning)) (now (bytes .entry)) kerning (standing state (now (stack .entry)) depth cycles) used index glyph .additions) (now (along .entry)) ⌝ }
+    ensures step { λ r. ⌜ stepOf r (now (stack .exit)) ≡ next (classesBy (now (lent .entry)) (ownClasses (now (bytes .entry)) kerning)) (now (bytes .entry))
+        kerning (standing state (now (stack .entry)) depth cycles) used index glyph .step ⌝ }
+    ensures along { λ _. ⌜ now (along .exit) ≡ addAll (next (classesBy (now (lent .entry)) (ownClasses (now (bytes .entry)) kerning)) (now (bytes .entry))
+        kerning (standing state (now (stack .entry)) depth cycles) used index glyph .additions) (now (along .entry)) ⌝ }
 {
     let states = kerning.states;
     let reading = kerning.reading;
@@ -659,7 +673,8 @@ impl KerningState {
     ) -> KerningStep
         requires { ⌜ (self .depth ≤ 8) × (used ≤ length (now along)) × Within (2 ^ 61) (now along) ⌝ }
         ensures step { λ r. ⌜ r ≡ next (ownClasses (now (bytes .entry)) kerning) (now (bytes .entry)) kerning self used index glyph .step ⌝ }
-        ensures along { λ _. ⌜ now (along .exit) ≡ addAll (next (ownClasses (now (bytes .entry)) kerning) (now (bytes .entry)) kerning self used index glyph .additions) (now (along .entry)) ⌝ }
+        ensures along { λ _. ⌜ now (along .exit) ≡ addAll (next (ownClasses (now (bytes .entry)) kerning) (now (bytes .entry)) kerning self used index
+            glyph .additions) (now (along .entry)) ⌝ }
     {
         let none = [0u16; 0];
         let mut stack = self.stack;
@@ -701,7 +716,8 @@ impl KerningState {
         along: &mut [i64],
     ) -> KerningStep
         ensures step { λ r. ⌜ r ≡ stepCall «table_length» (now (bytes .entry)) opened self used index glyph (now (along .entry)) .step ⌝ }
-        ensures along { λ _. ⌜ now (along .exit) ≡ addAll (stepCall «table_length» (now (bytes .entry)) opened self used index glyph (now (along .entry)) .additions) (now (along .entry)) ⌝ }
+        ensures along { λ _. ⌜ now (along .exit) ≡ addAll (stepCall «table_length» (now (bytes .entry)) opened self used index glyph
+            (now (along .entry)) .additions) (now (along .entry)) ⌝ }
     {
         let headless = is_short(opened);
         let tupled = is_tupled(opened);
@@ -766,9 +782,12 @@ fn pass_kern(
     used: usize,
     along: &mut [i64],
 ) -> Answer
-    requires { ⌜ (isClassic (states .edition) ≡ true) × (count ≤ length (now bytes) - base) × (used ≤ length (now glyphs)) × (used ≤ length (now along)) × (used ≤ roomLimit) × Within (2 ^ 60) (now along) ⌝ }
-    ensures answer { λ r. ⌜ r ≡ passedBy (byteClassIn (now (bytes .entry)) base first count) (now (bytes .entry)) (kernOf states crossed) (now (glyphs .entry)) used .answer ⌝ }
-    ensures along { λ _. ⌜ now (along .exit) ≡ addAll (passedBy (byteClassIn (now (bytes .entry)) base first count) (now (bytes .entry)) (kernOf states crossed) (now (glyphs .entry)) used .additions) (now (along .entry)) ⌝ }
+    requires { ⌜ (isClassic (states .edition) ≡ true) × (count ≤ length (now bytes) - base) × (used ≤ length (now glyphs)) × (used ≤ length (now along)) ×
+        (used ≤ roomLimit) × Within (2 ^ 60) (now along) ⌝ }
+    ensures answer { λ r. ⌜ r ≡ passedBy (byteClassIn (now (bytes .entry)) base first count) (now (bytes .entry)) (kernOf states crossed) (now (glyphs .entry))
+        used .answer ⌝ }
+    ensures along { λ _. ⌜ now (along .exit) ≡ addAll (passedBy (byteClassIn (now (bytes .entry)) base first count) (now (bytes .entry)) (kernOf states crossed)
+        (now (glyphs .entry)) used .additions) (now (along .entry)) ⌝ }
 {
     let mut stack = [0; KerningState::DEPTH];
     let mut row = 0;
@@ -820,8 +839,10 @@ fn pass_kerx(
     lent: &[u16],
 ) -> Answer
     requires { ⌜ LiesIn (now bytes) table × (used ≤ length (now glyphs)) × (used ≤ length (now along)) × (used ≤ roomLimit) × Within (2 ^ 60) (now along) ⌝ }
-    ensures answer { λ r. ⌜ r ≡ passedBy (classesBy (now (lent .entry)) (classBy (now (bytes .entry)) table)) (now (bytes .entry)) (kerxOf states values tuples) (now (glyphs .entry)) used .answer ⌝ }
-    ensures along { λ _. ⌜ now (along .exit) ≡ addAll (passedBy (classesBy (now (lent .entry)) (classBy (now (bytes .entry)) table)) (now (bytes .entry)) (kerxOf states values tuples) (now (glyphs .entry)) used .additions) (now (along .entry)) ⌝ }
+    ensures answer { λ r. ⌜ r ≡ passedBy (classesBy (now (lent .entry)) (classBy (now (bytes .entry)) table)) (now (bytes .entry)) (kerxOf states values tuples)
+        (now (glyphs .entry)) used .answer ⌝ }
+    ensures along { λ _. ⌜ now (along .exit) ≡ addAll (passedBy (classesBy (now (lent .entry)) (classBy (now (bytes .entry)) table)) (now (bytes .entry))
+        (kerxOf states values tuples) (now (glyphs .entry)) used .additions) (now (along .entry)) ⌝ }
 {
     let mut memo = opened::nothing_found();
     let mut stack = [0; KerningState::DEPTH];
@@ -864,7 +885,8 @@ fn pass_plain(
 ) -> Answer
     requires { ⌜ (used ≤ length (now glyphs)) × (used ≤ length (now along)) × (used ≤ roomLimit) × Within (2 ^ 60) (now along) ⌝ }
     ensures answer { λ r. ⌜ r ≡ passedIndexed (now (index .entry)) (now (bytes .entry)) kerning (now (glyphs .entry)) used .answer ⌝ }
-    ensures along { λ _. ⌜ now (along .exit) ≡ addAll (passedIndexed (now (index .entry)) (now (bytes .entry)) kerning (now (glyphs .entry)) used .additions) (now (along .entry)) ⌝ }
+    ensures along { λ _. ⌜ now (along .exit) ≡ addAll (passedIndexed (now (index .entry)) (now (bytes .entry)) kerning (now (glyphs .entry)) used .additions)
+        (now (along .entry)) ⌝ }
 {
     let fresh = KerningState::new();
     let mut stack = fresh.stack;
@@ -909,7 +931,8 @@ fn pass_line(
 ) -> Answer
     requires { ⌜ (used ≤ length (now glyphs)) × (used ≤ length (now along)) × (used ≤ roomLimit) × Within (2 ^ 60) (now along) ⌝ }
     ensures answer { λ r. ⌜ r ≡ passedIndexed (now (index .entry)) (now (bytes .entry)) kerning (now (glyphs .entry)) used .answer ⌝ }
-    ensures along { λ _. ⌜ now (along .exit) ≡ addAll (passedIndexed (now (index .entry)) (now (bytes .entry)) kerning (now (glyphs .entry)) used .additions) (now (along .entry)) ⌝ }
+    ensures along { λ _. ⌜ now (along .exit) ≡ addAll (passedIndexed (now (index .entry)) (now (bytes .entry)) kerning (now (glyphs .entry)) used .additions)
+        (now (along .entry)) ⌝ }
 {
     let states = kerning.states;
     let reading = kerning.reading;
@@ -967,7 +990,8 @@ pub fn work_by(
 ) -> Answer
     requires { ⌜ (used ≤ length (now glyphs)) × (used ≤ length (now along)) × (used ≤ roomLimit) × Within (2 ^ 60) (now along) ⌝ }
     ensures answer { λ r. ⌜ r ≡ workedIndexed (now (index .entry)) (now (bytes .entry)) opened (now (glyphs .entry)) used .answer ⌝ }
-    ensures along { λ _. ⌜ now (along .exit) ≡ addAll (workedIndexed (now (index .entry)) (now (bytes .entry)) opened (now (glyphs .entry)) used .additions) (now (along .entry)) ⌝ }
+    ensures along { λ _. ⌜ now (along .exit) ≡ addAll (workedIndexed (now (index .entry)) (now (bytes .entry)) opened (now (glyphs .entry)) used .additions)
+        (now (along .entry)) ⌝ }
 {
     match opened {
         Opened::Ready(kerning) => {

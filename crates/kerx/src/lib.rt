@@ -172,7 +172,8 @@ fn work(
 ) -> Answer
     requires { ⌜ (used ≤ length (now glyphs)) × (used ≤ length (now along)) × (used ≤ roomLimit) × Within (2 ^ 60) (now along) ⌝ }
     ensures answer { λ r. ⌜ r ≡ worked (now (bytes .entry)) version format (now (glyphs .entry)) used choices .answer ⌝ }
-    ensures along { λ _. ⌜ now (along .exit) ≡ addAll (worked (now (bytes .entry)) version format (now (glyphs .entry)) used choices .additions) (now (along .entry)) ⌝ }
+    ensures along { λ _. ⌜ now (along .exit) ≡ addAll (worked (now (bytes .entry)) version format (now (glyphs .entry)) used choices .additions)
+        (now (along .entry)) ⌝ }
 {
     let rule = choices.pairs;
     let reading = choices.reading;
@@ -264,12 +265,17 @@ fn work_with(
     back: &mut [u16],
     choices: Choices,
 ) -> Answer
-    requires { ⌜ (used ≤ length (now glyphs)) × (used ≤ length (now along)) × (used ≤ roomLimit) × Within (2 ^ 60) (now along) × (used ≤ length (now x)) × (used ≤ length (now y)) × (used ≤ length (now back)) ⌝ }
+    requires { ⌜ (used ≤ length (now glyphs)) × (used ≤ length (now along)) × (used ≤ roomLimit) × Within (2 ^ 60) (now along) × (used ≤ length (now x)) ×
+        (used ≤ length (now y)) × (used ≤ length (now back)) ⌝ }
     ensures answer { λ r. ⌜ r ≡ workedWith (now (ankr .entry)) (now (bytes .entry)) version format (now (glyphs .entry)) used choices .answer ⌝ }
-    ensures along { λ _. ⌜ now (along .exit) ≡ addAll (workedWith (now (ankr .entry)) (now (bytes .entry)) version format (now (glyphs .entry)) used choices .additions) (now (along .entry)) ⌝ }
-    ensures x { λ _. ⌜ now (x .exit) ≡ writeX (workedWith (now (ankr .entry)) (now (bytes .entry)) version format (now (glyphs .entry)) used choices .writes) (now (x .entry)) ⌝ }
-    ensures y { λ _. ⌜ now (y .exit) ≡ writeY (workedWith (now (ankr .entry)) (now (bytes .entry)) version format (now (glyphs .entry)) used choices .writes) (now (y .entry)) ⌝ }
-    ensures back { λ _. ⌜ now (back .exit) ≡ writeBack (workedWith (now (ankr .entry)) (now (bytes .entry)) version format (now (glyphs .entry)) used choices .writes) (now (back .entry)) ⌝ }
+    ensures along { λ _. ⌜ now (along .exit) ≡ addAll (workedWith (now (ankr .entry)) (now (bytes .entry)) version format (now (glyphs .entry)) used
+        choices .additions) (now (along .entry)) ⌝ }
+    ensures x { λ _. ⌜ now (x .exit) ≡ writeX (workedWith (now (ankr .entry)) (now (bytes .entry)) version format (now (glyphs .entry)) used choices .writes)
+        (now (x .entry)) ⌝ }
+    ensures y { λ _. ⌜ now (y .exit) ≡ writeY (workedWith (now (ankr .entry)) (now (bytes .entry)) version format (now (glyphs .entry)) used choices .writes)
+        (now (y .entry)) ⌝ }
+    ensures back { λ _. ⌜ now (back .exit) ≡ writeBack (workedWith (now (ankr .entry)) (now (bytes .entry)) version format (now (glyphs .entry)) used
+        choices .writes) (now (back .entry)) ⌝ }
 {
     if format == AnchorState::FORMAT {
         let reading = choices.reading;
@@ -294,11 +300,16 @@ fn work_in_run(
     back: &mut [u16],
     choices: Choices,
 )
-    requires { ⌜ (used ≤ length (now glyphs)) × (used ≤ length (now along)) × (used ≤ roomLimit) × Within (2 ^ 60) (now along) × Lent used (now x) (now y) (now back) ⌝ }
-    ensures along { λ _. ⌜ now (along .exit) ≡ addAll (worked (now (part .entry)) version format (now (glyphs .entry)) used choices .additions) (now (along .entry)) ⌝ }
-    ensures x { λ _. ⌜ now (x .exit) ≡ writeX (workedWith (now (ankr .entry)) (now (part .entry)) version format (now (glyphs .entry)) used choices .writes) (now (x .entry)) ⌝ }
-    ensures y { λ _. ⌜ now (y .exit) ≡ writeY (workedWith (now (ankr .entry)) (now (part .entry)) version format (now (glyphs .entry)) used choices .writes) (now (y .entry)) ⌝ }
-    ensures back { λ _. ⌜ now (back .exit) ≡ writeBack (workedWith (now (ankr .entry)) (now (part .entry)) version format (now (glyphs .entry)) used choices .writes) (now (back .entry)) ⌝ }
+    requires { ⌜ (used ≤ length (now glyphs)) × (used ≤ length (now along)) × (used ≤ roomLimit) × Within (2 ^ 60) (now along) × Lent used (now x) (now y)
+        (now back) ⌝ }
+    ensures along { λ _. ⌜ now (along .exit) ≡ addAll (worked (now (part .entry)) version format (now (glyphs .entry)) used choices .additions)
+        (now (along .entry)) ⌝ }
+    ensures x { λ _. ⌜ now (x .exit) ≡ writeX (workedWith (now (ankr .entry)) (now (part .entry)) version format (now (glyphs .entry)) used choices .writes)
+        (now (x .entry)) ⌝ }
+    ensures y { λ _. ⌜ now (y .exit) ≡ writeY (workedWith (now (ankr .entry)) (now (part .entry)) version format (now (glyphs .entry)) used choices .writes)
+        (now (y .entry)) ⌝ }
+    ensures back { λ _. ⌜ now (back .exit) ≡ writeBack (workedWith (now (ankr .entry)) (now (part .entry)) version format (now (glyphs .entry)) used
+        choices .writes) (now (back .entry)) ⌝ }
 {
     if x.len() < used {
         let _ = work(part, version, format, glyphs, used, along, choices);
@@ -334,13 +345,18 @@ fn work_turned(
     back: &mut [u16],
     choices: Choices,
 )
-    requires { ⌜ (used ≤ length (now glyphs)) × (used ≤ length (now tags)) × (used ≤ length (now along)) × (used ≤ roomLimit) × Within (2 ^ 60) (now along) × Lent used (now x) (now y) (now back) ⌝ }
+    requires { ⌜ (used ≤ length (now glyphs)) × (used ≤ length (now tags)) × (used ≤ length (now along)) × (used ≤ roomLimit) × Within (2 ^ 60) (now along) ×
+        Lent used (now x) (now y) (now back) ⌝ }
     ensures glyphs { λ _. ⌜ now (glyphs .exit) ≡ now (glyphs .entry) ⌝ }
     ensures tags { λ _. ⌜ now (tags .exit) ≡ now (tags .entry) ⌝ }
-    ensures along { λ _. ⌜ now (along .exit) ≡ addAll (turnedBack used (worked (now (part .entry)) version format (backward used (now (glyphs .entry))) used choices .additions)) (now (along .entry)) ⌝ }
-    ensures x { λ _. ⌜ now (x .exit) ≡ writeX (turnedMarks used (workedWith (now (ankr .entry)) (now (part .entry)) version format (backward used (now (glyphs .entry))) used choices .writes)) (now (x .entry)) ⌝ }
-    ensures y { λ _. ⌜ now (y .exit) ≡ writeY (turnedMarks used (workedWith (now (ankr .entry)) (now (part .entry)) version format (backward used (now (glyphs .entry))) used choices .writes)) (now (y .entry)) ⌝ }
-    ensures back { λ _. ⌜ now (back .exit) ≡ writeBack (turnedMarks used (workedWith (now (ankr .entry)) (now (part .entry)) version format (backward used (now (glyphs .entry))) used choices .writes)) (now (back .entry)) ⌝ }
+    ensures along { λ _. ⌜ now (along .exit) ≡ addAll (turnedBack used (worked (now (part .entry)) version format (backward used (now (glyphs .entry))) used
+        choices .additions)) (now (along .entry)) ⌝ }
+    ensures x { λ _. ⌜ now (x .exit) ≡ writeX (turnedMarks used (workedWith (now (ankr .entry)) (now (part .entry)) version format
+        (backward used (now (glyphs .entry))) used choices .writes)) (now (x .entry)) ⌝ }
+    ensures y { λ _. ⌜ now (y .exit) ≡ writeY (turnedMarks used (workedWith (now (ankr .entry)) (now (part .entry)) version format
+        (backward used (now (glyphs .entry))) used choices .writes)) (now (y .entry)) ⌝ }
+    ensures back { λ _. ⌜ now (back .exit) ≡ writeBack (turnedMarks used (workedWith (now (ankr .entry)) (now (part .entry)) version format
+        (backward used (now (glyphs .entry))) used choices .writes)) (now (back .entry)) ⌝ }
 {
     line::edits::reverse(glyphs, tags, used);
     kerning_lists::turn(along, used);
@@ -378,13 +394,18 @@ fn visit(
     back: &mut [u16],
     choices: Choices,
 )
-    requires { ⌜ (used ≤ length (now glyphs)) × (used ≤ length (now tags)) × (used ≤ length (now along)) × (used ≤ roomLimit) × Within (2 ^ 60) (now along) × Lent used (now x) (now y) (now back) ⌝ }
+    requires { ⌜ (used ≤ length (now glyphs)) × (used ≤ length (now tags)) × (used ≤ length (now along)) × (used ≤ roomLimit) × Within (2 ^ 60) (now along) ×
+        Lent used (now x) (now y) (now back) ⌝ }
     ensures glyphs { λ _. ⌜ now (glyphs .exit) ≡ now (glyphs .entry) ⌝ }
     ensures tags { λ _. ⌜ now (tags .exit) ≡ now (tags .entry) ⌝ }
-    ensures along { λ _. ⌜ now (along .exit) ≡ addAll (contribution (adds kerx (now (bytes .entry)) version used choices) (now (glyphs .entry)) used subtable) (now (along .entry)) ⌝ }
-    ensures x { λ _. ⌜ now (x .exit) ≡ writeX (marking (marks (now (ankr .entry)) (now (bytes .entry)) version used choices) (now (glyphs .entry)) used subtable) (now (x .entry)) ⌝ }
-    ensures y { λ _. ⌜ now (y .exit) ≡ writeY (marking (marks (now (ankr .entry)) (now (bytes .entry)) version used choices) (now (glyphs .entry)) used subtable) (now (y .entry)) ⌝ }
-    ensures back { λ _. ⌜ now (back .exit) ≡ writeBack (marking (marks (now (ankr .entry)) (now (bytes .entry)) version used choices) (now (glyphs .entry)) used subtable) (now (back .entry)) ⌝ }
+    ensures along { λ _. ⌜ now (along .exit) ≡ addAll (contribution (adds kerx (now (bytes .entry)) version used choices) (now (glyphs .entry)) used subtable)
+        (now (along .entry)) ⌝ }
+    ensures x { λ _. ⌜ now (x .exit) ≡ writeX (marking (marks (now (ankr .entry)) (now (bytes .entry)) version used choices) (now (glyphs .entry)) used
+        subtable) (now (x .entry)) ⌝ }
+    ensures y { λ _. ⌜ now (y .exit) ≡ writeY (marking (marks (now (ankr .entry)) (now (bytes .entry)) version used choices) (now (glyphs .entry)) used
+        subtable) (now (y .entry)) ⌝ }
+    ensures back { λ _. ⌜ now (back .exit) ≡ writeBack (marking (marks (now (ankr .entry)) (now (bytes .entry)) version used choices) (now (glyphs .entry)) used
+        subtable) (now (back .entry)) ⌝ }
 {
     if subtable.passed_over {
         return;
@@ -437,15 +458,20 @@ fn run_list(
     back: &mut [u16],
     choices: Choices,
 ) -> Run
-    requires { ⌜ (used ≤ length (now glyphs)) × (used ≤ length (now tags)) × (used ≤ length (now along)) × (used ≤ roomLimit) × Within 0 (now along) × Lent used (now x) (now y) (now back) ⌝ }
+    requires { ⌜ (used ≤ length (now glyphs)) × (used ≤ length (now tags)) × (used ≤ length (now along)) × (used ≤ roomLimit) × Within 0 (now along) × Lent used
+        (now x) (now y) (now back) ⌝ }
     ensures answer { λ r. ⌜ r .answer ≡ walkAnswer (headsFrom (headAt kerx rtl (now (bytes .entry)) (list .version)) (list .count) (list .first)) ⌝ }
     ensures heads { λ r. ⌜ r .heads ≡ length (visitedBy rtl (now (bytes .entry)) list) ⌝ }
     ensures glyphs { λ _. ⌜ now (glyphs .exit) ≡ now (glyphs .entry) ⌝ }
     ensures tags { λ _. ⌜ now (tags .exit) ≡ now (tags .entry) ⌝ }
-    ensures along { λ _. ⌜ now (along .exit) ≡ addAll (contributions (adds kerx (now (bytes .entry)) (list .version) used choices) (now (glyphs .entry)) used (visitedBy rtl (now (bytes .entry)) list)) (now (along .entry)) ⌝ }
-    ensures x { λ _. ⌜ now (x .exit) ≡ writeX (listMarks (now (ankr .entry)) (now (bytes .entry)) list rtl (now (glyphs .entry)) used choices) (now (x .entry)) ⌝ }
-    ensures y { λ _. ⌜ now (y .exit) ≡ writeY (listMarks (now (ankr .entry)) (now (bytes .entry)) list rtl (now (glyphs .entry)) used choices) (now (y .entry)) ⌝ }
-    ensures back { λ _. ⌜ now (back .exit) ≡ writeBack (listMarks (now (ankr .entry)) (now (bytes .entry)) list rtl (now (glyphs .entry)) used choices) (now (back .entry)) ⌝ }
+    ensures along { λ _. ⌜ now (along .exit) ≡ addAll (contributions (adds kerx (now (bytes .entry)) (list .version) used choices) (now (glyphs .entry)) used
+        (visitedBy rtl (now (bytes .entry)) list)) (now (along .entry)) ⌝ }
+    ensures x { λ _. ⌜ now (x .exit) ≡ writeX (listMarks (now (ankr .entry)) (now (bytes .entry)) list rtl (now (glyphs .entry)) used choices)
+        (now (x .entry)) ⌝ }
+    ensures y { λ _. ⌜ now (y .exit) ≡ writeY (listMarks (now (ankr .entry)) (now (bytes .entry)) list rtl (now (glyphs .entry)) used choices)
+        (now (y .entry)) ⌝ }
+    ensures back { λ _. ⌜ now (back .exit) ≡ writeBack (listMarks (now (ankr .entry)) (now (bytes .entry)) list rtl (now (glyphs .entry)) used choices)
+        (now (back .entry)) ⌝ }
 {
     let mut heads = 0;
     let mut left = list.count;
@@ -500,15 +526,21 @@ fn run_part(
     back: &mut [u16],
     choices: Choices,
 ) -> Run
-    requires { ⌜ (length (now along) ≤ length (now glyphs)) × (length (now along) ≤ length (now tags)) × (length (now along) ≤ roomLimit) × Lent (length (now along)) (now x) (now y) (now back) ⌝ }
+    requires { ⌜ (length (now along) ≤ length (now glyphs)) × (length (now along) ≤ length (now tags)) × (length (now along) ≤ roomLimit) × Lent
+        (length (now along)) (now x) (now y) (now back) ⌝ }
     ensures answer { λ r. ⌜ r .answer ≡ walkAnswer (walkOf kerx rtl (now (bytes .entry))) ⌝ }
     ensures heads { λ r. ⌜ r .heads ≡ length (visited (walkOf kerx rtl (now (bytes .entry)))) ⌝ }
     ensures glyphs { λ _. ⌜ now (glyphs .exit) ≡ now (glyphs .entry) ⌝ }
     ensures tags { λ _. ⌜ now (tags .exit) ≡ now (tags .entry) ⌝ }
-    ensures along { λ _. ⌜ now (along .exit) ≡ usedPart (walkOf kerx rtl (now (bytes .entry))) (adds kerx (now (bytes .entry)) (listOf (now (bytes .entry)) .version) (length (now (along .entry))) choices) (now (glyphs .entry)) (length (now (along .entry))) ⌝ }
-    ensures x { λ _. ⌜ now (x .exit) ≡ writeX (runMarks (now (ankr .entry)) (now (bytes .entry)) rtl (now (glyphs .entry)) (length (now (along .entry))) choices) (zeros (length (now (x .entry)))) ⌝ }
-    ensures y { λ _. ⌜ now (y .exit) ≡ writeY (runMarks (now (ankr .entry)) (now (bytes .entry)) rtl (now (glyphs .entry)) (length (now (along .entry))) choices) (zeros (length (now (y .entry)))) ⌝ }
-    ensures back { λ _. ⌜ now (back .exit) ≡ writeBack (runMarks (now (ankr .entry)) (now (bytes .entry)) rtl (now (glyphs .entry)) (length (now (along .entry))) choices) (nones (length (now (back .entry)))) ⌝ }
+    ensures along { λ _. ⌜ now (along .exit) ≡ usedPart (walkOf kerx rtl (now (bytes .entry)))
+        (adds kerx (now (bytes .entry)) (listOf (now (bytes .entry)) .version) (length (now (along .entry))) choices) (now (glyphs .entry))
+        (length (now (along .entry))) ⌝ }
+    ensures x { λ _. ⌜ now (x .exit) ≡ writeX (runMarks (now (ankr .entry)) (now (bytes .entry)) rtl (now (glyphs .entry)) (length (now (along .entry)))
+        choices) (zeros (length (now (x .entry)))) ⌝ }
+    ensures y { λ _. ⌜ now (y .exit) ≡ writeY (runMarks (now (ankr .entry)) (now (bytes .entry)) rtl (now (glyphs .entry)) (length (now (along .entry)))
+        choices) (zeros (length (now (y .entry)))) ⌝ }
+    ensures back { λ _. ⌜ now (back .exit) ≡ writeBack (runMarks (now (ankr .entry)) (now (bytes .entry)) rtl (now (glyphs .entry))
+        (length (now (along .entry))) choices) (nones (length (now (back .entry)))) ⌝ }
 {
     kerning_lists::zero(along);
     marks::zero(x, y, back);
@@ -540,7 +572,8 @@ fn takes_run(
     y: &[i32],
     back: &[u16],
 ) -> bool
-    ensures { λ r. ⌜ r ≡ takesRun (lineOf (now (glyphs .entry)) (now (tags .entry)) (now (homes .entry)) used) (now (along .entry)) (now (x .entry)) (now (y .entry)) (now (back .entry)) ⌝ }
+    ensures { λ r. ⌜ r ≡ takesRun (lineOf (now (glyphs .entry)) (now (tags .entry)) (now (homes .entry)) used) (now (along .entry)) (now (x .entry))
+        (now (y .entry)) (now (back .entry)) ⌝ }
 {
     if !anchor_machine::are_long(glyphs.len(), x, y, back) {
         return false;
@@ -583,14 +616,26 @@ pub fn run_anchored(
     back: &mut [u16],
     choices: Choices,
 ) -> Run
-    ensures answer { λ r. ⌜ r .answer ≡ Anchored.runCall (now (table .entry)) (now (ankr .entry)) start rtl (lineOf (now (glyphs .entry)) (now (tags .entry)) (now (homes .entry)) used) (now (along .entry)) (now (x .entry)) (now (y .entry)) (now (back .entry)) choices .ran .answer ⌝ }
-    ensures heads { λ r. ⌜ r .heads ≡ Anchored.runCall (now (table .entry)) (now (ankr .entry)) start rtl (lineOf (now (glyphs .entry)) (now (tags .entry)) (now (homes .entry)) used) (now (along .entry)) (now (x .entry)) (now (y .entry)) (now (back .entry)) choices .ran .heads ⌝ }
+    ensures answer { λ r. ⌜ r .answer ≡ Anchored.runCall (now (table .entry)) (now (ankr .entry)) start rtl
+        (lineOf (now (glyphs .entry)) (now (tags .entry)) (now (homes .entry)) used) (now (along .entry)) (now (x .entry)) (now (y .entry)) (now (back .entry))
+        choices .ran .answer ⌝ }
+    ensures heads { λ r. ⌜ r .heads ≡ Anchored.runCall (now (table .entry)) (now (ankr .entry)) start rtl
+        (lineOf (now (glyphs .entry)) (now (tags .entry)) (now (homes .entry)) used) (now (along .entry)) (now (x .entry)) (now (y .entry)) (now (back .entry))
+        choices .ran .heads ⌝ }
     ensures glyphs { λ _. ⌜ now (glyphs .exit) ≡ now (glyphs .entry) ⌝ }
     ensures tags { λ _. ⌜ now (tags .exit) ≡ now (tags .entry) ⌝ }
-    ensures along { λ _. ⌜ now (along .exit) ≡ Anchored.runCall (now (table .entry)) (now (ankr .entry)) start rtl (lineOf (now (glyphs .entry)) (now (tags .entry)) (now (homes .entry)) used) (now (along .entry)) (now (x .entry)) (now (y .entry)) (now (back .entry)) choices .ran .along ⌝ }
-    ensures x { λ _. ⌜ now (x .exit) ≡ Anchored.runCall (now (table .entry)) (now (ankr .entry)) start rtl (lineOf (now (glyphs .entry)) (now (tags .entry)) (now (homes .entry)) used) (now (along .entry)) (now (x .entry)) (now (y .entry)) (now (back .entry)) choices .x ⌝ }
-    ensures y { λ _. ⌜ now (y .exit) ≡ Anchored.runCall (now (table .entry)) (now (ankr .entry)) start rtl (lineOf (now (glyphs .entry)) (now (tags .entry)) (now (homes .entry)) used) (now (along .entry)) (now (x .entry)) (now (y .entry)) (now (back .entry)) choices .y ⌝ }
-    ensures back { λ _. ⌜ now (back .exit) ≡ Anchored.runCall (now (table .entry)) (now (ankr .entry)) start rtl (lineOf (now (glyphs .entry)) (now (tags .entry)) (now (homes .entry)) used) (now (along .entry)) (now (x .entry)) (now (y .entry)) (now (back .entry)) choices .back ⌝ }
+    ensures along { λ _. ⌜ now (along .exit) ≡ Anchored.runCall (now (table .entry)) (now (ankr .entry)) start rtl
+        (lineOf (now (glyphs .entry)) (now (tags .entry)) (now (homes .entry)) used) (now (along .entry)) (now (x .entry)) (now (y .entry)) (now (back .entry))
+        choices .ran .along ⌝ }
+    ensures x { λ _. ⌜ now (x .exit) ≡ Anchored.runCall (now (table .entry)) (now (ankr .entry)) start rtl
+        (lineOf (now (glyphs .entry)) (now (tags .entry)) (now (homes .entry)) used) (now (along .entry)) (now (x .entry)) (now (y .entry)) (now (back .entry))
+        choices .x ⌝ }
+    ensures y { λ _. ⌜ now (y .exit) ≡ Anchored.runCall (now (table .entry)) (now (ankr .entry)) start rtl
+        (lineOf (now (glyphs .entry)) (now (tags .entry)) (now (homes .entry)) used) (now (along .entry)) (now (x .entry)) (now (y .entry)) (now (back .entry))
+        choices .y ⌝ }
+    ensures back { λ _. ⌜ now (back .exit) ≡ Anchored.runCall (now (table .entry)) (now (ankr .entry)) start rtl
+        (lineOf (now (glyphs .entry)) (now (tags .entry)) (now (homes .entry)) used) (now (along .entry)) (now (x .entry)) (now (y .entry)) (now (back .entry))
+        choices .back ⌝ }
 {
     let takes = takes_run(glyphs, tags, homes, used, along, x, y, back);
     if let Check::Refused(why) = refuse_run(table.len(), ankr.len(), start, takes) {
@@ -613,7 +658,8 @@ pub fn run_anchored(
     )
 }
 
-// A whole run over the list at `start` by the choices made, of a line that goes from right to left or not. The line is turned and turned back, and so unchanged.
+// A whole run over the list at `start` by the choices made, of a line that goes from right to left or not. The line is turned and turned back,
+// and so unchanged.
 pub fn run_by(
     table: &[u8],
     start: usize,
@@ -625,11 +671,14 @@ pub fn run_by(
     along: &mut [i64],
     choices: Choices,
 ) -> Run
-    ensures answer { λ r. ⌜ r .answer ≡ runCall kerx (now (table .entry)) start rtl (lineOf (now (glyphs .entry)) (now (tags .entry)) (now (homes .entry)) used) (now (along .entry)) choices .answer ⌝ }
-    ensures heads { λ r. ⌜ r .heads ≡ runCall kerx (now (table .entry)) start rtl (lineOf (now (glyphs .entry)) (now (tags .entry)) (now (homes .entry)) used) (now (along .entry)) choices .heads ⌝ }
+    ensures answer { λ r. ⌜ r .answer ≡ runCall kerx (now (table .entry)) start rtl (lineOf (now (glyphs .entry)) (now (tags .entry)) (now (homes .entry)) used)
+        (now (along .entry)) choices .answer ⌝ }
+    ensures heads { λ r. ⌜ r .heads ≡ runCall kerx (now (table .entry)) start rtl (lineOf (now (glyphs .entry)) (now (tags .entry)) (now (homes .entry)) used)
+        (now (along .entry)) choices .heads ⌝ }
     ensures glyphs { λ _. ⌜ now (glyphs .exit) ≡ now (glyphs .entry) ⌝ }
     ensures tags { λ _. ⌜ now (tags .exit) ≡ now (tags .entry) ⌝ }
-    ensures along { λ _. ⌜ now (along .exit) ≡ runCall kerx (now (table .entry)) start rtl (lineOf (now (glyphs .entry)) (now (tags .entry)) (now (homes .entry)) used) (now (along .entry)) choices .along ⌝ }
+    ensures along { λ _. ⌜ now (along .exit) ≡ runCall kerx (now (table .entry)) start rtl
+        (lineOf (now (glyphs .entry)) (now (tags .entry)) (now (homes .entry)) used) (now (along .entry)) choices .along ⌝ }
 {
     if let Check::Refused(why) = kerning_lists::refuse_run(
         table.len(),
@@ -674,11 +723,14 @@ pub fn run(
     used: usize,
     along: &mut [i64],
 ) -> Run
-    ensures answer { λ r. ⌜ r .answer ≡ runCall kerx (now (table .entry)) start rtl (lineOf (now (glyphs .entry)) (now (tags .entry)) (now (homes .entry)) used) (now (along .entry)) unchosen .answer ⌝ }
-    ensures heads { λ r. ⌜ r .heads ≡ runCall kerx (now (table .entry)) start rtl (lineOf (now (glyphs .entry)) (now (tags .entry)) (now (homes .entry)) used) (now (along .entry)) unchosen .heads ⌝ }
+    ensures answer { λ r. ⌜ r .answer ≡ runCall kerx (now (table .entry)) start rtl (lineOf (now (glyphs .entry)) (now (tags .entry)) (now (homes .entry)) used)
+        (now (along .entry)) unchosen .answer ⌝ }
+    ensures heads { λ r. ⌜ r .heads ≡ runCall kerx (now (table .entry)) start rtl (lineOf (now (glyphs .entry)) (now (tags .entry)) (now (homes .entry)) used)
+        (now (along .entry)) unchosen .heads ⌝ }
     ensures glyphs { λ _. ⌜ now (glyphs .exit) ≡ now (glyphs .entry) ⌝ }
     ensures tags { λ _. ⌜ now (tags .exit) ≡ now (tags .entry) ⌝ }
-    ensures along { λ _. ⌜ now (along .exit) ≡ runCall kerx (now (table .entry)) start rtl (lineOf (now (glyphs .entry)) (now (tags .entry)) (now (homes .entry)) used) (now (along .entry)) unchosen .along ⌝ }
+    ensures along { λ _. ⌜ now (along .exit) ≡ runCall kerx (now (table .entry)) start rtl
+        (lineOf (now (glyphs .entry)) (now (tags .entry)) (now (homes .entry)) used) (now (along .entry)) unchosen .along ⌝ }
 {
     run_by(
         table,
@@ -704,7 +756,8 @@ fn pass_in(
 ) -> Answer
     requires { ⌜ (used ≤ length (now glyphs)) × (used ≤ length (now along)) × (used ≤ roomLimit) × Within (2 ^ 60) (now along) ⌝ }
     ensures answer { λ r. ⌜ r ≡ passed kerx (now (bytes .entry)) version (now (glyphs .entry)) used choices .answer ⌝ }
-    ensures along { λ _. ⌜ now (along .exit) ≡ addAll (passed kerx (now (bytes .entry)) version (now (glyphs .entry)) used choices .additions) (now (along .entry)) ⌝ }
+    ensures along { λ _. ⌜ now (along .exit) ≡ addAll (passed kerx (now (bytes .entry)) version (now (glyphs .entry)) used choices .additions)
+        (now (along .entry)) ⌝ }
 {
     let Head::At(subtable) = head_in(false, version, 0, bytes) else {
         return Answer::Refused(Refusal::Head);
@@ -732,8 +785,10 @@ pub fn pass_by(
     along: &mut [i64],
     choices: Choices,
 ) -> Answer
-    ensures answer { λ r. ⌜ r ≡ passCall kerx (now (table .entry)) start version (lineOf (now (glyphs .entry)) (now (tags .entry)) (now (homes .entry)) used) (now (along .entry)) choices .answer ⌝ }
-    ensures along { λ _. ⌜ now (along .exit) ≡ addAll (passCall kerx (now (table .entry)) start version (lineOf (now (glyphs .entry)) (now (tags .entry)) (now (homes .entry)) used) (now (along .entry)) choices .additions) (now (along .entry)) ⌝ }
+    ensures answer { λ r. ⌜ r ≡ passCall kerx (now (table .entry)) start version (lineOf (now (glyphs .entry)) (now (tags .entry)) (now (homes .entry)) used)
+        (now (along .entry)) choices .answer ⌝ }
+    ensures along { λ _. ⌜ now (along .exit) ≡ addAll (passCall kerx (now (table .entry)) start version
+        (lineOf (now (glyphs .entry)) (now (tags .entry)) (now (homes .entry)) used) (now (along .entry)) choices .additions) (now (along .entry)) ⌝ }
 {
     if let Check::Refused(why) = kerning::refuse_pass(
         table.len(),
@@ -766,8 +821,10 @@ pub fn pass(
     used: usize,
     along: &mut [i64],
 ) -> Answer
-    ensures answer { λ r. ⌜ r ≡ passCall kerx (now (table .entry)) start version (lineOf (now (glyphs .entry)) (now (tags .entry)) (now (homes .entry)) used) (now (along .entry)) unchosen .answer ⌝ }
-    ensures along { λ _. ⌜ now (along .exit) ≡ addAll (passCall kerx (now (table .entry)) start version (lineOf (now (glyphs .entry)) (now (tags .entry)) (now (homes .entry)) used) (now (along .entry)) unchosen .additions) (now (along .entry)) ⌝ }
+    ensures answer { λ r. ⌜ r ≡ passCall kerx (now (table .entry)) start version (lineOf (now (glyphs .entry)) (now (tags .entry)) (now (homes .entry)) used)
+        (now (along .entry)) unchosen .answer ⌝ }
+    ensures along { λ _. ⌜ now (along .exit) ≡ addAll (passCall kerx (now (table .entry)) start version
+        (lineOf (now (glyphs .entry)) (now (tags .entry)) (now (homes .entry)) used) (now (along .entry)) unchosen .additions) (now (along .entry)) ⌝ }
 {
     pass_by(
         table,
@@ -795,12 +852,17 @@ fn pass_with(
     back: &mut [u16],
     choices: Choices,
 ) -> Answer
-    requires { ⌜ (used ≤ length (now glyphs)) × (used ≤ length (now along)) × (used ≤ roomLimit) × Within (2 ^ 60) (now along) × (used ≤ length (now x)) × (used ≤ length (now y)) × (used ≤ length (now back)) ⌝ }
+    requires { ⌜ (used ≤ length (now glyphs)) × (used ≤ length (now along)) × (used ≤ roomLimit) × Within (2 ^ 60) (now along) × (used ≤ length (now x)) ×
+        (used ≤ length (now y)) × (used ≤ length (now back)) ⌝ }
     ensures answer { λ r. ⌜ r ≡ passedWith (now (ankr .entry)) (now (bytes .entry)) version (now (glyphs .entry)) used choices .answer ⌝ }
-    ensures along { λ _. ⌜ now (along .exit) ≡ addAll (passedWith (now (ankr .entry)) (now (bytes .entry)) version (now (glyphs .entry)) used choices .additions) (now (along .entry)) ⌝ }
-    ensures x { λ _. ⌜ now (x .exit) ≡ writeX (passedWith (now (ankr .entry)) (now (bytes .entry)) version (now (glyphs .entry)) used choices .writes) (now (x .entry)) ⌝ }
-    ensures y { λ _. ⌜ now (y .exit) ≡ writeY (passedWith (now (ankr .entry)) (now (bytes .entry)) version (now (glyphs .entry)) used choices .writes) (now (y .entry)) ⌝ }
-    ensures back { λ _. ⌜ now (back .exit) ≡ writeBack (passedWith (now (ankr .entry)) (now (bytes .entry)) version (now (glyphs .entry)) used choices .writes) (now (back .entry)) ⌝ }
+    ensures along { λ _. ⌜ now (along .exit) ≡ addAll (passedWith (now (ankr .entry)) (now (bytes .entry)) version (now (glyphs .entry)) used
+        choices .additions) (now (along .entry)) ⌝ }
+    ensures x { λ _. ⌜ now (x .exit) ≡ writeX (passedWith (now (ankr .entry)) (now (bytes .entry)) version (now (glyphs .entry)) used choices .writes)
+        (now (x .entry)) ⌝ }
+    ensures y { λ _. ⌜ now (y .exit) ≡ writeY (passedWith (now (ankr .entry)) (now (bytes .entry)) version (now (glyphs .entry)) used choices .writes)
+        (now (y .entry)) ⌝ }
+    ensures back { λ _. ⌜ now (back .exit) ≡ writeBack (passedWith (now (ankr .entry)) (now (bytes .entry)) version (now (glyphs .entry)) used choices .writes)
+        (now (back .entry)) ⌝ }
 {
     let Head::At(subtable) = head_in(false, version, 0, bytes) else {
         return Answer::Refused(Refusal::Head);
@@ -831,7 +893,8 @@ fn takes_pass(
     y: &[i32],
     back: &[u16],
 ) -> bool
-    ensures { λ r. ⌜ r ≡ takesPass (lineOf (now (glyphs .entry)) (now (tags .entry)) (now (homes .entry)) used) (now (along .entry)) (now (x .entry)) (now (y .entry)) (now (back .entry)) ⌝ }
+    ensures { λ r. ⌜ r ≡ takesPass (lineOf (now (glyphs .entry)) (now (tags .entry)) (now (homes .entry)) used) (now (along .entry)) (now (x .entry))
+        (now (y .entry)) (now (back .entry)) ⌝ }
 {
     if !anchor_machine::are_long(glyphs.len(), x, y, back) {
         return false;
@@ -871,11 +934,21 @@ pub fn pass_anchored(
     back: &mut [u16],
     choices: Choices,
 ) -> Answer
-    ensures answer { λ r. ⌜ r ≡ Anchored.passCall (now (table .entry)) (now (ankr .entry)) start version (lineOf (now (glyphs .entry)) (now (tags .entry)) (now (homes .entry)) used) (now (along .entry)) (now (x .entry)) (now (y .entry)) (now (back .entry)) choices .answer ⌝ }
-    ensures along { λ _. ⌜ now (along .exit) ≡ addAll (Anchored.passCall (now (table .entry)) (now (ankr .entry)) start version (lineOf (now (glyphs .entry)) (now (tags .entry)) (now (homes .entry)) used) (now (along .entry)) (now (x .entry)) (now (y .entry)) (now (back .entry)) choices .additions) (now (along .entry)) ⌝ }
-    ensures x { λ _. ⌜ now (x .exit) ≡ writeX (Anchored.passCall (now (table .entry)) (now (ankr .entry)) start version (lineOf (now (glyphs .entry)) (now (tags .entry)) (now (homes .entry)) used) (now (along .entry)) (now (x .entry)) (now (y .entry)) (now (back .entry)) choices .writes) (now (x .entry)) ⌝ }
-    ensures y { λ _. ⌜ now (y .exit) ≡ writeY (Anchored.passCall (now (table .entry)) (now (ankr .entry)) start version (lineOf (now (glyphs .entry)) (now (tags .entry)) (now (homes .entry)) used) (now (along .entry)) (now (x .entry)) (now (y .entry)) (now (back .entry)) choices .writes) (now (y .entry)) ⌝ }
-    ensures back { λ _. ⌜ now (back .exit) ≡ writeBack (Anchored.passCall (now (table .entry)) (now (ankr .entry)) start version (lineOf (now (glyphs .entry)) (now (tags .entry)) (now (homes .entry)) used) (now (along .entry)) (now (x .entry)) (now (y .entry)) (now (back .entry)) choices .writes) (now (back .entry)) ⌝ }
+    ensures answer { λ r. ⌜ r ≡ Anchored.passCall (now (table .entry)) (now (ankr .entry)) start version
+        (lineOf (now (glyphs .entry)) (now (tags .entry)) (now (homes .entry)) used) (now (along .entry)) (now (x .entry)) (now (y .entry)) (now (back .entry))
+        choices .answer ⌝ }
+    ensures along { λ _. ⌜ now (along .exit) ≡ addAll (Anchored.passCall (now (table .entry)) (now (ankr .entry)) start version
+        (lineOf (now (glyphs .entry)) (now (tags .entry)) (now (homes .entry)) used) (now (along .entry)) (now (x .entry)) (now (y .entry)) (now (back .entry))
+        choices .additions) (now (along .entry)) ⌝ }
+    ensures x { λ _. ⌜ now (x .exit) ≡ writeX (Anchored.passCall (now (table .entry)) (now (ankr .entry)) start version
+        (lineOf (now (glyphs .entry)) (now (tags .entry)) (now (homes .entry)) used) (now (along .entry)) (now (x .entry)) (now (y .entry)) (now (back .entry))
+        choices .writes) (now (x .entry)) ⌝ }
+    ensures y { λ _. ⌜ now (y .exit) ≡ writeY (Anchored.passCall (now (table .entry)) (now (ankr .entry)) start version
+        (lineOf (now (glyphs .entry)) (now (tags .entry)) (now (homes .entry)) used) (now (along .entry)) (now (x .entry)) (now (y .entry)) (now (back .entry))
+        choices .writes) (now (y .entry)) ⌝ }
+    ensures back { λ _. ⌜ now (back .exit) ≡ writeBack (Anchored.passCall (now (table .entry)) (now (ankr .entry)) start version
+        (lineOf (now (glyphs .entry)) (now (tags .entry)) (now (homes .entry)) used) (now (along .entry)) (now (x .entry)) (now (y .entry)) (now (back .entry))
+        choices .writes) (now (back .entry)) ⌝ }
 {
     let takes = takes_pass(glyphs, tags, homes, used, along, x, y, back);
     if let Check::Refused(why) = refuse_pass(table.len(), ankr.len(), takes) {
@@ -973,8 +1046,10 @@ fn work_kerning(
     class_start: usize,
 ) -> Answer
     requires { ⌜ (used ≤ length (now glyphs)) × (used ≤ length (now along)) × (used ≤ roomLimit) × Within (2 ^ 60) (now along) ⌝ }
-    ensures answer { λ r. ⌜ r ≡ kerningIndexed (now (bytes .entry)) start version (now (glyphs .entry)) used reading (now (index .entry)) «class_start» .answer ⌝ }
-    ensures along { λ _. ⌜ now (along .exit) ≡ addAll (kerningIndexed (now (bytes .entry)) start version (now (glyphs .entry)) used reading (now (index .entry)) «class_start» .additions) (now (along .entry)) ⌝ }
+    ensures answer { λ r. ⌜ r ≡ kerningIndexed (now (bytes .entry)) start version (now (glyphs .entry)) used reading (now (index .entry))
+        «class_start» .answer ⌝ }
+    ensures along { λ _. ⌜ now (along .exit) ≡ addAll (kerningIndexed (now (bytes .entry)) start version (now (glyphs .entry)) used reading (now (index .entry))
+        «class_start» .additions) (now (along .entry)) ⌝ }
 {
     let machine = kerx_machine::open(bytes, version, reading);
     let body = parse::from(bytes, kerx_machine::BODY);
@@ -1001,10 +1076,14 @@ fn work_anchoring(
     class_start: usize,
 ) -> Answer
     requires { ⌜ (used ≤ length (now glyphs)) × (used ≤ length (now x)) × (used ≤ length (now y)) × (used ≤ length (now back)) × (used ≤ roomLimit) ⌝ }
-    ensures answer { λ r. ⌜ r ≡ anchoringIndexed (now (ankr .entry)) (now (bytes .entry)) start version (now (glyphs .entry)) used reading (now (index .entry)) «class_start» .answer ⌝ }
-    ensures x { λ _. ⌜ now (x .exit) ≡ writeX (anchoringIndexed (now (ankr .entry)) (now (bytes .entry)) start version (now (glyphs .entry)) used reading (now (index .entry)) «class_start» .writes) (now (x .entry)) ⌝ }
-    ensures y { λ _. ⌜ now (y .exit) ≡ writeY (anchoringIndexed (now (ankr .entry)) (now (bytes .entry)) start version (now (glyphs .entry)) used reading (now (index .entry)) «class_start» .writes) (now (y .entry)) ⌝ }
-    ensures back { λ _. ⌜ now (back .exit) ≡ writeBack (anchoringIndexed (now (ankr .entry)) (now (bytes .entry)) start version (now (glyphs .entry)) used reading (now (index .entry)) «class_start» .writes) (now (back .entry)) ⌝ }
+    ensures answer { λ r. ⌜ r ≡ anchoringIndexed (now (ankr .entry)) (now (bytes .entry)) start version (now (glyphs .entry)) used reading (now (index .entry))
+        «class_start» .answer ⌝ }
+    ensures x { λ _. ⌜ now (x .exit) ≡ writeX (anchoringIndexed (now (ankr .entry)) (now (bytes .entry)) start version (now (glyphs .entry)) used reading
+        (now (index .entry)) «class_start» .writes) (now (x .entry)) ⌝ }
+    ensures y { λ _. ⌜ now (y .exit) ≡ writeY (anchoringIndexed (now (ankr .entry)) (now (bytes .entry)) start version (now (glyphs .entry)) used reading
+        (now (index .entry)) «class_start» .writes) (now (y .entry)) ⌝ }
+    ensures back { λ _. ⌜ now (back .exit) ≡ writeBack (anchoringIndexed (now (ankr .entry)) (now (bytes .entry)) start version (now (glyphs .entry)) used
+        reading (now (index .entry)) «class_start» .writes) (now (back .entry)) ⌝ }
 {
     let machine = anchors_of(bytes, version, reading);
     let body = parse::from(bytes, kerx_machine::BODY);
@@ -1032,12 +1111,18 @@ fn work_indexed(
     index: &[u16],
     class_start: usize,
 ) -> Answer
-    requires { ⌜ (used ≤ length (now glyphs)) × (used ≤ length (now along)) × (used ≤ roomLimit) × Within (2 ^ 60) (now along) × (used ≤ length (now x)) × (used ≤ length (now y)) × (used ≤ length (now back)) ⌝ }
-    ensures answer { λ r. ⌜ r ≡ workedIndexed (now (ankr .entry)) (now (bytes .entry)) start version format (now (glyphs .entry)) used reading (now (index .entry)) «class_start» .answer ⌝ }
-    ensures along { λ _. ⌜ now (along .exit) ≡ addAll (workedIndexed (now (ankr .entry)) (now (bytes .entry)) start version format (now (glyphs .entry)) used reading (now (index .entry)) «class_start» .additions) (now (along .entry)) ⌝ }
-    ensures x { λ _. ⌜ now (x .exit) ≡ writeX (workedIndexed (now (ankr .entry)) (now (bytes .entry)) start version format (now (glyphs .entry)) used reading (now (index .entry)) «class_start» .writes) (now (x .entry)) ⌝ }
-    ensures y { λ _. ⌜ now (y .exit) ≡ writeY (workedIndexed (now (ankr .entry)) (now (bytes .entry)) start version format (now (glyphs .entry)) used reading (now (index .entry)) «class_start» .writes) (now (y .entry)) ⌝ }
-    ensures back { λ _. ⌜ now (back .exit) ≡ writeBack (workedIndexed (now (ankr .entry)) (now (bytes .entry)) start version format (now (glyphs .entry)) used reading (now (index .entry)) «class_start» .writes) (now (back .entry)) ⌝ }
+    requires { ⌜ (used ≤ length (now glyphs)) × (used ≤ length (now along)) × (used ≤ roomLimit) × Within (2 ^ 60) (now along) × (used ≤ length (now x)) ×
+        (used ≤ length (now y)) × (used ≤ length (now back)) ⌝ }
+    ensures answer { λ r. ⌜ r ≡ workedIndexed (now (ankr .entry)) (now (bytes .entry)) start version format (now (glyphs .entry)) used reading
+        (now (index .entry)) «class_start» .answer ⌝ }
+    ensures along { λ _. ⌜ now (along .exit) ≡ addAll (workedIndexed (now (ankr .entry)) (now (bytes .entry)) start version format (now (glyphs .entry)) used
+        reading (now (index .entry)) «class_start» .additions) (now (along .entry)) ⌝ }
+    ensures x { λ _. ⌜ now (x .exit) ≡ writeX (workedIndexed (now (ankr .entry)) (now (bytes .entry)) start version format (now (glyphs .entry)) used reading
+        (now (index .entry)) «class_start» .writes) (now (x .entry)) ⌝ }
+    ensures y { λ _. ⌜ now (y .exit) ≡ writeY (workedIndexed (now (ankr .entry)) (now (bytes .entry)) start version format (now (glyphs .entry)) used reading
+        (now (index .entry)) «class_start» .writes) (now (y .entry)) ⌝ }
+    ensures back { λ _. ⌜ now (back .exit) ≡ writeBack (workedIndexed (now (ankr .entry)) (now (bytes .entry)) start version format (now (glyphs .entry)) used
+        reading (now (index .entry)) «class_start» .writes) (now (back .entry)) ⌝ }
 {
     if AnchorState::FORMAT == format {
         return work_anchoring(
@@ -1087,12 +1172,18 @@ fn pass_indexed_in(
     index: &[u16],
     class_start: usize,
 ) -> Answer
-    requires { ⌜ (used ≤ length (now glyphs)) × (used ≤ length (now along)) × (used ≤ roomLimit) × Within (2 ^ 60) (now along) × (used ≤ length (now x)) × (used ≤ length (now y)) × (used ≤ length (now back)) ⌝ }
-    ensures answer { λ r. ⌜ r ≡ passedIndexed (now (ankr .entry)) (now (bytes .entry)) start version (now (glyphs .entry)) used reading (now (index .entry)) «class_start» .answer ⌝ }
-    ensures along { λ _. ⌜ now (along .exit) ≡ addAll (passedIndexed (now (ankr .entry)) (now (bytes .entry)) start version (now (glyphs .entry)) used reading (now (index .entry)) «class_start» .additions) (now (along .entry)) ⌝ }
-    ensures x { λ _. ⌜ now (x .exit) ≡ writeX (passedIndexed (now (ankr .entry)) (now (bytes .entry)) start version (now (glyphs .entry)) used reading (now (index .entry)) «class_start» .writes) (now (x .entry)) ⌝ }
-    ensures y { λ _. ⌜ now (y .exit) ≡ writeY (passedIndexed (now (ankr .entry)) (now (bytes .entry)) start version (now (glyphs .entry)) used reading (now (index .entry)) «class_start» .writes) (now (y .entry)) ⌝ }
-    ensures back { λ _. ⌜ now (back .exit) ≡ writeBack (passedIndexed (now (ankr .entry)) (now (bytes .entry)) start version (now (glyphs .entry)) used reading (now (index .entry)) «class_start» .writes) (now (back .entry)) ⌝ }
+    requires { ⌜ (used ≤ length (now glyphs)) × (used ≤ length (now along)) × (used ≤ roomLimit) × Within (2 ^ 60) (now along) × (used ≤ length (now x)) ×
+        (used ≤ length (now y)) × (used ≤ length (now back)) ⌝ }
+    ensures answer { λ r. ⌜ r ≡ passedIndexed (now (ankr .entry)) (now (bytes .entry)) start version (now (glyphs .entry)) used reading (now (index .entry))
+        «class_start» .answer ⌝ }
+    ensures along { λ _. ⌜ now (along .exit) ≡ addAll (passedIndexed (now (ankr .entry)) (now (bytes .entry)) start version (now (glyphs .entry)) used reading
+        (now (index .entry)) «class_start» .additions) (now (along .entry)) ⌝ }
+    ensures x { λ _. ⌜ now (x .exit) ≡ writeX (passedIndexed (now (ankr .entry)) (now (bytes .entry)) start version (now (glyphs .entry)) used reading
+        (now (index .entry)) «class_start» .writes) (now (x .entry)) ⌝ }
+    ensures y { λ _. ⌜ now (y .exit) ≡ writeY (passedIndexed (now (ankr .entry)) (now (bytes .entry)) start version (now (glyphs .entry)) used reading
+        (now (index .entry)) «class_start» .writes) (now (y .entry)) ⌝ }
+    ensures back { λ _. ⌜ now (back .exit) ≡ writeBack (passedIndexed (now (ankr .entry)) (now (bytes .entry)) start version (now (glyphs .entry)) used reading
+        (now (index .entry)) «class_start» .writes) (now (back .entry)) ⌝ }
 {
     let Head::At(subtable) = head_in(false, version, 0, bytes) else {
         return Answer::Refused(Refusal::Head);
@@ -1133,11 +1224,21 @@ pub fn pass_indexed(
     index: &[u16],
     class_start: usize,
 ) -> Answer
-    ensures answer { λ r. ⌜ r ≡ indexedCall (now (table .entry)) (now (ankr .entry)) start version (lineOf (now (glyphs .entry)) (now (tags .entry)) (now (homes .entry)) used) (now (along .entry)) (now (x .entry)) (now (y .entry)) (now (back .entry)) reading (now (index .entry)) «class_start» .answer ⌝ }
-    ensures along { λ _. ⌜ now (along .exit) ≡ addAll (indexedCall (now (table .entry)) (now (ankr .entry)) start version (lineOf (now (glyphs .entry)) (now (tags .entry)) (now (homes .entry)) used) (now (along .entry)) (now (x .entry)) (now (y .entry)) (now (back .entry)) reading (now (index .entry)) «class_start» .additions) (now (along .entry)) ⌝ }
-    ensures x { λ _. ⌜ now (x .exit) ≡ writeX (indexedCall (now (table .entry)) (now (ankr .entry)) start version (lineOf (now (glyphs .entry)) (now (tags .entry)) (now (homes .entry)) used) (now (along .entry)) (now (x .entry)) (now (y .entry)) (now (back .entry)) reading (now (index .entry)) «class_start» .writes) (now (x .entry)) ⌝ }
-    ensures y { λ _. ⌜ now (y .exit) ≡ writeY (indexedCall (now (table .entry)) (now (ankr .entry)) start version (lineOf (now (glyphs .entry)) (now (tags .entry)) (now (homes .entry)) used) (now (along .entry)) (now (x .entry)) (now (y .entry)) (now (back .entry)) reading (now (index .entry)) «class_start» .writes) (now (y .entry)) ⌝ }
-    ensures back { λ _. ⌜ now (back .exit) ≡ writeBack (indexedCall (now (table .entry)) (now (ankr .entry)) start version (lineOf (now (glyphs .entry)) (now (tags .entry)) (now (homes .entry)) used) (now (along .entry)) (now (x .entry)) (now (y .entry)) (now (back .entry)) reading (now (index .entry)) «class_start» .writes) (now (back .entry)) ⌝ }
+    ensures answer { λ r. ⌜ r ≡ indexedCall (now (table .entry)) (now (ankr .entry)) start version
+        (lineOf (now (glyphs .entry)) (now (tags .entry)) (now (homes .entry)) used) (now (along .entry)) (now (x .entry)) (now (y .entry)) (now (back .entry))
+        reading (now (index .entry)) «class_start» .answer ⌝ }
+    ensures along { λ _. ⌜ now (along .exit) ≡ addAll (indexedCall (now (table .entry)) (now (ankr .entry)) start version
+        (lineOf (now (glyphs .entry)) (now (tags .entry)) (now (homes .entry)) used) (now (along .entry)) (now (x .entry)) (now (y .entry)) (now (back .entry))
+        reading (now (index .entry)) «class_start» .additions) (now (along .entry)) ⌝ }
+    ensures x { λ _. ⌜ now (x .exit) ≡ writeX (indexedCall (now (table .entry)) (now (ankr .entry)) start version
+        (lineOf (now (glyphs .entry)) (now (tags .entry)) (now (homes .entry)) used) (now (along .entry)) (now (x .entry)) (now (y .entry)) (now (back .entry))
+        reading (now (index .entry)) «class_start» .writes) (now (x .entry)) ⌝ }
+    ensures y { λ _. ⌜ now (y .exit) ≡ writeY (indexedCall (now (table .entry)) (now (ankr .entry)) start version
+        (lineOf (now (glyphs .entry)) (now (tags .entry)) (now (homes .entry)) used) (now (along .entry)) (now (x .entry)) (now (y .entry)) (now (back .entry))
+        reading (now (index .entry)) «class_start» .writes) (now (y .entry)) ⌝ }
+    ensures back { λ _. ⌜ now (back .exit) ≡ writeBack (indexedCall (now (table .entry)) (now (ankr .entry)) start version
+        (lineOf (now (glyphs .entry)) (now (tags .entry)) (now (homes .entry)) used) (now (along .entry)) (now (x .entry)) (now (y .entry)) (now (back .entry))
+        reading (now (index .entry)) «class_start» .writes) (now (back .entry)) ⌝ }
 {
     let takes = takes_pass(glyphs, tags, homes, used, along, x, y, back);
     if let Check::Refused(why) = refuse_pass(table.len(), ankr.len(), takes) {
@@ -1189,10 +1290,14 @@ pub fn step_anchored(
     back: &mut [u16],
     reading: Reading,
 ) -> AnchorStep
-    ensures step { λ r. ⌜ r ≡ Anchored.stepCall (now (table .entry)) (now (ankr .entry)) start version state used index glyph (now (along .entry)) (now (x .entry)) (now (y .entry)) (now (back .entry)) reading ⌝ }
-    ensures x { λ _. ⌜ now (x .exit) ≡ writeX (Anchored.stepWrites (now (table .entry)) (now (ankr .entry)) start version state used index glyph (now (along .entry)) (now (x .entry)) (now (y .entry)) (now (back .entry)) reading) (now (x .entry)) ⌝ }
-    ensures y { λ _. ⌜ now (y .exit) ≡ writeY (Anchored.stepWrites (now (table .entry)) (now (ankr .entry)) start version state used index glyph (now (along .entry)) (now (x .entry)) (now (y .entry)) (now (back .entry)) reading) (now (y .entry)) ⌝ }
-    ensures back { λ _. ⌜ now (back .exit) ≡ writeBack (Anchored.stepWrites (now (table .entry)) (now (ankr .entry)) start version state used index glyph (now (along .entry)) (now (x .entry)) (now (y .entry)) (now (back .entry)) reading) (now (back .entry)) ⌝ }
+    ensures step { λ r. ⌜ r ≡ Anchored.stepCall (now (table .entry)) (now (ankr .entry)) start version state used index glyph (now (along .entry))
+        (now (x .entry)) (now (y .entry)) (now (back .entry)) reading ⌝ }
+    ensures x { λ _. ⌜ now (x .exit) ≡ writeX (Anchored.stepWrites (now (table .entry)) (now (ankr .entry)) start version state used index glyph
+        (now (along .entry)) (now (x .entry)) (now (y .entry)) (now (back .entry)) reading) (now (x .entry)) ⌝ }
+    ensures y { λ _. ⌜ now (y .exit) ≡ writeY (Anchored.stepWrites (now (table .entry)) (now (ankr .entry)) start version state used index glyph
+        (now (along .entry)) (now (x .entry)) (now (y .entry)) (now (back .entry)) reading) (now (y .entry)) ⌝ }
+    ensures back { λ _. ⌜ now (back .exit) ≡ writeBack (Anchored.stepWrites (now (table .entry)) (now (ankr .entry)) start version state used index glyph
+        (now (along .entry)) (now (x .entry)) (now (y .entry)) (now (back .entry)) reading) (now (back .entry)) ⌝ }
 {
     let bytes = parse::from(table, start);
     let machine = machine_of(bytes, version, reading);

@@ -109,7 +109,8 @@ pub fn work_by(
 ) -> Answer
     requires { ⌜ (used ≤ length (now glyphs)) × (used ≤ length (now along)) × (used ≤ roomLimit) × Within (2 ^ 60) (now along) ⌝ }
     ensures answer { λ r. ⌜ r ≡ workedIndexed (now (index .entry)) (now (bytes .entry)) version (now (glyphs .entry)) used reading .answer ⌝ }
-    ensures along { λ _. ⌜ now (along .exit) ≡ addAll (workedIndexed (now (index .entry)) (now (bytes .entry)) version (now (glyphs .entry)) used reading .additions) (now (along .entry)) ⌝ }
+    ensures along { λ _. ⌜ now (along .exit) ≡ addAll (workedIndexed (now (index .entry)) (now (bytes .entry)) version (now (glyphs .entry)) used
+        reading .additions) (now (along .entry)) ⌝ }
 {
     let machine = open(bytes, version, reading);
     kerning_machine::work_by(
@@ -133,7 +134,8 @@ pub fn work(
 ) -> Answer
     requires { ⌜ (used ≤ length (now glyphs)) × (used ≤ length (now along)) × (used ≤ roomLimit) × Within (2 ^ 60) (now along) ⌝ }
     ensures answer { λ r. ⌜ r ≡ worked (now (bytes .entry)) version (now (glyphs .entry)) used reading .answer ⌝ }
-    ensures along { λ _. ⌜ now (along .exit) ≡ addAll (worked (now (bytes .entry)) version (now (glyphs .entry)) used reading .additions) (now (along .entry)) ⌝ }
+    ensures along { λ _. ⌜ now (along .exit) ≡ addAll (worked (now (bytes .entry)) version (now (glyphs .entry)) used reading .additions)
+        (now (along .entry)) ⌝ }
 {
     let none = [0u16; 0];
     work_by(bytes, version, glyphs, used, along, reading, &none)
@@ -152,7 +154,8 @@ pub fn step_by(
     reading: Reading,
 ) -> KerningStep
     ensures step { λ r. ⌜ r ≡ stepCall (now (table .entry)) start version state used index glyph (now (along .entry)) reading .step ⌝ }
-    ensures along { λ _. ⌜ now (along .exit) ≡ addAll (stepCall (now (table .entry)) start version state used index glyph (now (along .entry)) reading .additions) (now (along .entry)) ⌝ }
+    ensures along { λ _. ⌜ now (along .exit) ≡ addAll (stepCall (now (table .entry)) start version state used index glyph (now (along .entry))
+        reading .additions) (now (along .entry)) ⌝ }
 {
     let bytes = parse::from(table, start);
     let machine = open(bytes, version, reading);
@@ -179,7 +182,8 @@ pub fn step(
     along: &mut [i64],
 ) -> KerningStep
     ensures step { λ r. ⌜ r ≡ stepCall (now (table .entry)) start version state used index glyph (now (along .entry)) Reading.Crate .step ⌝ }
-    ensures along { λ _. ⌜ now (along .exit) ≡ addAll (stepCall (now (table .entry)) start version state used index glyph (now (along .entry)) Reading.Crate .additions) (now (along .entry)) ⌝ }
+    ensures along { λ _. ⌜ now (along .exit) ≡ addAll (stepCall (now (table .entry)) start version state used index glyph (now (along .entry))
+        Reading.Crate .additions) (now (along .entry)) ⌝ }
 {
     step_by(
         state,

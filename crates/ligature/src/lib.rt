@@ -105,8 +105,10 @@ fn make(
 )
     requires { ⌜ (slot < depth) × (depth ≤ 32) × (used ≤ length (now glyphs)) × (used ≤ length (now tags)) ⌝ }
     ensures stack { λ _. ⌜ now (stack .exit) ≡ storedIn action slot (now (stack .entry)) ⌝ }
-    ensures glyphs { λ _. ⌜ now (glyphs .exit) ≡ ligated (ligationsOf action (now (places .entry)) slot depth) (lineOf (now (glyphs .entry)) (now (tags .entry)) (now (homes .entry)) used) .glyphs ⌝ }
-    ensures homes { λ _. ⌜ now (homes .exit) ≡ ligated (ligationsOf action (now (places .entry)) slot depth) (lineOf (now (glyphs .entry)) (now (tags .entry)) (now (homes .entry)) used) .homes ⌝ }
+    ensures glyphs { λ _. ⌜ now (glyphs .exit) ≡ ligated (ligationsOf action (now (places .entry)) slot depth)
+        (lineOf (now (glyphs .entry)) (now (tags .entry)) (now (homes .entry)) used) .glyphs ⌝ }
+    ensures homes { λ _. ⌜ now (homes .exit) ≡ ligated (ligationsOf action (now (places .entry)) slot depth)
+        (lineOf (now (glyphs .entry)) (now (tags .entry)) (now (homes .entry)) used) .homes ⌝ }
 {
     match action {
         Action::Ended => return,
@@ -139,10 +141,14 @@ fn act(
     spent: u16,
 ) -> Did
     requires { ⌜ (depth ≤ 32) × (spent ≤ 33) × (used ≤ length (now glyphs)) × (used ≤ length (now tags)) ⌝ }
-    ensures did { λ r. ⌜ r ≡ afterActs (now (bytes .entry)) (now (places .entry)) (now (stack .entry)) depth first spent (now (glyphs .entry)) (now (tags .entry)) (now (homes .entry)) used .answer ⌝ }
-    ensures stack { λ _. ⌜ now (stack .exit) ≡ afterActs (now (bytes .entry)) (now (places .entry)) (now (stack .entry)) depth first spent (now (glyphs .entry)) (now (tags .entry)) (now (homes .entry)) used .stack ⌝ }
-    ensures glyphs { λ _. ⌜ now (glyphs .exit) ≡ afterActs (now (bytes .entry)) (now (places .entry)) (now (stack .entry)) depth first spent (now (glyphs .entry)) (now (tags .entry)) (now (homes .entry)) used .line .glyphs ⌝ }
-    ensures homes { λ _. ⌜ now (homes .exit) ≡ afterActs (now (bytes .entry)) (now (places .entry)) (now (stack .entry)) depth first spent (now (glyphs .entry)) (now (tags .entry)) (now (homes .entry)) used .line .homes ⌝ }
+    ensures did { λ r. ⌜ r ≡ afterActs (now (bytes .entry)) (now (places .entry)) (now (stack .entry)) depth first spent (now (glyphs .entry))
+        (now (tags .entry)) (now (homes .entry)) used .answer ⌝ }
+    ensures stack { λ _. ⌜ now (stack .exit) ≡ afterActs (now (bytes .entry)) (now (places .entry)) (now (stack .entry)) depth first spent (now (glyphs .entry))
+        (now (tags .entry)) (now (homes .entry)) used .stack ⌝ }
+    ensures glyphs { λ _. ⌜ now (glyphs .exit) ≡ afterActs (now (bytes .entry)) (now (places .entry)) (now (stack .entry)) depth first spent
+        (now (glyphs .entry)) (now (tags .entry)) (now (homes .entry)) used .line .glyphs ⌝ }
+    ensures homes { λ _. ⌜ now (homes .exit) ≡ afterActs (now (bytes .entry)) (now (places .entry)) (now (stack .entry)) depth first spent (now (glyphs .entry))
+        (now (tags .entry)) (now (homes .entry)) used .line .homes ⌝ }
     ensures bounds { λ r. ⌜ (r .depth ≤ depth) × (spent ≤ r .cycles) × (r .cycles ≤ 33) ⌝ }
 {
     let mut number = first;
@@ -250,11 +256,16 @@ fn enter(
     cycles: u16,
 ) -> Did
     requires { ⌜ (depth ≤ 32) × (cycles ≤ 33) × (used ≤ length (now glyphs)) × (used ≤ length (now tags)) × (entry .payload + 2 ≤ length (now bytes)) ⌝ }
-    ensures did { λ r. ⌜ r ≡ afterEntry (now (bytes .entry)) entry (now (places .entry)) (now (stack .entry)) depth (now (glyphs .entry)) (now (tags .entry)) (now (homes .entry)) used index glyph cycles .answer ⌝ }
-    ensures places { λ _. ⌜ now (places .exit) ≡ afterEntry (now (bytes .entry)) entry (now (places .entry)) (now (stack .entry)) depth (now (glyphs .entry)) (now (tags .entry)) (now (homes .entry)) used index glyph cycles .places ⌝ }
-    ensures stack { λ _. ⌜ now (stack .exit) ≡ afterEntry (now (bytes .entry)) entry (now (places .entry)) (now (stack .entry)) depth (now (glyphs .entry)) (now (tags .entry)) (now (homes .entry)) used index glyph cycles .stack ⌝ }
-    ensures glyphs { λ _. ⌜ now (glyphs .exit) ≡ afterEntry (now (bytes .entry)) entry (now (places .entry)) (now (stack .entry)) depth (now (glyphs .entry)) (now (tags .entry)) (now (homes .entry)) used index glyph cycles .line .glyphs ⌝ }
-    ensures homes { λ _. ⌜ now (homes .exit) ≡ afterEntry (now (bytes .entry)) entry (now (places .entry)) (now (stack .entry)) depth (now (glyphs .entry)) (now (tags .entry)) (now (homes .entry)) used index glyph cycles .line .homes ⌝ }
+    ensures did { λ r. ⌜ r ≡ afterEntry (now (bytes .entry)) entry (now (places .entry)) (now (stack .entry)) depth (now (glyphs .entry)) (now (tags .entry))
+        (now (homes .entry)) used index glyph cycles .answer ⌝ }
+    ensures places { λ _. ⌜ now (places .exit) ≡ afterEntry (now (bytes .entry)) entry (now (places .entry)) (now (stack .entry)) depth (now (glyphs .entry))
+        (now (tags .entry)) (now (homes .entry)) used index glyph cycles .places ⌝ }
+    ensures stack { λ _. ⌜ now (stack .exit) ≡ afterEntry (now (bytes .entry)) entry (now (places .entry)) (now (stack .entry)) depth (now (glyphs .entry))
+        (now (tags .entry)) (now (homes .entry)) used index glyph cycles .stack ⌝ }
+    ensures glyphs { λ _. ⌜ now (glyphs .exit) ≡ afterEntry (now (bytes .entry)) entry (now (places .entry)) (now (stack .entry)) depth (now (glyphs .entry))
+        (now (tags .entry)) (now (homes .entry)) used index glyph cycles .line .glyphs ⌝ }
+    ensures homes { λ _. ⌜ now (homes .exit) ≡ afterEntry (now (bytes .entry)) entry (now (places .entry)) (now (stack .entry)) depth (now (glyphs .entry))
+        (now (tags .entry)) (now (homes .entry)) used index glyph cycles .line .homes ⌝ }
     ensures bounds { λ r. ⌜ (r .depth ≤ 32) × (cycles ≤ r .cycles) × (r .cycles ≤ 33) ⌝ }
 {
     let sets = machine::is_set(entry.flags, LigatureState::SET_COMPONENT);
@@ -306,11 +317,16 @@ fn next(
     glyph: u16,
 ) -> Reached
     requires { ⌜ (depth ≤ 32) × (used ≤ length (now glyphs)) × (used ≤ length (now tags)) ⌝ }
-    ensures reached { λ r. ⌜ r ≡ afterStep (now (bytes .entry)) states class state (now (places .entry)) (now (stack .entry)) depth (now (glyphs .entry)) (now (tags .entry)) (now (homes .entry)) used index glyph .answer ⌝ }
-    ensures places { λ _. ⌜ now (places .exit) ≡ afterStep (now (bytes .entry)) states class state (now (places .entry)) (now (stack .entry)) depth (now (glyphs .entry)) (now (tags .entry)) (now (homes .entry)) used index glyph .places ⌝ }
-    ensures stack { λ _. ⌜ now (stack .exit) ≡ afterStep (now (bytes .entry)) states class state (now (places .entry)) (now (stack .entry)) depth (now (glyphs .entry)) (now (tags .entry)) (now (homes .entry)) used index glyph .stack ⌝ }
-    ensures glyphs { λ _. ⌜ now (glyphs .exit) ≡ afterStep (now (bytes .entry)) states class state (now (places .entry)) (now (stack .entry)) depth (now (glyphs .entry)) (now (tags .entry)) (now (homes .entry)) used index glyph .line .glyphs ⌝ }
-    ensures homes { λ _. ⌜ now (homes .exit) ≡ afterStep (now (bytes .entry)) states class state (now (places .entry)) (now (stack .entry)) depth (now (glyphs .entry)) (now (tags .entry)) (now (homes .entry)) used index glyph .line .homes ⌝ }
+    ensures reached { λ r. ⌜ r ≡ afterStep (now (bytes .entry)) states class state (now (places .entry)) (now (stack .entry)) depth (now (glyphs .entry))
+        (now (tags .entry)) (now (homes .entry)) used index glyph .answer ⌝ }
+    ensures places { λ _. ⌜ now (places .exit) ≡ afterStep (now (bytes .entry)) states class state (now (places .entry)) (now (stack .entry)) depth
+        (now (glyphs .entry)) (now (tags .entry)) (now (homes .entry)) used index glyph .places ⌝ }
+    ensures stack { λ _. ⌜ now (stack .exit) ≡ afterStep (now (bytes .entry)) states class state (now (places .entry)) (now (stack .entry)) depth
+        (now (glyphs .entry)) (now (tags .entry)) (now (homes .entry)) used index glyph .stack ⌝ }
+    ensures glyphs { λ _. ⌜ now (glyphs .exit) ≡ afterStep (now (bytes .entry)) states class state (now (places .entry)) (now (stack .entry)) depth
+        (now (glyphs .entry)) (now (tags .entry)) (now (homes .entry)) used index glyph .line .glyphs ⌝ }
+    ensures homes { λ _. ⌜ now (homes .exit) ≡ afterStep (now (bytes .entry)) states class state (now (places .entry)) (now (stack .entry)) depth
+        (now (glyphs .entry)) (now (tags .entry)) (now (homes .entry)) used index glyph .line .homes ⌝ }
     ensures depth { λ r. ⌜ r .depth ≤ 32 ⌝ }
 {
     let mut at = state;
@@ -440,11 +456,16 @@ fn run(
     lent: &[u16],
 ) -> Reached
     requires { ⌜ (deep ≤ 32) × (used ≤ length (now glyphs)) × (used ≤ length (now tags)) ⌝ }
-    ensures reached { λ r. ⌜ r ≡ afterRun (now (lent .entry)) (now (bytes .entry)) states once begun (now (places .entry)) (now (stack .entry)) deep (now (glyphs .entry)) (now (tags .entry)) (now (homes .entry)) used index first over .answer ⌝ }
-    ensures places { λ _. ⌜ now (places .exit) ≡ afterRun (now (lent .entry)) (now (bytes .entry)) states once begun (now (places .entry)) (now (stack .entry)) deep (now (glyphs .entry)) (now (tags .entry)) (now (homes .entry)) used index first over .places ⌝ }
-    ensures stack { λ _. ⌜ now (stack .exit) ≡ afterRun (now (lent .entry)) (now (bytes .entry)) states once begun (now (places .entry)) (now (stack .entry)) deep (now (glyphs .entry)) (now (tags .entry)) (now (homes .entry)) used index first over .stack ⌝ }
-    ensures glyphs { λ _. ⌜ now (glyphs .exit) ≡ afterRun (now (lent .entry)) (now (bytes .entry)) states once begun (now (places .entry)) (now (stack .entry)) deep (now (glyphs .entry)) (now (tags .entry)) (now (homes .entry)) used index first over .line .glyphs ⌝ }
-    ensures homes { λ _. ⌜ now (homes .exit) ≡ afterRun (now (lent .entry)) (now (bytes .entry)) states once begun (now (places .entry)) (now (stack .entry)) deep (now (glyphs .entry)) (now (tags .entry)) (now (homes .entry)) used index first over .line .homes ⌝ }
+    ensures reached { λ r. ⌜ r ≡ afterRun (now (lent .entry)) (now (bytes .entry)) states once begun (now (places .entry)) (now (stack .entry)) deep
+        (now (glyphs .entry)) (now (tags .entry)) (now (homes .entry)) used index first over .answer ⌝ }
+    ensures places { λ _. ⌜ now (places .exit) ≡ afterRun (now (lent .entry)) (now (bytes .entry)) states once begun (now (places .entry)) (now (stack .entry))
+        deep (now (glyphs .entry)) (now (tags .entry)) (now (homes .entry)) used index first over .places ⌝ }
+    ensures stack { λ _. ⌜ now (stack .exit) ≡ afterRun (now (lent .entry)) (now (bytes .entry)) states once begun (now (places .entry)) (now (stack .entry))
+        deep (now (glyphs .entry)) (now (tags .entry)) (now (homes .entry)) used index first over .stack ⌝ }
+    ensures glyphs { λ _. ⌜ now (glyphs .exit) ≡ afterRun (now (lent .entry)) (now (bytes .entry)) states once begun (now (places .entry)) (now (stack .entry))
+        deep (now (glyphs .entry)) (now (tags .entry)) (now (homes .entry)) used index first over .line .glyphs ⌝ }
+    ensures homes { λ _. ⌜ now (homes .exit) ≡ afterRun (now (lent .entry)) (now (bytes .entry)) states once begun (now (places .entry)) (now (stack .entry))
+        deep (now (glyphs .entry)) (now (tags .entry)) (now (homes .entry)) used index first over .line .homes ⌝ }
 {
     let opened = opened::open(bytes, states);
     let mut memo = opened::nothing_found();
@@ -532,7 +553,8 @@ impl LigatureState {
         index: usize,
         made: Made,
     ) -> Check
-        ensures { λ r. ⌜ r ≡ refuse (stepTests «table_length» (lineTest (lineOf (now (glyphs .entry)) (now (tags .entry)) (now (homes .entry)) used) ∷ []) used index (stateTests self used) made) ⌝ }
+        ensures { λ r. ⌜ r ≡ refuse (stepTests «table_length» (lineTest (lineOf (now (glyphs .entry)) (now (tags .entry)) (now (homes .entry)) used) ∷ []) used
+            index (stateTests self used) made) ⌝ }
     {
         if let Check::Refused(why) = answers::refuse_table(table_length) {
             return Check::Refused(why);
@@ -569,9 +591,12 @@ impl LigatureState {
         glyph: u16,
         ends: bool,
     ) -> LigatureStep
-        ensures step { λ r. ⌜ r ≡ stepOf (stepCall ligature (now (table .entry)) start self (lineOf (now (glyphs .entry)) (now (tags .entry)) (now (homes .entry)) used) index glyph ends) ⌝ }
-        ensures glyphs { λ _. ⌜ now (glyphs .exit) ≡ stepLeaves ligature (now (table .entry)) start self (lineOf (now (glyphs .entry)) (now (tags .entry)) (now (homes .entry)) used) index glyph ends .glyphs ⌝ }
-        ensures homes { λ _. ⌜ now (homes .exit) ≡ stepLeaves ligature (now (table .entry)) start self (lineOf (now (glyphs .entry)) (now (tags .entry)) (now (homes .entry)) used) index glyph ends .homes ⌝ }
+        ensures step { λ r. ⌜ r ≡ stepOf (stepCall ligature (now (table .entry)) start self
+            (lineOf (now (glyphs .entry)) (now (tags .entry)) (now (homes .entry)) used) index glyph ends) ⌝ }
+        ensures glyphs { λ _. ⌜ now (glyphs .exit) ≡ stepLeaves ligature (now (table .entry)) start self
+            (lineOf (now (glyphs .entry)) (now (tags .entry)) (now (homes .entry)) used) index glyph ends .glyphs ⌝ }
+        ensures homes { λ _. ⌜ now (homes .exit) ≡ stepLeaves ligature (now (table .entry)) start self
+            (lineOf (now (glyphs .entry)) (now (tags .entry)) (now (homes .entry)) used) index glyph ends .homes ⌝ }
     {
         let bytes = parse::from(table, start);
         let made = open(bytes);
@@ -677,9 +702,12 @@ fn pass_line(
     index: &[u16],
 ) -> Answer
     requires { ⌜ (used ≤ length (now glyphs)) × (used ≤ length (now tags)) ⌝ }
-    ensures answer { λ r. ⌜ r ≡ passed (indexed (now (index .entry)) ligature) (now (bytes .entry)) states (lineOf (now (glyphs .entry)) (now (tags .entry)) (now (homes .entry)) used) .answer ⌝ }
-    ensures glyphs { λ _. ⌜ now (glyphs .exit) ≡ passedLeaves (indexed (now (index .entry)) ligature) (now (bytes .entry)) states (lineOf (now (glyphs .entry)) (now (tags .entry)) (now (homes .entry)) used) .glyphs ⌝ }
-    ensures homes { λ _. ⌜ now (homes .exit) ≡ passedLeaves (indexed (now (index .entry)) ligature) (now (bytes .entry)) states (lineOf (now (glyphs .entry)) (now (tags .entry)) (now (homes .entry)) used) .homes ⌝ }
+    ensures answer { λ r. ⌜ r ≡ passed (indexed (now (index .entry)) ligature) (now (bytes .entry)) states
+        (lineOf (now (glyphs .entry)) (now (tags .entry)) (now (homes .entry)) used) .answer ⌝ }
+    ensures glyphs { λ _. ⌜ now (glyphs .exit) ≡ passedLeaves (indexed (now (index .entry)) ligature) (now (bytes .entry)) states
+        (lineOf (now (glyphs .entry)) (now (tags .entry)) (now (homes .entry)) used) .glyphs ⌝ }
+    ensures homes { λ _. ⌜ now (homes .exit) ≡ passedLeaves (indexed (now (index .entry)) ligature) (now (bytes .entry)) states
+        (lineOf (now (glyphs .entry)) (now (tags .entry)) (now (homes .entry)) used) .homes ⌝ }
 {
     let fresh = LigatureState::new();
     let mut places = fresh.places;
@@ -714,9 +742,12 @@ pub fn work_by(
     index: &[u16],
 ) -> Answer
     requires { ⌜ (used ≤ length (now glyphs)) × (used ≤ length (now tags)) ⌝ }
-    ensures answer { λ r. ⌜ r ≡ subtableOf (indexed (now (index .entry)) ligature) .worked (now (bytes .entry)) (lineOf (now (glyphs .entry)) (now (tags .entry)) (now (homes .entry)) used) .answer ⌝ }
-    ensures glyphs { λ _. ⌜ now (glyphs .exit) ≡ workLeaves (subtableOf (indexed (now (index .entry)) ligature)) (now (bytes .entry)) (lineOf (now (glyphs .entry)) (now (tags .entry)) (now (homes .entry)) used) .glyphs ⌝ }
-    ensures homes { λ _. ⌜ now (homes .exit) ≡ workLeaves (subtableOf (indexed (now (index .entry)) ligature)) (now (bytes .entry)) (lineOf (now (glyphs .entry)) (now (tags .entry)) (now (homes .entry)) used) .homes ⌝ }
+    ensures answer { λ r. ⌜ r ≡ subtableOf (indexed (now (index .entry)) ligature) .worked (now (bytes .entry))
+        (lineOf (now (glyphs .entry)) (now (tags .entry)) (now (homes .entry)) used) .answer ⌝ }
+    ensures glyphs { λ _. ⌜ now (glyphs .exit) ≡ workLeaves (subtableOf (indexed (now (index .entry)) ligature)) (now (bytes .entry))
+        (lineOf (now (glyphs .entry)) (now (tags .entry)) (now (homes .entry)) used) .glyphs ⌝ }
+    ensures homes { λ _. ⌜ now (homes .exit) ≡ workLeaves (subtableOf (indexed (now (index .entry)) ligature)) (now (bytes .entry))
+        (lineOf (now (glyphs .entry)) (now (tags .entry)) (now (homes .entry)) used) .homes ⌝ }
 {
     let made = open(bytes);
     let Made::Ready(states) = made else {
@@ -742,9 +773,12 @@ pub fn work(
     used: usize,
 ) -> Answer
     requires { ⌜ (used ≤ length (now glyphs)) × (used ≤ length (now tags)) ⌝ }
-    ensures answer { λ r. ⌜ r ≡ subtableOf ligature .worked (now (bytes .entry)) (lineOf (now (glyphs .entry)) (now (tags .entry)) (now (homes .entry)) used) .answer ⌝ }
-    ensures glyphs { λ _. ⌜ now (glyphs .exit) ≡ workLeaves (subtableOf ligature) (now (bytes .entry)) (lineOf (now (glyphs .entry)) (now (tags .entry)) (now (homes .entry)) used) .glyphs ⌝ }
-    ensures homes { λ _. ⌜ now (homes .exit) ≡ workLeaves (subtableOf ligature) (now (bytes .entry)) (lineOf (now (glyphs .entry)) (now (tags .entry)) (now (homes .entry)) used) .homes ⌝ }
+    ensures answer { λ r. ⌜ r ≡ subtableOf ligature .worked (now (bytes .entry))
+        (lineOf (now (glyphs .entry)) (now (tags .entry)) (now (homes .entry)) used) .answer ⌝ }
+    ensures glyphs { λ _. ⌜ now (glyphs .exit) ≡ workLeaves (subtableOf ligature) (now (bytes .entry))
+        (lineOf (now (glyphs .entry)) (now (tags .entry)) (now (homes .entry)) used) .glyphs ⌝ }
+    ensures homes { λ _. ⌜ now (homes .exit) ≡ workLeaves (subtableOf ligature) (now (bytes .entry))
+        (lineOf (now (glyphs .entry)) (now (tags .entry)) (now (homes .entry)) used) .homes ⌝ }
 {
     let none = [0u16; 0];
     work_by(bytes, glyphs, tags, homes, used, &none)
@@ -759,9 +793,12 @@ pub fn pass(
     homes: &mut [u16],
     used: usize,
 ) -> Answer
-    ensures answer { λ r. ⌜ r ≡ passCall (subtableOf ligature) (now (table .entry)) start (lineOf (now (glyphs .entry)) (now (tags .entry)) (now (homes .entry)) used) .answer ⌝ }
-    ensures glyphs { λ _. ⌜ now (glyphs .exit) ≡ callLeaves (subtableOf ligature) (now (table .entry)) start (lineOf (now (glyphs .entry)) (now (tags .entry)) (now (homes .entry)) used) .glyphs ⌝ }
-    ensures homes { λ _. ⌜ now (homes .exit) ≡ callLeaves (subtableOf ligature) (now (table .entry)) start (lineOf (now (glyphs .entry)) (now (tags .entry)) (now (homes .entry)) used) .homes ⌝ }
+    ensures answer { λ r. ⌜ r ≡ passCall (subtableOf ligature) (now (table .entry)) start
+        (lineOf (now (glyphs .entry)) (now (tags .entry)) (now (homes .entry)) used) .answer ⌝ }
+    ensures glyphs { λ _. ⌜ now (glyphs .exit) ≡ callLeaves (subtableOf ligature) (now (table .entry)) start
+        (lineOf (now (glyphs .entry)) (now (tags .entry)) (now (homes .entry)) used) .glyphs ⌝ }
+    ensures homes { λ _. ⌜ now (homes .exit) ≡ callLeaves (subtableOf ligature) (now (table .entry)) start
+        (lineOf (now (glyphs .entry)) (now (tags .entry)) (now (homes .entry)) used) .homes ⌝ }
 {
     let bytes = parse::from(table, start);
     if let Check::Refused(why) = machine::refuse_pass(

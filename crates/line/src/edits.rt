@@ -113,7 +113,8 @@ fn put(glyphs: &mut [u16], at: usize, new: &[u8])
 // Inserts the glyphs of `new`, two bytes for each, at a place of the line, or at its end where the place is above that. They get
 // the tags from the used length up. Returns the used length afterwards.
 pub fn insert(glyphs: &mut [u16], tags: &mut [u16], used: usize, at: usize, new: &[u8]) -> usize
-    requires { ⌜ (used + length (now new) / 2 ≤ length (now glyphs)) × (used + length (now new) / 2 ≤ length (now tags)) × (used + length (now new) / 2 ≤ roomLimit) ⌝ }
+    requires { ⌜ (used + length (now new) / 2 ≤ length (now glyphs)) × (used + length (now new) / 2 ≤ length (now tags)) ×
+        (used + length (now new) / 2 ≤ roomLimit) ⌝ }
     ensures glyphs { λ _. ⌜ now (glyphs .exit) ≡ spliced (min at used) used (glyphsOf (now (new .entry))) (now (glyphs .entry)) ⌝ }
     ensures tags { λ _. ⌜ now (tags .exit) ≡ spliced (min at used) used (numbersFrom used (length (now (new .entry)) / 2)) (now (tags .entry)) ⌝ }
     ensures used { λ r. ⌜ r ≡ used + length (now (new .entry)) / 2 ⌝ }

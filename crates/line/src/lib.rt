@@ -83,8 +83,10 @@ pub fn lone_verb(
     end: usize,
 ) -> Answer
     ensures answer { λ r. ⌜ r ≡ verbCall (lineOf (now (glyphs .entry)) (now (tags .entry)) (now (homes .entry)) used) verb start end .answer ⌝ }
-    ensures glyphs { λ _. ⌜ now (glyphs .exit) ≡ verbCall (lineOf (now (glyphs .entry)) (now (tags .entry)) (now (homes .entry)) used) verb start end .line .glyphs ⌝ }
-    ensures tags { λ _. ⌜ now (tags .exit) ≡ verbCall (lineOf (now (glyphs .entry)) (now (tags .entry)) (now (homes .entry)) used) verb start end .line .tags ⌝ }
+    ensures glyphs { λ _. ⌜ now (glyphs .exit) ≡ verbCall (lineOf (now (glyphs .entry)) (now (tags .entry)) (now (homes .entry)) used) verb start
+        end .line .glyphs ⌝ }
+    ensures tags { λ _. ⌜ now (tags .exit) ≡ verbCall (lineOf (now (glyphs .entry)) (now (tags .entry)) (now (homes .entry)) used) verb start
+        end .line .tags ⌝ }
 {
     if let Check::Refused(why) = refuse_verb(glyphs, tags, homes, used, start, end) {
         return Answer::Refused(why);

@@ -44,9 +44,12 @@ pub fn rearrange(
     used: usize,
 ) -> Answer
     requires { ⌜ (used ≤ length (now glyphs)) × (used ≤ length (now tags)) × (used ≤ roomLimit) ⌝ }
-    ensures answer { λ r. ⌜ r ≡ oldRearrangement .worked (now (bytes .entry)) (lineOf (now (glyphs .entry)) (now (tags .entry)) (now (homes .entry)) used) .answer ⌝ }
-    ensures glyphs { λ _. ⌜ now (glyphs .exit) ≡ workLeaves oldRearrangement (now (bytes .entry)) (lineOf (now (glyphs .entry)) (now (tags .entry)) (now (homes .entry)) used) .glyphs ⌝ }
-    ensures tags { λ _. ⌜ now (tags .exit) ≡ workLeaves oldRearrangement (now (bytes .entry)) (lineOf (now (glyphs .entry)) (now (tags .entry)) (now (homes .entry)) used) .tags ⌝ }
+    ensures answer { λ r. ⌜ r ≡ oldRearrangement .worked (now (bytes .entry))
+        (lineOf (now (glyphs .entry)) (now (tags .entry)) (now (homes .entry)) used) .answer ⌝ }
+    ensures glyphs { λ _. ⌜ now (glyphs .exit) ≡ workLeaves oldRearrangement (now (bytes .entry))
+        (lineOf (now (glyphs .entry)) (now (tags .entry)) (now (homes .entry)) used) .glyphs ⌝ }
+    ensures tags { λ _. ⌜ now (tags .exit) ≡ workLeaves oldRearrangement (now (bytes .entry))
+        (lineOf (now (glyphs .entry)) (now (tags .entry)) (now (homes .entry)) used) .tags ⌝ }
 {
     if !has_kind(bytes, REARRANGEMENT) {
         return Answer::Refused(Refusal::Head);
@@ -67,8 +70,10 @@ pub fn substitute(
     used: usize,
 ) -> Answer
     requires { ⌜ used ≤ length (now glyphs) ⌝ }
-    ensures answer { λ r. ⌜ r ≡ oldNonContextual .worked (now (bytes .entry)) (lineOf (now (glyphs .entry)) (now (tags .entry)) (now (homes .entry)) used) .answer ⌝ }
-    ensures glyphs { λ _. ⌜ now (glyphs .exit) ≡ workLeaves oldNonContextual (now (bytes .entry)) (lineOf (now (glyphs .entry)) (now (tags .entry)) (now (homes .entry)) used) .glyphs ⌝ }
+    ensures answer { λ r. ⌜ r ≡ oldNonContextual .worked (now (bytes .entry))
+        (lineOf (now (glyphs .entry)) (now (tags .entry)) (now (homes .entry)) used) .answer ⌝ }
+    ensures glyphs { λ _. ⌜ now (glyphs .exit) ≡ workLeaves oldNonContextual (now (bytes .entry))
+        (lineOf (now (glyphs .entry)) (now (tags .entry)) (now (homes .entry)) used) .glyphs ⌝ }
 {
     if !has_kind(bytes, NONCONTEXTUAL) {
         return Answer::Refused(Refusal::Head);

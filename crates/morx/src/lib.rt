@@ -153,10 +153,15 @@ fn work_by(
     index: &[u16],
 ) -> PassReply
     requires { ⌜ isValid (lineOf (now glyphs) (now tags) (now homes) used) ≡ true ⌝ }
-    ensures reply { λ r. ⌜ r ≡ passReplyOf (indexedOfKind (now (index .entry)) kind .worked (now (bytes .entry)) (lineOf (now (glyphs .entry)) (now (tags .entry)) (now (homes .entry)) used)) (lineOf (now (glyphs .entry)) (now (tags .entry)) (now (homes .entry)) used) ⌝ }
-    ensures glyphs { λ _. ⌜ now (glyphs .exit) ≡ workLeaves (indexedOfKind (now (index .entry)) kind) (now (bytes .entry)) (lineOf (now (glyphs .entry)) (now (tags .entry)) (now (homes .entry)) used) .glyphs ⌝ }
-    ensures tags { λ _. ⌜ now (tags .exit) ≡ workLeaves (indexedOfKind (now (index .entry)) kind) (now (bytes .entry)) (lineOf (now (glyphs .entry)) (now (tags .entry)) (now (homes .entry)) used) .tags ⌝ }
-    ensures homes { λ _. ⌜ now (homes .exit) ≡ workLeaves (indexedOfKind (now (index .entry)) kind) (now (bytes .entry)) (lineOf (now (glyphs .entry)) (now (tags .entry)) (now (homes .entry)) used) .homes ⌝ }
+    ensures reply { λ r. ⌜ r ≡ passReplyOf (indexedOfKind (now (index .entry)) kind .worked (now (bytes .entry))
+        (lineOf (now (glyphs .entry)) (now (tags .entry)) (now (homes .entry)) used))
+        (lineOf (now (glyphs .entry)) (now (tags .entry)) (now (homes .entry)) used) ⌝ }
+    ensures glyphs { λ _. ⌜ now (glyphs .exit) ≡ workLeaves (indexedOfKind (now (index .entry)) kind) (now (bytes .entry))
+        (lineOf (now (glyphs .entry)) (now (tags .entry)) (now (homes .entry)) used) .glyphs ⌝ }
+    ensures tags { λ _. ⌜ now (tags .exit) ≡ workLeaves (indexedOfKind (now (index .entry)) kind) (now (bytes .entry))
+        (lineOf (now (glyphs .entry)) (now (tags .entry)) (now (homes .entry)) used) .tags ⌝ }
+    ensures homes { λ _. ⌜ now (homes .exit) ≡ workLeaves (indexedOfKind (now (index .entry)) kind) (now (bytes .entry))
+        (lineOf (now (glyphs .entry)) (now (tags .entry)) (now (homes .entry)) used) .homes ⌝ }
 {
     match kind {
         Kind::Rearrangement => {
@@ -210,10 +215,15 @@ fn work(
     used: usize,
 ) -> PassReply
     requires { ⌜ isValid (lineOf (now glyphs) (now tags) (now homes) used) ≡ true ⌝ }
-    ensures reply { λ r. ⌜ r ≡ passReplyOf (subtableOfKind kind .worked (now (bytes .entry)) (lineOf (now (glyphs .entry)) (now (tags .entry)) (now (homes .entry)) used)) (lineOf (now (glyphs .entry)) (now (tags .entry)) (now (homes .entry)) used) ⌝ }
-    ensures glyphs { λ _. ⌜ now (glyphs .exit) ≡ workLeaves (subtableOfKind kind) (now (bytes .entry)) (lineOf (now (glyphs .entry)) (now (tags .entry)) (now (homes .entry)) used) .glyphs ⌝ }
-    ensures tags { λ _. ⌜ now (tags .exit) ≡ workLeaves (subtableOfKind kind) (now (bytes .entry)) (lineOf (now (glyphs .entry)) (now (tags .entry)) (now (homes .entry)) used) .tags ⌝ }
-    ensures homes { λ _. ⌜ now (homes .exit) ≡ workLeaves (subtableOfKind kind) (now (bytes .entry)) (lineOf (now (glyphs .entry)) (now (tags .entry)) (now (homes .entry)) used) .homes ⌝ }
+    ensures reply { λ r. ⌜ r ≡ passReplyOf (subtableOfKind kind .worked (now (bytes .entry))
+        (lineOf (now (glyphs .entry)) (now (tags .entry)) (now (homes .entry)) used))
+        (lineOf (now (glyphs .entry)) (now (tags .entry)) (now (homes .entry)) used) ⌝ }
+    ensures glyphs { λ _. ⌜ now (glyphs .exit) ≡ workLeaves (subtableOfKind kind) (now (bytes .entry))
+        (lineOf (now (glyphs .entry)) (now (tags .entry)) (now (homes .entry)) used) .glyphs ⌝ }
+    ensures tags { λ _. ⌜ now (tags .exit) ≡ workLeaves (subtableOfKind kind) (now (bytes .entry))
+        (lineOf (now (glyphs .entry)) (now (tags .entry)) (now (homes .entry)) used) .tags ⌝ }
+    ensures homes { λ _. ⌜ now (homes .exit) ≡ workLeaves (subtableOfKind kind) (now (bytes .entry))
+        (lineOf (now (glyphs .entry)) (now (tags .entry)) (now (homes .entry)) used) .homes ⌝ }
 {
     let none = [0u16; 0];
     work_by(kind, bytes, glyphs, tags, homes, used, &none)
@@ -271,10 +281,15 @@ fn turn_and_work(
     used: usize,
 ) -> PassReply
     requires { ⌜ isValid (lineOf (now glyphs) (now tags) (now homes) used) ≡ true ⌝ }
-    ensures reply { λ r. ⌜ r ≡ passReplyOf (turnedWork turned kind (now (bytes .entry)) (lineOf (now (glyphs .entry)) (now (tags .entry)) (now (homes .entry)) used)) (lineOf (now (glyphs .entry)) (now (tags .entry)) (now (homes .entry)) used) ⌝ }
-    ensures glyphs { λ _. ⌜ now (glyphs .exit) ≡ turnedLeaves turned kind (now (bytes .entry)) (lineOf (now (glyphs .entry)) (now (tags .entry)) (now (homes .entry)) used) .glyphs ⌝ }
-    ensures tags { λ _. ⌜ now (tags .exit) ≡ turnedLeaves turned kind (now (bytes .entry)) (lineOf (now (glyphs .entry)) (now (tags .entry)) (now (homes .entry)) used) .tags ⌝ }
-    ensures homes { λ _. ⌜ now (homes .exit) ≡ turnedLeaves turned kind (now (bytes .entry)) (lineOf (now (glyphs .entry)) (now (tags .entry)) (now (homes .entry)) used) .homes ⌝ }
+    ensures reply { λ r. ⌜ r ≡ passReplyOf (turnedWork turned kind (now (bytes .entry))
+        (lineOf (now (glyphs .entry)) (now (tags .entry)) (now (homes .entry)) used))
+        (lineOf (now (glyphs .entry)) (now (tags .entry)) (now (homes .entry)) used) ⌝ }
+    ensures glyphs { λ _. ⌜ now (glyphs .exit) ≡ turnedLeaves turned kind (now (bytes .entry))
+        (lineOf (now (glyphs .entry)) (now (tags .entry)) (now (homes .entry)) used) .glyphs ⌝ }
+    ensures tags { λ _. ⌜ now (tags .exit) ≡ turnedLeaves turned kind (now (bytes .entry))
+        (lineOf (now (glyphs .entry)) (now (tags .entry)) (now (homes .entry)) used) .tags ⌝ }
+    ensures homes { λ _. ⌜ now (homes .exit) ≡ turnedLeaves turned kind (now (bytes .entry))
+        (lineOf (now (glyphs .entry)) (now (tags .entry)) (now (homes .entry)) used) .homes ⌝ }
 {
     if !turned {
         return work(kind, bytes, glyphs, tags, homes, used);
@@ -331,10 +346,15 @@ fn visit_subtable(
     used: usize,
 ) -> PassReply
     requires { ⌜ isValid (lineOf (now glyphs) (now tags) (now homes) used) ≡ true ⌝ }
-    ensures reply { λ r. ⌜ r ≡ passReplyOf (visitSubtable (now (table .entry)) choices flags subtable (lineOf (now (glyphs .entry)) (now (tags .entry)) (now (homes .entry)) used)) (lineOf (now (glyphs .entry)) (now (tags .entry)) (now (homes .entry)) used) ⌝ }
-    ensures glyphs { λ _. ⌜ now (glyphs .exit) ≡ subtableLeaves (now (table .entry)) choices flags subtable (lineOf (now (glyphs .entry)) (now (tags .entry)) (now (homes .entry)) used) .glyphs ⌝ }
-    ensures tags { λ _. ⌜ now (tags .exit) ≡ subtableLeaves (now (table .entry)) choices flags subtable (lineOf (now (glyphs .entry)) (now (tags .entry)) (now (homes .entry)) used) .tags ⌝ }
-    ensures homes { λ _. ⌜ now (homes .exit) ≡ subtableLeaves (now (table .entry)) choices flags subtable (lineOf (now (glyphs .entry)) (now (tags .entry)) (now (homes .entry)) used) .homes ⌝ }
+    ensures reply { λ r. ⌜ r ≡ passReplyOf (visitSubtable (now (table .entry)) choices flags subtable
+        (lineOf (now (glyphs .entry)) (now (tags .entry)) (now (homes .entry)) used))
+        (lineOf (now (glyphs .entry)) (now (tags .entry)) (now (homes .entry)) used) ⌝ }
+    ensures glyphs { λ _. ⌜ now (glyphs .exit) ≡ subtableLeaves (now (table .entry)) choices flags subtable
+        (lineOf (now (glyphs .entry)) (now (tags .entry)) (now (homes .entry)) used) .glyphs ⌝ }
+    ensures tags { λ _. ⌜ now (tags .exit) ≡ subtableLeaves (now (table .entry)) choices flags subtable
+        (lineOf (now (glyphs .entry)) (now (tags .entry)) (now (homes .entry)) used) .tags ⌝ }
+    ensures homes { λ _. ⌜ now (homes .exit) ≡ subtableLeaves (now (table .entry)) choices flags subtable
+        (lineOf (now (glyphs .entry)) (now (tags .entry)) (now (homes .entry)) used) .homes ⌝ }
 {
     let bytes = parse::from(table, subtable.place);
     let edition = choices.edition;
@@ -367,10 +387,15 @@ fn visit(
     used: usize,
 ) -> PassReply
     requires { ⌜ isValid (lineOf (now glyphs) (now tags) (now homes) used) ≡ true ⌝ }
-    ensures reply { λ r. ⌜ r ≡ passReplyOf (visit (now (table .entry)) choices flags head (lineOf (now (glyphs .entry)) (now (tags .entry)) (now (homes .entry)) used)) (lineOf (now (glyphs .entry)) (now (tags .entry)) (now (homes .entry)) used) ⌝ }
-    ensures glyphs { λ _. ⌜ now (glyphs .exit) ≡ visitLeaves (now (table .entry)) choices flags head (lineOf (now (glyphs .entry)) (now (tags .entry)) (now (homes .entry)) used) .glyphs ⌝ }
-    ensures tags { λ _. ⌜ now (tags .exit) ≡ visitLeaves (now (table .entry)) choices flags head (lineOf (now (glyphs .entry)) (now (tags .entry)) (now (homes .entry)) used) .tags ⌝ }
-    ensures homes { λ _. ⌜ now (homes .exit) ≡ visitLeaves (now (table .entry)) choices flags head (lineOf (now (glyphs .entry)) (now (tags .entry)) (now (homes .entry)) used) .homes ⌝ }
+    ensures reply { λ r. ⌜ r ≡ passReplyOf (visit (now (table .entry)) choices flags head
+        (lineOf (now (glyphs .entry)) (now (tags .entry)) (now (homes .entry)) used))
+        (lineOf (now (glyphs .entry)) (now (tags .entry)) (now (homes .entry)) used) ⌝ }
+    ensures glyphs { λ _. ⌜ now (glyphs .exit) ≡ visitLeaves (now (table .entry)) choices flags head
+        (lineOf (now (glyphs .entry)) (now (tags .entry)) (now (homes .entry)) used) .glyphs ⌝ }
+    ensures tags { λ _. ⌜ now (tags .exit) ≡ visitLeaves (now (table .entry)) choices flags head
+        (lineOf (now (glyphs .entry)) (now (tags .entry)) (now (homes .entry)) used) .tags ⌝ }
+    ensures homes { λ _. ⌜ now (homes .exit) ≡ visitLeaves (now (table .entry)) choices flags head
+        (lineOf (now (glyphs .entry)) (now (tags .entry)) (now (homes .entry)) used) .homes ⌝ }
 {
     let Head::Subtable(subtable) = head else {
         return PassReply {
@@ -404,10 +429,14 @@ fn run_line(
     requests: &[u32],
 ) -> RunReply
     requires { ⌜ (isValid (lineOf (now glyphs) (now tags) (now homes) used) ≡ true) × (start ≤ length (now table)) ⌝ }
-    ensures reply { λ r. ⌜ r ≡ runReplyOf (ran (now (table .entry)) start choices (lineOf (now (glyphs .entry)) (now (tags .entry)) (now (homes .entry)) used) (now (requests .entry))) (lineOf (now (glyphs .entry)) (now (tags .entry)) (now (homes .entry)) used) ⌝ }
-    ensures glyphs { λ _. ⌜ now (glyphs .exit) ≡ ranLeaves (now (table .entry)) start choices (lineOf (now (glyphs .entry)) (now (tags .entry)) (now (homes .entry)) used) (now (requests .entry)) .glyphs ⌝ }
-    ensures tags { λ _. ⌜ now (tags .exit) ≡ ranLeaves (now (table .entry)) start choices (lineOf (now (glyphs .entry)) (now (tags .entry)) (now (homes .entry)) used) (now (requests .entry)) .tags ⌝ }
-    ensures homes { λ _. ⌜ now (homes .exit) ≡ ranLeaves (now (table .entry)) start choices (lineOf (now (glyphs .entry)) (now (tags .entry)) (now (homes .entry)) used) (now (requests .entry)) .homes ⌝ }
+    ensures reply { λ r. ⌜ r ≡ runReplyOf (ran (now (table .entry)) start choices (lineOf (now (glyphs .entry)) (now (tags .entry)) (now (homes .entry)) used)
+        (now (requests .entry))) (lineOf (now (glyphs .entry)) (now (tags .entry)) (now (homes .entry)) used) ⌝ }
+    ensures glyphs { λ _. ⌜ now (glyphs .exit) ≡ ranLeaves (now (table .entry)) start choices
+        (lineOf (now (glyphs .entry)) (now (tags .entry)) (now (homes .entry)) used) (now (requests .entry)) .glyphs ⌝ }
+    ensures tags { λ _. ⌜ now (tags .exit) ≡ ranLeaves (now (table .entry)) start choices
+        (lineOf (now (glyphs .entry)) (now (tags .entry)) (now (homes .entry)) used) (now (requests .entry)) .tags ⌝ }
+    ensures homes { λ _. ⌜ now (homes .exit) ≡ ranLeaves (now (table .entry)) start choices
+        (lineOf (now (glyphs .entry)) (now (tags .entry)) (now (homes .entry)) used) (now (requests .entry)) .homes ⌝ }
 {
     let edition = choices.edition;
     let mut walk = chains::walk_from(table, start);
@@ -479,10 +508,15 @@ pub fn pass(
     homes: &mut [u16],
     used: usize,
 ) -> PassReply
-    ensures reply { λ r. ⌜ r ≡ passReplyOf (passCall (anySubtable edition) (now (table .entry)) start (lineOf (now (glyphs .entry)) (now (tags .entry)) (now (homes .entry)) used)) (lineOf (now (glyphs .entry)) (now (tags .entry)) (now (homes .entry)) used) ⌝ }
-    ensures glyphs { λ _. ⌜ now (glyphs .exit) ≡ callLeaves (anySubtable edition) (now (table .entry)) start (lineOf (now (glyphs .entry)) (now (tags .entry)) (now (homes .entry)) used) .glyphs ⌝ }
-    ensures tags { λ _. ⌜ now (tags .exit) ≡ callLeaves (anySubtable edition) (now (table .entry)) start (lineOf (now (glyphs .entry)) (now (tags .entry)) (now (homes .entry)) used) .tags ⌝ }
-    ensures homes { λ _. ⌜ now (homes .exit) ≡ callLeaves (anySubtable edition) (now (table .entry)) start (lineOf (now (glyphs .entry)) (now (tags .entry)) (now (homes .entry)) used) .homes ⌝ }
+    ensures reply { λ r. ⌜ r ≡ passReplyOf (passCall (anySubtable edition) (now (table .entry)) start
+        (lineOf (now (glyphs .entry)) (now (tags .entry)) (now (homes .entry)) used))
+        (lineOf (now (glyphs .entry)) (now (tags .entry)) (now (homes .entry)) used) ⌝ }
+    ensures glyphs { λ _. ⌜ now (glyphs .exit) ≡ callLeaves (anySubtable edition) (now (table .entry)) start
+        (lineOf (now (glyphs .entry)) (now (tags .entry)) (now (homes .entry)) used) .glyphs ⌝ }
+    ensures tags { λ _. ⌜ now (tags .exit) ≡ callLeaves (anySubtable edition) (now (table .entry)) start
+        (lineOf (now (glyphs .entry)) (now (tags .entry)) (now (homes .entry)) used) .tags ⌝ }
+    ensures homes { λ _. ⌜ now (homes .exit) ≡ callLeaves (anySubtable edition) (now (table .entry)) start
+        (lineOf (now (glyphs .entry)) (now (tags .entry)) (now (homes .entry)) used) .homes ⌝ }
 {
     if let Check::Refused(why) = refuse_line(table.len(), glyphs, tags, homes, used) {
         return PassReply {
@@ -521,7 +555,8 @@ fn refuse_indexed(
     entries: usize,
     another: bool,
 ) -> Check
-    ensures { λ r. ⌜ r ≡ refuse (indexedTests «table_length» (lineOf (now (glyphs .entry)) (now (tags .entry)) (now (homes .entry)) used) opens entries another) ⌝ }
+    ensures { λ r. ⌜ r ≡ refuse (indexedTests «table_length» (lineOf (now (glyphs .entry)) (now (tags .entry)) (now (homes .entry)) used) opens entries
+        another) ⌝ }
 {
     if let Check::Refused(why) = machine::refuse_pass(
         table_length,
@@ -550,10 +585,14 @@ pub fn pass_indexed(
     index: &[u16],
     class_start: usize,
 ) -> PassReply
-    ensures reply { λ r. ⌜ r ≡ passReplyOf (indexedCall (now (table .entry)) start (lineOf (now (glyphs .entry)) (now (tags .entry)) (now (homes .entry)) used) (now (index .entry)) «class_start») (lineOf (now (glyphs .entry)) (now (tags .entry)) (now (homes .entry)) used) ⌝ }
-    ensures glyphs { λ _. ⌜ now (glyphs .exit) ≡ indexedLeaves (now (table .entry)) start (lineOf (now (glyphs .entry)) (now (tags .entry)) (now (homes .entry)) used) (now (index .entry)) «class_start» .glyphs ⌝ }
-    ensures tags { λ _. ⌜ now (tags .exit) ≡ indexedLeaves (now (table .entry)) start (lineOf (now (glyphs .entry)) (now (tags .entry)) (now (homes .entry)) used) (now (index .entry)) «class_start» .tags ⌝ }
-    ensures homes { λ _. ⌜ now (homes .exit) ≡ indexedLeaves (now (table .entry)) start (lineOf (now (glyphs .entry)) (now (tags .entry)) (now (homes .entry)) used) (now (index .entry)) «class_start» .homes ⌝ }
+    ensures reply { λ r. ⌜ r ≡ passReplyOf (indexedCall (now (table .entry)) start (lineOf (now (glyphs .entry)) (now (tags .entry)) (now (homes .entry)) used)
+        (now (index .entry)) «class_start») (lineOf (now (glyphs .entry)) (now (tags .entry)) (now (homes .entry)) used) ⌝ }
+    ensures glyphs { λ _. ⌜ now (glyphs .exit) ≡ indexedLeaves (now (table .entry)) start
+        (lineOf (now (glyphs .entry)) (now (tags .entry)) (now (homes .entry)) used) (now (index .entry)) «class_start» .glyphs ⌝ }
+    ensures tags { λ _. ⌜ now (tags .exit) ≡ indexedLeaves (now (table .entry)) start
+        (lineOf (now (glyphs .entry)) (now (tags .entry)) (now (homes .entry)) used) (now (index .entry)) «class_start» .tags ⌝ }
+    ensures homes { λ _. ⌜ now (homes .exit) ≡ indexedLeaves (now (table .entry)) start
+        (lineOf (now (glyphs .entry)) (now (tags .entry)) (now (homes .entry)) used) (now (index .entry)) «class_start» .homes ⌝ }
 {
     let bytes = parse::from(table, start);
     let kind = new_kind_at(bytes);
@@ -587,7 +626,8 @@ fn refuse_run(
     used: usize,
     requests: &[u32],
 ) -> Check
-    ensures { λ r. ⌜ r ≡ refuse (runTests «table_length» start (lineOf (now (glyphs .entry)) (now (tags .entry)) (now (homes .entry)) used) (now (requests .entry))) ⌝ }
+    ensures { λ r. ⌜ r ≡ refuse (runTests «table_length» start (lineOf (now (glyphs .entry)) (now (tags .entry)) (now (homes .entry)) used)
+        (now (requests .entry))) ⌝ }
 {
     if let Check::Refused(why) = answers::refuse_table(table_length) {
         return Check::Refused(why);
@@ -615,10 +655,15 @@ pub fn run(
     used: usize,
     requests: &[u32],
 ) -> RunReply
-    ensures reply { λ r. ⌜ r ≡ runReplyOf (runCall (now (table .entry)) start choices (lineOf (now (glyphs .entry)) (now (tags .entry)) (now (homes .entry)) used) (now (requests .entry))) (lineOf (now (glyphs .entry)) (now (tags .entry)) (now (homes .entry)) used) ⌝ }
-    ensures glyphs { λ _. ⌜ now (glyphs .exit) ≡ runLeaves (now (table .entry)) start choices (lineOf (now (glyphs .entry)) (now (tags .entry)) (now (homes .entry)) used) (now (requests .entry)) .glyphs ⌝ }
-    ensures tags { λ _. ⌜ now (tags .exit) ≡ runLeaves (now (table .entry)) start choices (lineOf (now (glyphs .entry)) (now (tags .entry)) (now (homes .entry)) used) (now (requests .entry)) .tags ⌝ }
-    ensures homes { λ _. ⌜ now (homes .exit) ≡ runLeaves (now (table .entry)) start choices (lineOf (now (glyphs .entry)) (now (tags .entry)) (now (homes .entry)) used) (now (requests .entry)) .homes ⌝ }
+    ensures reply { λ r. ⌜ r ≡ runReplyOf (runCall (now (table .entry)) start choices
+        (lineOf (now (glyphs .entry)) (now (tags .entry)) (now (homes .entry)) used) (now (requests .entry)))
+        (lineOf (now (glyphs .entry)) (now (tags .entry)) (now (homes .entry)) used) ⌝ }
+    ensures glyphs { λ _. ⌜ now (glyphs .exit) ≡ runLeaves (now (table .entry)) start choices
+        (lineOf (now (glyphs .entry)) (now (tags .entry)) (now (homes .entry)) used) (now (requests .entry)) .glyphs ⌝ }
+    ensures tags { λ _. ⌜ now (tags .exit) ≡ runLeaves (now (table .entry)) start choices
+        (lineOf (now (glyphs .entry)) (now (tags .entry)) (now (homes .entry)) used) (now (requests .entry)) .tags ⌝ }
+    ensures homes { λ _. ⌜ now (homes .exit) ≡ runLeaves (now (table .entry)) start choices
+        (lineOf (now (glyphs .entry)) (now (tags .entry)) (now (homes .entry)) used) (now (requests .entry)) .homes ⌝ }
 {
     if let Check::Refused(why) = refuse_run(
         table.len(),

@@ -39,7 +39,8 @@ fn replace(body: &[u8], opened: Opened, glyphs: &mut [u16], used: usize, place: 
 // The pass by a lookup of any format.
 fn by_lookup(body: &[u8], glyphs: &mut [u16], tags: &[u16], homes: &[u16], used: usize)
     requires { ⌜ used ≤ length (now glyphs) ⌝ }
-    ensures { λ _. ⌜ now (glyphs .exit) ≡ passedLeaves (lookupAt (now (body .entry))) (lineOf (now (glyphs .entry)) (now (tags .entry)) (now (homes .entry)) used) .glyphs ⌝ }
+    ensures { λ _. ⌜ now (glyphs .exit) ≡ passedLeaves (lookupAt (now (body .entry)))
+        (lineOf (now (glyphs .entry)) (now (tags .entry)) (now (homes .entry)) used) .glyphs ⌝ }
 {
     let opened = opened::open(body);
     let mut place = 0;
@@ -78,7 +79,8 @@ fn by_records(
     used: usize,
 )
     requires { ⌜ (recordsOf (now body) ≡ Records.Whole kind count) × (used ≤ length (now glyphs)) ⌝ }
-    ensures { λ _. ⌜ now (glyphs .exit) ≡ passedLeaves (lookupAt (now (body .entry))) (lineOf (now (glyphs .entry)) (now (tags .entry)) (now (homes .entry)) used) .glyphs ⌝ }
+    ensures { λ _. ⌜ now (glyphs .exit) ≡ passedLeaves (lookupAt (now (body .entry)))
+        (lineOf (now (glyphs .entry)) (now (tags .entry)) (now (homes .entry)) used) .glyphs ⌝ }
 {
     let mut memo = [0; 64];
     let mut place: usize = 0;
@@ -92,7 +94,8 @@ fn by_records(
 // The pass over a line that LINE has taken, with the bytes of the lookup.
 fn pass_line(body: &[u8], glyphs: &mut [u16], tags: &[u16], homes: &[u16], used: usize)
     requires { ⌜ used ≤ length (now glyphs) ⌝ }
-    ensures { λ _. ⌜ now (glyphs .exit) ≡ passedLeaves (lookupAt (now (body .entry))) (lineOf (now (glyphs .entry)) (now (tags .entry)) (now (homes .entry)) used) .glyphs ⌝ }
+    ensures { λ _. ⌜ now (glyphs .exit) ≡ passedLeaves (lookupAt (now (body .entry)))
+        (lineOf (now (glyphs .entry)) (now (tags .entry)) (now (homes .entry)) used) .glyphs ⌝ }
 {
     let Records::Whole { kind, count } = whole::records_of(body) else {
         return by_lookup(body, glyphs, tags, homes, used);
@@ -103,8 +106,10 @@ fn pass_line(body: &[u8], glyphs: &mut [u16], tags: &[u16], homes: &[u16], used:
 // The pass over a line that LINE has taken, by the subtable that the bytes begin with; HEAD where it is none of this kind.
 pub fn work(bytes: &[u8], glyphs: &mut [u16], tags: &[u16], homes: &[u16], used: usize) -> Answer
     requires { ⌜ used ≤ length (now glyphs) ⌝ }
-    ensures answer { λ r. ⌜ r ≡ noncontextual .worked (now (bytes .entry)) (lineOf (now (glyphs .entry)) (now (tags .entry)) (now (homes .entry)) used) .answer ⌝ }
-    ensures glyphs { λ _. ⌜ now (glyphs .exit) ≡ workLeaves noncontextual (now (bytes .entry)) (lineOf (now (glyphs .entry)) (now (tags .entry)) (now (homes .entry)) used) .glyphs ⌝ }
+    ensures answer { λ r. ⌜ r ≡ noncontextual .worked (now (bytes .entry))
+        (lineOf (now (glyphs .entry)) (now (tags .entry)) (now (homes .entry)) used) .answer ⌝ }
+    ensures glyphs { λ _. ⌜ now (glyphs .exit) ≡ workLeaves noncontextual (now (bytes .entry))
+        (lineOf (now (glyphs .entry)) (now (tags .entry)) (now (homes .entry)) used) .glyphs ⌝ }
 {
     if !machine::has_kind(bytes, KIND) {
         return Answer::Refused(Refusal::Head);
@@ -122,8 +127,10 @@ pub fn pass(
     homes: &[u16],
     used: usize,
 ) -> Answer
-    ensures answer { λ r. ⌜ r ≡ passCall noncontextual (now (table .entry)) start (lineOf (now (glyphs .entry)) (now (tags .entry)) (now (homes .entry)) used) .answer ⌝ }
-    ensures glyphs { λ _. ⌜ now (glyphs .exit) ≡ callLeaves noncontextual (now (table .entry)) start (lineOf (now (glyphs .entry)) (now (tags .entry)) (now (homes .entry)) used) .glyphs ⌝ }
+    ensures answer { λ r. ⌜ r ≡ passCall noncontextual (now (table .entry)) start
+        (lineOf (now (glyphs .entry)) (now (tags .entry)) (now (homes .entry)) used) .answer ⌝ }
+    ensures glyphs { λ _. ⌜ now (glyphs .exit) ≡ callLeaves noncontextual (now (table .entry)) start
+        (lineOf (now (glyphs .entry)) (now (tags .entry)) (now (homes .entry)) used) .glyphs ⌝ }
 {
     let bytes = parse::from(table, start);
     let opens = machine::has_kind(bytes, KIND);

@@ -30,7 +30,8 @@ pub fn pass_by(
     used: usize,
 )
     requires { ⌜ used ≤ length (now glyphs) ⌝ }
-    ensures { λ _. ⌜ now (glyphs .exit) ≡ passedLeaves (lookupBy reading (now (body .entry))) (lineOf (now (glyphs .entry)) (now (tags .entry)) (now (homes .entry)) used) .glyphs ⌝ }
+    ensures { λ _. ⌜ now (glyphs .exit) ≡ passedLeaves (lookupBy reading (now (body .entry)))
+        (lineOf (now (glyphs .entry)) (now (tags .entry)) (now (homes .entry)) used) .glyphs ⌝ }
 {
     let mut place = 0;
     while place < used {

@@ -295,8 +295,10 @@ fn add_each(
     stop: usize,
     along: &mut [i64],
 )
-    requires { ⌜ (before < from) × (from ≤ stop) × (stop ≤ length (now glyphs)) × (stop ≤ length (now along)) × (stop ≤ roomLimit) × Within (2 ^ 61) (now along) ⌝ }
-    ensures { λ _. ⌜ now (along .exit) ≡ addAll (stretch (pairNumber (now (bytes .entry)) pairs) (now (glyphs .entry)) before from (stop - from)) (now (along .entry)) ⌝ }
+    requires { ⌜ (before < from) × (from ≤ stop) × (stop ≤ length (now glyphs)) × (stop ≤ length (now along)) × (stop ≤ roomLimit) × Within (2 ^ 61)
+        (now along) ⌝ }
+    ensures { λ _. ⌜ now (along .exit) ≡ addAll (stretch (pairNumber (now (bytes .entry)) pairs) (now (glyphs .entry)) before from (stop - from))
+        (now (along .entry)) ⌝ }
 {
     let mut left = before;
     let mut place = from;
@@ -332,8 +334,10 @@ fn add_inside(
     stop: usize,
     along: &mut [i64],
 )
-    requires { ⌜ (pairPlace first count ≤ length (now bytes)) × (before < from) × (from ≤ stop) × (stop ≤ length (now glyphs)) × (stop ≤ length (now along)) × (stop ≤ roomLimit) × Within (2 ^ 61) (now along) ⌝ }
-    ensures { λ _. ⌜ now (along .exit) ≡ addAll (stretch (pairNumber (now (bytes .entry)) (Ordered first count)) (now (glyphs .entry)) before from (stop - from)) (now (along .entry)) ⌝ }
+    requires { ⌜ (pairPlace first count ≤ length (now bytes)) × (before < from) × (from ≤ stop) × (stop ≤ length (now glyphs)) × (stop ≤ length (now along)) ×
+        (stop ≤ roomLimit) × Within (2 ^ 61) (now along) ⌝ }
+    ensures { λ _. ⌜ now (along .exit) ≡ addAll (stretch (pairNumber (now (bytes .entry)) (Ordered first count)) (now (glyphs .entry)) before from
+        (stop - from)) (now (along .entry)) ⌝ }
 {
     let mut left = before;
     let mut place = from;
@@ -380,8 +384,10 @@ fn add_classes(
     stop: usize,
     along: &mut [i64],
 )
-    requires { ⌜ (before < from) × (from ≤ stop) × (stop ≤ length (now glyphs)) × (stop ≤ length (now along)) × (stop ≤ roomLimit) × Within (2 ^ 61) (now along) ⌝ }
-    ensures { λ _. ⌜ now (along .exit) ≡ addAll (stretch (pairNumber (now (bytes .entry)) (Classes rows columns array Reading.Crate)) (now (glyphs .entry)) before from (stop - from)) (now (along .entry)) ⌝ }
+    requires { ⌜ (before < from) × (from ≤ stop) × (stop ≤ length (now glyphs)) × (stop ≤ length (now along)) × (stop ≤ roomLimit) × Within (2 ^ 61)
+        (now along) ⌝ }
+    ensures { λ _. ⌜ now (along .exit) ≡ addAll (stretch (pairNumber (now (bytes .entry)) (Classes rows columns array Reading.Crate)) (now (glyphs .entry))
+        before from (stop - from)) (now (along .entry)) ⌝ }
 {
     let lefts = parse::from(bytes, rows as usize);
     let rights = parse::from(bytes, columns as usize);
@@ -449,8 +455,10 @@ fn add_stretch(
     stop: usize,
     along: &mut [i64],
 )
-    requires { ⌜ (before < from) × (from ≤ stop) × (stop ≤ length (now glyphs)) × (stop ≤ length (now along)) × (stop ≤ roomLimit) × Within (2 ^ 61) (now along) ⌝ }
-    ensures { λ _. ⌜ now (along .exit) ≡ addAll (stretch (pairNumber (now (bytes .entry)) pairs) (now (glyphs .entry)) before from (stop - from)) (now (along .entry)) ⌝ }
+    requires { ⌜ (before < from) × (from ≤ stop) × (stop ≤ length (now glyphs)) × (stop ≤ length (now along)) × (stop ≤ roomLimit) × Within (2 ^ 61)
+        (now along) ⌝ }
+    ensures { λ _. ⌜ now (along .exit) ≡ addAll (stretch (pairNumber (now (bytes .entry)) pairs) (now (glyphs .entry)) before from (stop - from))
+        (now (along .entry)) ⌝ }
 {
     if !is_plain(bytes, pairs) {
         add_each(bytes, pairs, glyphs, before, from, stop, along);
@@ -491,7 +499,8 @@ fn add_pairs(
     rule: PairRule,
 )
     requires { ⌜ (used ≤ length (now glyphs)) × (used ≤ length (now along)) × (used ≤ roomLimit) × Within (2 ^ 60) (now along) ⌝ }
-    ensures { λ _. ⌜ now (along .exit) ≡ addAll (pairsBelow (counts rule (now (glyphs .entry))) (pairNumber (now (bytes .entry)) pairs) (now (glyphs .entry)) used) (now (along .entry)) ⌝ }
+    ensures { λ _. ⌜ now (along .exit) ≡ addAll (pairsBelow (counts rule (now (glyphs .entry))) (pairNumber (now (bytes .entry)) pairs) (now (glyphs .entry))
+        used) (now (along .entry)) ⌝ }
 {
     let mut before = next_counted(rule, glyphs, used, 0);
     let mut from = next_counted(rule, glyphs, used, before + 1);

@@ -93,7 +93,8 @@ fn run_part(
     used: usize,
 ) -> RunReply
     requires { ⌜ Inside span (length (now glyphs)) (length (now tags)) (length (now homes)) ⌝ }
-    ensures reply { λ r. ⌜ r ≡ runReplyOf (runCall (now (table .entry)) start choices (spanLine span (now (glyphs .entry)) (now (tags .entry)) (now (homes .entry)) used) (now (requests .entry)))
+    ensures reply { λ r. ⌜ r ≡ runReplyOf (runCall (now (table .entry)) start choices
+        (spanLine span (now (glyphs .entry)) (now (tags .entry)) (now (homes .entry)) used) (now (requests .entry)))
         (spanLine span (now (glyphs .entry)) (now (tags .entry)) (now (homes .entry)) used) ⌝ }
     ensures glyphs { λ _. ⌜ now (glyphs .exit) ≡ over (span .at) (span .room) (now (glyphs .entry)) (runLeaves (now (table .entry)) start choices
         (spanLine span (now (glyphs .entry)) (now (tags .entry)) (now (homes .entry)) used) (now (requests .entry)) .glyphs) ⌝ }
@@ -148,17 +149,23 @@ fn run_lines(
     homes: &mut [u16],
 )
     requires { ⌜ isLent (reelOf (now rooms) (now characters) (now used) (now answers) (now heads) (now glyphs) (now tags) (now homes)) ≡ true ⌝ }
-    ensures used { λ _. ⌜ now (used .exit) ≡ tableLeaves (now (table .entry)) start choices (now (requests .entry)) (reelOf (now (rooms .entry)) (now (characters .entry))
+    ensures used { λ _. ⌜ now (used .exit) ≡ tableLeaves (now (table .entry)) start choices (now (requests .entry))
+        (reelOf (now (rooms .entry)) (now (characters .entry))
         (now (used .entry)) (now (answers .entry)) (now (heads .entry)) (now (glyphs .entry)) (now (tags .entry)) (now (homes .entry))) .used ⌝ }
-    ensures answers { λ _. ⌜ now (answers .exit) ≡ tableLeaves (now (table .entry)) start choices (now (requests .entry)) (reelOf (now (rooms .entry)) (now (characters .entry))
+    ensures answers { λ _. ⌜ now (answers .exit) ≡ tableLeaves (now (table .entry)) start choices (now (requests .entry))
+        (reelOf (now (rooms .entry)) (now (characters .entry))
         (now (used .entry)) (now (answers .entry)) (now (heads .entry)) (now (glyphs .entry)) (now (tags .entry)) (now (homes .entry))) .answers ⌝ }
-    ensures heads { λ _. ⌜ now (heads .exit) ≡ tableLeaves (now (table .entry)) start choices (now (requests .entry)) (reelOf (now (rooms .entry)) (now (characters .entry))
+    ensures heads { λ _. ⌜ now (heads .exit) ≡ tableLeaves (now (table .entry)) start choices (now (requests .entry))
+        (reelOf (now (rooms .entry)) (now (characters .entry))
         (now (used .entry)) (now (answers .entry)) (now (heads .entry)) (now (glyphs .entry)) (now (tags .entry)) (now (homes .entry))) .heads ⌝ }
-    ensures glyphs { λ _. ⌜ now (glyphs .exit) ≡ tableLeaves (now (table .entry)) start choices (now (requests .entry)) (reelOf (now (rooms .entry)) (now (characters .entry))
+    ensures glyphs { λ _. ⌜ now (glyphs .exit) ≡ tableLeaves (now (table .entry)) start choices (now (requests .entry))
+        (reelOf (now (rooms .entry)) (now (characters .entry))
         (now (used .entry)) (now (answers .entry)) (now (heads .entry)) (now (glyphs .entry)) (now (tags .entry)) (now (homes .entry))) .glyphs ⌝ }
-    ensures tags { λ _. ⌜ now (tags .exit) ≡ tableLeaves (now (table .entry)) start choices (now (requests .entry)) (reelOf (now (rooms .entry)) (now (characters .entry))
+    ensures tags { λ _. ⌜ now (tags .exit) ≡ tableLeaves (now (table .entry)) start choices (now (requests .entry))
+        (reelOf (now (rooms .entry)) (now (characters .entry))
         (now (used .entry)) (now (answers .entry)) (now (heads .entry)) (now (glyphs .entry)) (now (tags .entry)) (now (homes .entry))) .tags ⌝ }
-    ensures homes { λ _. ⌜ now (homes .exit) ≡ tableLeaves (now (table .entry)) start choices (now (requests .entry)) (reelOf (now (rooms .entry)) (now (characters .entry))
+    ensures homes { λ _. ⌜ now (homes .exit) ≡ tableLeaves (now (table .entry)) start choices (now (requests .entry))
+        (reelOf (now (rooms .entry)) (now (characters .entry))
         (now (used .entry)) (now (answers .entry)) (now (heads .entry)) (now (glyphs .entry)) (now (tags .entry)) (now (homes .entry))) .homes ⌝ }
 {
     let mut at: usize = 0;
@@ -209,17 +216,23 @@ pub fn run(
 ) -> Answer
     ensures answer { λ r. ⌜ r ≡ reelAnswer (reelOf (now (rooms .entry)) (now (characters .entry))
         (now (used .entry)) (now (answers .entry)) (now (heads .entry)) (now (glyphs .entry)) (now (tags .entry)) (now (homes .entry))) ⌝ }
-    ensures used { λ _. ⌜ now (used .exit) ≡ tableLeaves (now (table .entry)) start choices (now (requests .entry)) (reelOf (now (rooms .entry)) (now (characters .entry))
+    ensures used { λ _. ⌜ now (used .exit) ≡ tableLeaves (now (table .entry)) start choices (now (requests .entry))
+        (reelOf (now (rooms .entry)) (now (characters .entry))
         (now (used .entry)) (now (answers .entry)) (now (heads .entry)) (now (glyphs .entry)) (now (tags .entry)) (now (homes .entry))) .used ⌝ }
-    ensures answers { λ _. ⌜ now (answers .exit) ≡ tableLeaves (now (table .entry)) start choices (now (requests .entry)) (reelOf (now (rooms .entry)) (now (characters .entry))
+    ensures answers { λ _. ⌜ now (answers .exit) ≡ tableLeaves (now (table .entry)) start choices (now (requests .entry))
+        (reelOf (now (rooms .entry)) (now (characters .entry))
         (now (used .entry)) (now (answers .entry)) (now (heads .entry)) (now (glyphs .entry)) (now (tags .entry)) (now (homes .entry))) .answers ⌝ }
-    ensures heads { λ _. ⌜ now (heads .exit) ≡ tableLeaves (now (table .entry)) start choices (now (requests .entry)) (reelOf (now (rooms .entry)) (now (characters .entry))
+    ensures heads { λ _. ⌜ now (heads .exit) ≡ tableLeaves (now (table .entry)) start choices (now (requests .entry))
+        (reelOf (now (rooms .entry)) (now (characters .entry))
         (now (used .entry)) (now (answers .entry)) (now (heads .entry)) (now (glyphs .entry)) (now (tags .entry)) (now (homes .entry))) .heads ⌝ }
-    ensures glyphs { λ _. ⌜ now (glyphs .exit) ≡ tableLeaves (now (table .entry)) start choices (now (requests .entry)) (reelOf (now (rooms .entry)) (now (characters .entry))
+    ensures glyphs { λ _. ⌜ now (glyphs .exit) ≡ tableLeaves (now (table .entry)) start choices (now (requests .entry))
+        (reelOf (now (rooms .entry)) (now (characters .entry))
         (now (used .entry)) (now (answers .entry)) (now (heads .entry)) (now (glyphs .entry)) (now (tags .entry)) (now (homes .entry))) .glyphs ⌝ }
-    ensures tags { λ _. ⌜ now (tags .exit) ≡ tableLeaves (now (table .entry)) start choices (now (requests .entry)) (reelOf (now (rooms .entry)) (now (characters .entry))
+    ensures tags { λ _. ⌜ now (tags .exit) ≡ tableLeaves (now (table .entry)) start choices (now (requests .entry))
+        (reelOf (now (rooms .entry)) (now (characters .entry))
         (now (used .entry)) (now (answers .entry)) (now (heads .entry)) (now (glyphs .entry)) (now (tags .entry)) (now (homes .entry))) .tags ⌝ }
-    ensures homes { λ _. ⌜ now (homes .exit) ≡ tableLeaves (now (table .entry)) start choices (now (requests .entry)) (reelOf (now (rooms .entry)) (now (characters .entry))
+    ensures homes { λ _. ⌜ now (homes .exit) ≡ tableLeaves (now (table .entry)) start choices (now (requests .entry))
+        (reelOf (now (rooms .entry)) (now (characters .entry))
         (now (used .entry)) (now (answers .entry)) (now (heads .entry)) (now (glyphs .entry)) (now (tags .entry)) (now (homes .entry))) .homes ⌝ }
 {
     if !is_lent(rooms, characters, used, answers, heads, glyphs, tags, homes) {

@@ -66,11 +66,17 @@ fn shape_line(
     tags: &mut [u16],
     homes: &mut [u16],
 ) -> RunReply
-    requires { ⌜ (length (now homes) ≡ length (now new) / 2) × (length (now new) / 2 ≤ length (now glyphs)) × (length (now new) / 2 ≤ length (now tags)) × (length (now new) / 2 ≤ roomLimit) ⌝ }
-    ensures reply { λ r. ⌜ r ≡ runReplyOf (runCall (now (table .entry)) 0 leftToRight (startLine (now (new .entry)) (now (glyphs .entry)) (now (tags .entry)) (now (homes .entry))) []) (startLine (now (new .entry)) (now (glyphs .entry)) (now (tags .entry)) (now (homes .entry))) ⌝ }
-    ensures glyphs { λ _. ⌜ now (glyphs .exit) ≡ runLeaves (now (table .entry)) 0 leftToRight (startLine (now (new .entry)) (now (glyphs .entry)) (now (tags .entry)) (now (homes .entry))) [] .glyphs ⌝ }
-    ensures tags { λ _. ⌜ now (tags .exit) ≡ runLeaves (now (table .entry)) 0 leftToRight (startLine (now (new .entry)) (now (glyphs .entry)) (now (tags .entry)) (now (homes .entry))) [] .tags ⌝ }
-    ensures homes { λ _. ⌜ now (homes .exit) ≡ runLeaves (now (table .entry)) 0 leftToRight (startLine (now (new .entry)) (now (glyphs .entry)) (now (tags .entry)) (now (homes .entry))) [] .homes ⌝ }
+    requires { ⌜ (length (now homes) ≡ length (now new) / 2) × (length (now new) / 2 ≤ length (now glyphs)) × (length (now new) / 2 ≤ length (now tags)) ×
+        (length (now new) / 2 ≤ roomLimit) ⌝ }
+    ensures reply { λ r. ⌜ r ≡ runReplyOf (runCall (now (table .entry)) 0 leftToRight
+        (startLine (now (new .entry)) (now (glyphs .entry)) (now (tags .entry)) (now (homes .entry))) [])
+        (startLine (now (new .entry)) (now (glyphs .entry)) (now (tags .entry)) (now (homes .entry))) ⌝ }
+    ensures glyphs { λ _. ⌜ now (glyphs .exit) ≡ runLeaves (now (table .entry)) 0 leftToRight
+        (startLine (now (new .entry)) (now (glyphs .entry)) (now (tags .entry)) (now (homes .entry))) [] .glyphs ⌝ }
+    ensures tags { λ _. ⌜ now (tags .exit) ≡ runLeaves (now (table .entry)) 0 leftToRight
+        (startLine (now (new .entry)) (now (glyphs .entry)) (now (tags .entry)) (now (homes .entry))) [] .tags ⌝ }
+    ensures homes { λ _. ⌜ now (homes .exit) ≡ runLeaves (now (table .entry)) 0 leftToRight
+        (startLine (now (new .entry)) (now (glyphs .entry)) (now (tags .entry)) (now (homes .entry))) [] .homes ⌝ }
 {
     let characters = homes.len();
     line::edits::insert(glyphs, tags, 0, 0, new);
@@ -90,7 +96,8 @@ fn shape_input(
     tags: &mut [u16],
     homes: &mut [u16],
 ) -> Shaped
-    requires { ⌜ (inputOf (now input) ≡ TableUntil end) × (length (now glyphs) ≡ shaperRoom) × (length (now tags) ≡ shaperRoom) × (length (now homes) ≡ shaperRoom) ⌝ }
+    requires { ⌜ (inputOf (now input) ≡ TableUntil end) × (length (now glyphs) ≡ shaperRoom) × (length (now tags) ≡ shaperRoom) ×
+        (length (now homes) ≡ shaperRoom) ⌝ }
     ensures reply { λ r. ⌜ r ≡ shapedIn (now (input .entry)) end (now (glyphs .entry)) (now (tags .entry)) (now (homes .entry)) .reply ⌝ }
     ensures glyphs { λ _. ⌜ now (glyphs .exit) ≡ shapedIn (now (input .entry)) end (now (glyphs .entry)) (now (tags .entry)) (now (homes .entry)) .glyphs ⌝ }
     ensures tags { λ _. ⌜ now (tags .exit) ≡ shapedIn (now (input .entry)) end (now (glyphs .entry)) (now (tags .entry)) (now (homes .entry)) .tags ⌝ }

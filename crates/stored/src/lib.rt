@@ -51,7 +51,8 @@ pub fn store_line(
     buffer: &mut [u8],
 ) -> StoredLine
     ensures reply { λ r. ⌜ r ≡ storeCall (lineOf (now (glyphs .entry)) (now (tags .entry)) (now (homes .entry)) used) (now (buffer .entry)) .reply ⌝ }
-    ensures buffer { λ _. ⌜ now (buffer .exit) ≡ storeCall (lineOf (now (glyphs .entry)) (now (tags .entry)) (now (homes .entry)) used) (now (buffer .entry)) .buffer ⌝ }
+    ensures buffer { λ _. ⌜ now (buffer .exit) ≡ storeCall (lineOf (now (glyphs .entry)) (now (tags .entry)) (now (homes .entry)) used)
+        (now (buffer .entry)) .buffer ⌝ }
 {
     if let Check::Refused(why) = refuse_store(glyphs, tags, homes, used, buffer) {
         return StoredLine::Refused(why);
@@ -91,9 +92,12 @@ fn refuse_read(bytes: &[u8], glyphs: &[u16], tags: &[u16], homes: &[u16]) -> Che
 // Reads the line of a record into the room that is lent.
 pub fn read_line(bytes: &[u8], glyphs: &mut [u16], tags: &mut [u16], homes: &mut [u16]) -> ReadLine
     ensures reply { λ r. ⌜ r ≡ readCall newestVersion (now (bytes .entry)) (now (glyphs .entry)) (now (tags .entry)) (now (homes .entry)) .reply ⌝ }
-    ensures glyphs { λ _. ⌜ now (glyphs .exit) ≡ readCall newestVersion (now (bytes .entry)) (now (glyphs .entry)) (now (tags .entry)) (now (homes .entry)) .glyphs ⌝ }
-    ensures tags { λ _. ⌜ now (tags .exit) ≡ readCall newestVersion (now (bytes .entry)) (now (glyphs .entry)) (now (tags .entry)) (now (homes .entry)) .tags ⌝ }
-    ensures homes { λ _. ⌜ now (homes .exit) ≡ readCall newestVersion (now (bytes .entry)) (now (glyphs .entry)) (now (tags .entry)) (now (homes .entry)) .homes ⌝ }
+    ensures glyphs { λ _. ⌜ now (glyphs .exit) ≡ readCall newestVersion (now (bytes .entry)) (now (glyphs .entry)) (now (tags .entry))
+        (now (homes .entry)) .glyphs ⌝ }
+    ensures tags { λ _. ⌜ now (tags .exit) ≡ readCall newestVersion (now (bytes .entry)) (now (glyphs .entry)) (now (tags .entry))
+        (now (homes .entry)) .tags ⌝ }
+    ensures homes { λ _. ⌜ now (homes .exit) ≡ readCall newestVersion (now (bytes .entry)) (now (glyphs .entry)) (now (tags .entry))
+        (now (homes .entry)) .homes ⌝ }
 {
     if let Check::Refused(why) = refuse_read(bytes, glyphs, tags, homes) {
         return ReadLine::Refused(why);

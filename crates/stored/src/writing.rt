@@ -93,8 +93,10 @@ fn put_homes(buffer: &mut [u8], at: usize, homes: &[u16])
 
 // The record of a line, at the buffer's start.
 pub fn put_record(buffer: &mut [u8], glyphs: &[u16], tags: &[u16], homes: &[u16], used: usize)
-    requires { ⌜ (sizeOf used (length (now homes)) ≤ length (now buffer)) × (used ≤ length (now glyphs)) × (used ≤ length (now tags)) × (used ≤ roomLimit) × (length (now homes) ≤ roomLimit) ⌝ }
-    ensures { λ _. ⌜ now (buffer .exit) ≡ recordOf (lineOf (now (glyphs .entry)) (now (tags .entry)) (now (homes .entry)) used) ++ drop (length (recordOf (lineOf (now (glyphs .entry)) (now (tags .entry)) (now (homes .entry)) used))) (now (buffer .entry)) ⌝ }
+    requires { ⌜ (sizeOf used (length (now homes)) ≤ length (now buffer)) × (used ≤ length (now glyphs)) × (used ≤ length (now tags)) × (used ≤ roomLimit) ×
+        (length (now homes) ≤ roomLimit) ⌝ }
+    ensures { λ _. ⌜ now (buffer .exit) ≡ recordOf (lineOf (now (glyphs .entry)) (now (tags .entry)) (now (homes .entry)) used) ++ drop
+        (length (recordOf (lineOf (now (glyphs .entry)) (now (tags .entry)) (now (homes .entry)) used))) (now (buffer .entry)) ⌝ }
 {
     put_head(buffer, used, homes.len());
     put_places(buffer, glyphs, tags, used);
