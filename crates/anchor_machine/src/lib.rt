@@ -23,7 +23,9 @@ ghost use Rattle.state_tables.specs.Opened.{classBy, LiesIn, Remembers};
 ghost use Rattle.indexes.specs.Index.{classesBy};
 ghost use Rattle.anchor_machine.specs.Writes.{writeX, writeY, writeBack, writesAt, areLong};
 ghost use Rattle.anchor_machine.specs.Small.{IsPoint, IsOffset};
-ghost use Rattle.anchor_machine.specs.Machine.{opened, barred, fresh, marked, numbersAt, numbersOf, offset, writtenBy, stopped, settled, areShort, settledBy, acted, next, ownClasses, workedBy, workedIndexed, isShort, isTupled, isRoomy, stepTests, stepCall, stepWrites};
+ghost use Rattle.anchor_machine.specs.Machine.{opened, barred, fresh, marked, numbersAt, numbersOf, offset, writtenBy, stopped, settled, areShort};
+ghost use Rattle.anchor_machine.specs.Machine.{settledBy, acted, next, ownClasses, workedBy, workedIndexed, isShort, isTupled, isRoomy, stepTests};
+ghost use Rattle.anchor_machine.specs.Machine.{stepCall, stepWrites};
 
 mod actions;
 

@@ -27,7 +27,10 @@ ghost use Rattle.indexes.specs.Index.{classesBy};
 ghost use Rattle.state_tables.specs.Rows.{isClassic};
 ghost use Rattle.kerning.specs.Additions.{addAll};
 ghost use Rattle.kerning.specs.Bounds.{Within};
-ghost use Rattle.kerning_machine.specs.Machine.{fresh, payloadOf, ruleOf, tupleSize, strideOf, kernStart, kerxStart, manualStart, kernOrders, indexedOrders, kerxOrders, ordersOf, isFull, stacked, stopped, settled, walkedFrom, behind, acted, next, passedBy, passedIndexed, ownClasses, isRoomy, isShort, areWithin, stepTests, stepCall, isTupled, barred, workedBy, workedIndexed};
+ghost use Rattle.kerning_machine.specs.Machine.{fresh, payloadOf, ruleOf, tupleSize, strideOf, kernStart, kerxStart, manualStart, kernOrders};
+ghost use Rattle.kerning_machine.specs.Machine.{indexedOrders, kerxOrders, ordersOf, isFull, stacked, stopped, settled, walkedFrom, behind, acted, next};
+ghost use Rattle.kerning_machine.specs.Machine.{passedBy, passedIndexed, ownClasses, isRoomy, isShort, areWithin, stepTests, stepCall, isTupled, barred};
+ghost use Rattle.kerning_machine.specs.Machine.{workedBy, workedIndexed};
 ghost use Rattle.kerning_machine.specs.Work.{standing, stepOf, kernOf, kerxOf};
 
 // How a machine reads its entries: kern's flags hold where the list begins, and its subtable may go across the stream; kerx's entries hold
