@@ -249,14 +249,23 @@ static void put_slice(const struct slice *slice) {
     for (size_t i = 0; i < slice->len; i++) put(slice->numbers[i], 2);
 }
 
+static size_t take_signed(int64_t *to, size_t most) {
+    size_t len = take(4);
+    if (len > most) exit(1);
+    for (size_t i = 0; i < len; i++) to[i] = (int64_t)take(8);
+    return len;
+}
+
+static void put_signed(const int64_t *from, size_t len) {
+    for (size_t i = 0; i < len; i++) put((uint64_t)from[i], 8);
+}
+
 static void take_along(void) {
-    along_len = take(4);
-    if (along_len > sizeof along / sizeof along[0]) exit(1);
-    for (size_t i = 0; i < along_len; i++) along[i] = (int64_t)take(8);
+    along_len = take_signed(along, sizeof along / sizeof along[0]);
 }
 
 static void put_along(void) {
-    for (size_t i = 0; i < along_len; i++) put((uint64_t)along[i], 8);
+    put_signed(along, along_len);
 }
 
 static size_t take_longs(int32_t *numbers, size_t most) {
@@ -493,19 +502,8 @@ static void run_reel(reel_entry *entry) {
 static int64_t report_along[(AAT_MOST_LINES + 1) * AAT_LARGEST_ROOM];
 static int64_t sums[512], largest[512], smallest[512];
 
-static size_t take_signed(int64_t *to, size_t most) {
-    size_t len = take(4);
-    if (len > most) exit(1);
-    for (size_t i = 0; i < len; i++) to[i] = (int64_t)take(8);
-    return len;
-}
-
-static void put_signed(const int64_t *from, size_t len) {
-    for (size_t i = 0; i < len; i++) put((uint64_t)from[i], 8);
-}
-
 static void kerning_report(void) {
-    int64_t totals[3];
+    int64_t totals[AAT_TOTALS];
     reel.rooms_len = take_sizes(reel.rooms);
     reel.characters_len = take_sizes(reel.characters);
     reel.used_len = take_sizes(reel.used);
@@ -516,7 +514,7 @@ static void kerning_report(void) {
     size_t sums_len = take_signed(sums, sizeof sums / sizeof sums[0]);
     size_t largest_len = take_signed(largest, sizeof largest / sizeof largest[0]);
     size_t smallest_len = take_signed(smallest, sizeof smallest / sizeof smallest[0]);
-    for (int i = 0; i < 3; i++) totals[i] = (int64_t)take(8);
+    for (int i = 0; i < AAT_TOTALS; i++) totals[i] = (int64_t)take(8);
     put(aat_kerning_report(reel.rooms, reel.rooms_len, reel.characters, reel.characters_len, reel.used, reel.used_len,
                            reel_glyphs.numbers, reel_glyphs.len, reel_tags.numbers, reel_tags.len, reel_homes.numbers, reel_homes.len,
                            report_along, report_len, sums, sums_len, largest, largest_len, smallest, smallest_len, totals),
@@ -524,7 +522,7 @@ static void kerning_report(void) {
     put_signed(sums, sums_len);
     put_signed(largest, largest_len);
     put_signed(smallest, smallest_len);
-    put_signed(totals, 3);
+    put_signed(totals, AAT_TOTALS);
 }
 
 static void rearrangement_step(void) {
