@@ -1,4 +1,6 @@
 // kerx format 4: the machine of anchored marks, over the bytes from its state table on.
+#![tactic(auto)]
+
 ghost use Rattle.std.specs.Prelude.{◌≡◌, ◌+◌, ◌-◌, ◌≤◌, length};
 ghost use Rattle.answers.specs.Limits.{room_limit};
 ghost use Rattle.answers.specs.Refuse.{refuse};

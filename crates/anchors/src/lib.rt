@@ -1,4 +1,6 @@
 // The anchor points of glyphs, in an ankr table.
+#![tactic(auto)]
+
 ghost use Rattle.std.specs.Prelude.{◌≡◌, [], ◌∷◌, ◌-ℤ◌};
 ghost use Rattle.answers.specs.Refuse.{refuse};
 ghost use Rattle.anchors.specs.Anchors.{anchor_test, points_of, point_at, point_of};

@@ -1,5 +1,7 @@
 // The answers of document 01 and the refusals of document 02 with their numbers, the limits, and the refusal that every public
 // entry begins with.
+#![tactic(auto)]
+
 ghost use Rattle.std.specs.Prelude.{◌≡◌, [], ◌∷◌, ltb};
 ghost use Rattle.answers.specs.Limits.{room_limit};
 ghost use Rattle.answers.specs.Numbers.{number_of};

@@ -1,5 +1,7 @@
 // The heads of a morx table, and of a mort table, its earlier edition: chains, features and subtables as lists that cursors go through, and the walk over
 // all heads.
+#![tactic(auto)]
+
 ghost use Rattle.std.specs.Prelude.{◌≡◌, ◌+◌, ◌<◌, ◌≤◌, length};
 ghost use Rattle.answers.specs.Refuse.{refuse};
 ghost use Rattle.parse.specs.Reads.{u32_at};

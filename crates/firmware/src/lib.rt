@@ -1,4 +1,6 @@
 // Every entry that the box's C firmware calls, thin over the proved crates; aat.h declares them.
+#![tactic(auto)]
+
 ghost use Rattle.std.specs.Prelude.{◌≡◌};
 ghost use Rattle.answers.specs.Numbers.{number_of, answer_of, value_of};
 ghost use Rattle.tables.specs.Lookup as Lookup;

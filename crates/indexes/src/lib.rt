@@ -1,4 +1,6 @@
 // An index kept beside a class table: how a class is asked of it, whether it is a subtable's, and how it is filled.
+#![tactic(auto)]
+
 ghost use Rattle.std.specs.Prelude.{◌≡◌, ◌≤◌, length};
 ghost use Rattle.answers.specs.Refuse.{refuse};
 ghost use Rattle.indexes.specs.Index.{is_another, index_test, classes_below, fill_tests, fill_call};

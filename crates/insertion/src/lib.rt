@@ -1,4 +1,6 @@
 // morx kind 5: the insertion machine.
+#![tactic(auto)]
+
 ghost use Rattle.std.specs.Prelude.{◌≡◌, ◌+◌, ◌*◌, ◌<◌, ◌≤◌, ◌^◌, eqb, length, get_or, take, drop};
 ghost use Rattle.answers.specs.Limits as Limits;
 ghost use Rattle.answers.specs.Refuse.{refuse};

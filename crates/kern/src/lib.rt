@@ -1,4 +1,6 @@
 // The kern table, in both its editions: the list of subtables, the pass by one of them, and the whole run.
+#![tactic(auto)]
+
 ghost use Rattle.std.specs.Prelude.{◌≡◌, false, ◌<◌, ◌≤◌, ◌^◌, length};
 ghost use Rattle.answers.specs.Limits.{room_limit};
 ghost use Rattle.line.specs.Line.{line_of};

@@ -1,4 +1,6 @@
 // kern format 1: the kerning machine over the classic state table.
+#![tactic(auto)]
+
 ghost use Rattle.std.specs.Prelude.{◌≡◌, ◌<◌, ◌≤◌, ◌^◌, length};
 ghost use Rattle.answers.specs.Limits.{room_limit};
 ghost use Rattle.kerning.specs.Additions.{add_all};

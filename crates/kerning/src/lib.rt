@@ -1,4 +1,6 @@
 // What the kerning of kern and of kerx share: additions to the adjustments, the LINE test, and lists of numbers.
+#![tactic(auto)]
+
 pub mod choices;
 pub mod lists;
 

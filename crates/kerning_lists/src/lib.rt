@@ -1,4 +1,6 @@
 // What the lists of kern and kerx share: a subtable's head in one shape, and what a whole run does besides the subtables' own work.
+#![tactic(auto)]
+
 ghost use Rattle.std.specs.Prelude.{◌≡◌, ◌≤◌, length};
 ghost use Rattle.laws.specs.Backward.{backward};
 ghost use Rattle.answers.specs.Refuse.{refuse};

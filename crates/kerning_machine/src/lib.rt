@@ -1,4 +1,6 @@
 // The machine of format 1: kern's over the classic state table, kerx's over the extended one.
+#![tactic(auto)]
+
 ghost use Rattle.std.specs.Prelude.{◌≡◌, true, false, cond, List, ℕ, ◌+◌, ◌-◌, ◌<◌, ◌≤◌, ◌^◌, length};
 ghost use Rattle.answers.specs.Limits.{room_limit};
 ghost use Rattle.answers.specs.Refuse.{refuse};

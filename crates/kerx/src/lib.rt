@@ -1,4 +1,6 @@
 // The kerx table: the list of subtables, the pass by one of them, and the whole run.
+#![tactic(auto)]
+
 mod marks;
 
 ghost use Rattle.std.specs.Prelude.{◌≡◌, false, ◌<◌, ◌≤◌, ◌^◌, length};

@@ -1,4 +1,6 @@
 // kerx format 1: the kerning machine over the extended state table.
+#![tactic(auto)]
+
 ghost use Rattle.std.specs.Prelude.{◌≡◌, ◌≤◌, ◌^◌, length};
 ghost use Rattle.answers.specs.Limits.{room_limit};
 ghost use Rattle.kerning.specs.Additions.{add_all};

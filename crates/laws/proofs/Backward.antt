@@ -1,11 +1,11 @@
 -- Laws of `backward`: what stands where.
-use Prim.Native.Nat.{ℕ, zero, suc, ◌+◌, ◌-◌, ◌<◌, ◌≤◌}
-use mathlib.Core.Path.{◌≡◌, refl, ◌∙◌, sym, ap, subst}
-use mathlib.Core.List.{List, [], ◌∷◌, ◌++◌, reverse, reverse-cons}
+use Prim.Native.Nat.{ℕ, suc, ◌-◌, ◌<◌, ◌≤◌}
+use mathlib.Core.Path.{◌≡◌, ◌∙◌, sym, ap}
+use mathlib.Core.List.{List, [], ◌∷◌, reverse, reverse-cons}
 use mathlib.Core.Logic.{⊎_elim}
 use native.Mathlib.Nat.{not-suc-le-zero}
 use native.Mathlib.Omega.{arith}
-use lib.ListN.{length, get_or, take, drop, length-append, length-take, length-drop, length-reverse}
+use lib.ListN.{length, get_or, take, drop, length-append, length-drop, length-reverse}
 use lib.Seq.{get_or_at, get_or-take, get_or-drop, length-take-le}
 use Rattle.laws.specs.Backward.{backward}
 use Rattle.laws.proofs.Lists.{get_d_first, get_d_behind}

@@ -1,6 +1,6 @@
 -- Laws of signed numbers.
 use Prim.Native.Nat.{ℕ, zero, suc, ◌-◌, ◌<◌, ◌≤◌}
-use mathlib.Core.Path.{◌≡◌, refl, ◌∙◌, ap, sym}
+use mathlib.Core.Path.{◌≡◌, refl, ◌∙◌, ap}
 use mathlib.Core.Bool.{Bool, true, false, cond}
 use native.Mathlib.Omega.{arith}
 use lib.Dec.{ltb}
@@ -44,4 +44,4 @@ signed16_high {n} h = to_z-of_z (signed16-fits h) ∙ less h ∙ rw (le-ltb n 32
 
 -- such a number comes back from its bits unchanged
 pub signed16_round : {z : ℤ} (n : ℕ) → z ≡ signed16 n → to_z w16 (of_z w16 z) ≡ signed16 n
-signed16_round n e = rw e (to_z-of_z (record { sfits = signed16-size n }))
+signed16_round n e = rw e (to_z-of_z {w = w16} (record { sfits = signed16-size n }))

@@ -1,5 +1,5 @@
 -- Choices by a test on numbers.
-use Rattle.std.specs.Prelude.{ℕ, Bool, cond, ltb, eqb}
+use Rattle.std.specs.Prelude.{ℕ, cond, ltb, eqb}
 
 -- x where a is below b, else y
 abbrev pub if_lt : {A : Type 0} → ℕ → ℕ → A → A → A

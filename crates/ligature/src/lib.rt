@@ -1,4 +1,6 @@
 // morx kind 2: the ligature machine.
+#![tactic(auto)]
+
 pub mod actions;
 
 ghost use Rattle.std.specs.Prelude.{◌≡◌, false, [], ◌∷◌, ◌+◌, ◌<◌, ◌≤◌, length};

@@ -1,5 +1,7 @@
 // The line: a glyph and a tag at each place, a home for each character. Here are the entries that start a line and rearrange it;
 // `valid` has the LINE test and `edits` the edits that passes are made of.
+#![tactic(auto)]
+
 ghost use Rattle.std.specs.Prelude.{◌≡◌};
 ghost use Rattle.answers.specs.Refuse.{refuse};
 ghost use Rattle.line.specs.Line.{line_of};

@@ -1,4 +1,6 @@
 // The language tags of an `ltag` table: the index of a name among them.
+#![tactic(auto)]
+
 ghost use Rattle.std.specs.Prelude.{◌≡◌};
 ghost use Rattle.ltag.specs.Ltag.{equal, look_at, sought, index_of, language_index};
 

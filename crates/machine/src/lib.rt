@@ -1,4 +1,6 @@
 // What all machines share: flags and classes, the stall rule, the head of a subtable, and the pass over the places of a line.
+#![tactic(auto)]
+
 ghost use Rattle.std.specs.Prelude.{◌≡◌, ◌<◌, ◌≤◌, length};
 ghost use Rattle.machine.specs.Stall.{stalled};
 ghost use Rattle.answers.specs.Refuse.{refuse};

@@ -1,5 +1,7 @@
 // mort: the head of a subtable of the earlier edition, and the work of the two kinds that are taken. The machine of the one and the pass of the
 // other are morx's, lent a classic state table and a lookup in the manual's reading.
+#![tactic(auto)]
+
 ghost use Rattle.std.specs.Prelude.{◌≡◌, ◌≤◌, length};
 ghost use Rattle.answers.specs.Limits.{room_limit};
 ghost use Rattle.line.specs.Line.{line_of};

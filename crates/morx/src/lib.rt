@@ -1,4 +1,6 @@
 // morx and mort: the pass by a subtable of whatever kind, and the whole run over a table.
+#![tactic(auto)]
+
 ghost use Rattle.std.specs.Prelude.{◌≡◌, true, ◌≤◌, length, drop};
 ghost use Rattle.laws.specs.Backward.{backward};
 ghost use Rattle.answers.specs.Refuse.{refuse};

@@ -1,4 +1,6 @@
 // morx kind 4: each glyph is looked up by itself.
+#![tactic(auto)]
+
 ghost use Rattle.std.specs.Prelude.{◌≡◌, ◌≤◌, length};
 ghost use Rattle.line.specs.Line.{line_of};
 ghost use Rattle.tables.specs.Lookup.{lookup_at};

@@ -1,4 +1,6 @@
 // Kerning pairs, for kern and kerx alike: ordered pairs (format 0 of both) and class pairs (kerx format 2).
+#![tactic(auto)]
+
 ghost use Rattle.std.specs.Prelude.{◌≡◌, true, false, ◌-◌, ◌<◌, ◌≤◌, ◌^◌, length};
 ghost use Rattle.answers.specs.Limits.{room_limit};
 ghost use Rattle.tables.specs.Records.{pair_place};

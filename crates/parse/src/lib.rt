@@ -1,5 +1,7 @@
 // Big-endian reads from a table, as the crate's `Bytes`: a read succeeds exactly when its place is below the table's end
 // and all its bytes lie in the table.
+#![tactic(auto)]
+
 ghost use Rattle.std.specs.Prelude.{◌≡◌, ◌+◌, ◌<◌, ◌≤◌, length, drop};
 ghost use Rattle.laws.specs.Bits.{is_set};
 ghost use Rattle.laws.specs.Signed.{signed16};

@@ -1,4 +1,6 @@
 // A reel: up to 256 lines, lent one behind the other, each run by one table as by a call of its own.
+#![tactic(auto)]
+
 ghost use Rattle.std.specs.Prelude.{◌≡◌, true, length};
 ghost use Rattle.morx.specs.Calls.{run_call, run_leaves};
 ghost use Rattle.morx.specs.Work.{run_reply_of};

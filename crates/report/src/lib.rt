@@ -1,4 +1,6 @@
 // The report on kerned lines: of each line the sum of its used along numbers, the largest and the smallest, and the same of all lines together.
+#![tactic(auto)]
+
 ghost use Rattle.std.specs.Prelude.{◌≡◌, true, ◌+◌, ◌<◌, ◌≤◌, ◌^◌, nat_abs, ◌+ℤ◌, length};
 ghost use Rattle.answers.specs.Refuse.{refuse};
 ghost use Rattle.kerning.specs.Line.{is_taken, is_modest};

@@ -1,4 +1,6 @@
 // The shaper: takes its input apart into a morx table and a line of glyphs, and runs the one over the other.
+#![tactic(auto)]
+
 ghost use Rattle.std.specs.Prelude.{◌≡◌, [], ◌/◌, ◌≤◌, length};
 ghost use Rattle.answers.specs.Limits.{room_limit};
 ghost use Rattle.morx.specs.Work.{run_reply_of};

@@ -1,5 +1,7 @@
 // State tables, extended (morx, kerx) and classic (kern): the class of a glyph, and the entry of a state and a class. Both editions
 // are one `States`. A state table is lent from its own start on, and its offsets count from there.
+#![tactic(auto)]
+
 pub mod classes;
 pub mod entries;
 pub mod opened;

@@ -1,5 +1,7 @@
 // Stored lines: the record of a line, written into a buffer and read back. `writing` has the bytes of a record, `reading` the tests of
 // bytes that may be one, and the line in them.
+#![tactic(auto)]
+
 ghost use Rattle.std.specs.Prelude.{◌≡◌};
 ghost use Rattle.answers.specs.Refuse.{refuse};
 ghost use Rattle.line.specs.Line.{line_of};

@@ -1,4 +1,6 @@
 // The sixteen verbs of rearrangement, in place, on the part of a line from a window's first place on.
+#![tactic(auto)]
+
 ghost use Rattle.std.specs.Prelude.{◌≡◌, ◌+◌, ◌-◌, ◌≤◌, ◌<◌, min, length};
 ghost use Rattle.verbs.specs.Verbs.{groups_of, size_of, moved, taken, rearranged};
 ghost use Rattle.verbs.specs.Steps.{Filled, pair_at, flipped, lifted, held_at, slid_at};
