@@ -14,21 +14,21 @@ use state_tables::entries::{Entered, Entry};
 use tables::units::Reading;
 
 // The marked glyph whose points were looked up last, and where they begin. Both have 64 bits: with room between them a copy goes through memory.
-#[derive(Drop)]
+#[derive(Clone, Copy)]
 struct Kept {
     pub glyph: usize,
     pub place: usize,
 }
 
 // What an action writes, and what is kept then.
-#[derive(Drop)]
+#[derive(Clone, Copy)]
 struct Action {
     pub written: Written,
     pub kept: Kept,
 }
 
 // A step, and what is kept then.
-#[derive(Drop)]
+#[derive(Clone, Copy)]
 struct Acted {
     pub step: AnchorStep,
     pub kept: Kept,

@@ -23,7 +23,7 @@ use tables::units::Reading;
 mod actions;
 
 // A machine, as its subtable's head gives it: by a reading, with an action type and where its control table begins.
-#[derive(Drop)]
+#[derive(Clone, Copy)]
 pub struct Anchoring {
     pub states: States,
     pub reading: Reading,
@@ -32,7 +32,7 @@ pub struct Anchoring {
 }
 
 // What a head gives: a machine; none, where it can't be read; or one with tuples, where these are refused.
-#[derive(Drop)]
+#[derive(Clone, Copy)]
 pub enum Opened {
     Ready(Anchoring),
     Short,
@@ -40,7 +40,7 @@ pub enum Opened {
 }
 
 // What an entry's action names: nothing; a record that can't be read; or the number of a point of the marked glyph and of one of the current glyph.
-#[derive(Drop)]
+#[derive(Clone, Copy)]
 pub enum Numbers {
     None,
     Short,
@@ -48,14 +48,14 @@ pub enum Numbers {
 }
 
 // What a step writes at its place: nothing, or x, y and the distance back to the marked place.
-#[derive(Drop)]
+#[derive(Clone, Copy)]
 pub enum Written {
     None,
     At { x: i32, y: i32, back: u16 },
 }
 
 // The state of a pass: the state table's state, the marked place, the glyph that was there, and how many steps in a row did not advance.
-#[derive(Drop)]
+#[derive(Clone, Copy)]
 pub struct AnchorState {
     pub state: u16,
     pub mark: usize,
@@ -64,7 +64,7 @@ pub struct AnchorState {
 }
 
 // What a step answers: DONE with the advance, or ENDED; the new state, and what it writes.
-#[derive(Drop)]
+#[derive(Clone, Copy)]
 pub struct AnchorStep {
     pub answer: Answer,
     pub state: AnchorState,

@@ -14,14 +14,14 @@ use tables::units::Reading;
 pub mod opened;
 
 // Where the points of a glyph begin.
-#[derive(Drop)]
+#[derive(Clone, Copy)]
 pub enum Points {
     From(usize),
     None,
 }
 
 // A point of a glyph.
-#[derive(Drop)]
+#[derive(Clone, Copy)]
 pub enum Point {
     At { x: i16, y: i16 },
     None,

@@ -13,7 +13,7 @@ use tables::units::{Reading, Units};
 use tables::{lookup, opened, units};
 
 // The lookup is an array of words, opened, or one that is searched, and its numbers count from `origin` on; or it is anything else.
-#[derive(Drop)]
+#[derive(Clone, Copy)]
 pub enum Anchors {
     Words { origin: u32, opened: Opened },
     Searched { lookup: u32, origin: u32 },

@@ -17,7 +17,7 @@ pub const ROOM: usize = 32_768;
 pub const HEADS: u32 = 65_535;
 
 // Why a call is refused; it then changes nothing.
-#[derive(Drop)]
+#[derive(Clone, Copy)]
 pub enum Refusal {
     Table,
     Line,
@@ -36,7 +36,7 @@ pub enum Refusal {
 }
 
 // What a call answers.
-#[derive(Drop)]
+#[derive(Clone, Copy)]
 pub enum Answer {
     Done,
     Nothing,
@@ -47,14 +47,14 @@ pub enum Answer {
 }
 
 // What the tests before the work say.
-#[derive(Drop)]
+#[derive(Clone, Copy)]
 pub enum Check {
     Passed,
     Refused(Refusal),
 }
 
 // The answer of an entry that reads one number and changes nothing.
-#[derive(Drop)]
+#[derive(Clone, Copy)]
 pub enum Reply {
     Value(u32),
     Nothing,

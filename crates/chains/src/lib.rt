@@ -16,21 +16,21 @@ use parse::{ReadPart, ReadU32};
 pub mod features;
 
 // The two editions of a table with chains.
-#[derive(Drop)]
+#[derive(Clone, Copy)]
 pub enum Edition {
     Morx,
     Mort,
 }
 
 // Where a list goes on: the place of its next element in the table, and how many elements its count still gives.
-#[derive(Drop)]
+#[derive(Clone, Copy)]
 pub struct Cursor {
     pub place: usize,
     pub left: usize,
 }
 
 // A chain: its default flags, its features, its subtables, and the chains behind it.
-#[derive(Drop)]
+#[derive(Clone, Copy)]
 pub struct Chain {
     pub flags: u32,
     pub features: Cursor,
@@ -39,7 +39,7 @@ pub struct Chain {
 }
 
 // A feature: its type and setting, the flags that it sets and those that it keeps, and the features behind it.
-#[derive(Drop)]
+#[derive(Clone, Copy)]
 pub struct Feature {
     pub selector: u16,
     pub setting: u16,
@@ -49,7 +49,7 @@ pub struct Feature {
 }
 
 // The order in which a subtable wants the glyphs.
-#[derive(Drop)]
+#[derive(Clone, Copy)]
 pub enum Order {
     Layout,
     ReverseLayout,
@@ -58,7 +58,7 @@ pub enum Order {
 }
 
 // A subtable: where its head begins, its coverage with what that says, its flags, and the subtables behind it.
-#[derive(Drop)]
+#[derive(Clone, Copy)]
 pub struct Subtable {
     pub place: usize,
     pub coverage: u32,
@@ -70,70 +70,70 @@ pub struct Subtable {
 }
 
 // What a table's start answers: DONE with its chains, or a refusal.
-#[derive(Drop)]
+#[derive(Clone, Copy)]
 pub enum ChainStart {
     From(Cursor),
     Refused(Refusal),
 }
 
 // What a list of chains goes on with.
-#[derive(Drop)]
+#[derive(Clone, Copy)]
 pub enum NextChain {
     At(Chain),
     End,
 }
 
 // What a cursor of chains answers: DONE with that, or a refusal.
-#[derive(Drop)]
+#[derive(Clone, Copy)]
 pub enum ChainReply {
     Next(NextChain),
     Refused(Refusal),
 }
 
 // What a list of features goes on with.
-#[derive(Drop)]
+#[derive(Clone, Copy)]
 pub enum NextFeature {
     At(Feature),
     End,
 }
 
 // What a cursor of features answers: DONE with that, or a refusal.
-#[derive(Drop)]
+#[derive(Clone, Copy)]
 pub enum FeatureReply {
     Next(NextFeature),
     Refused(Refusal),
 }
 
 // What a list of subtables goes on with.
-#[derive(Drop)]
+#[derive(Clone, Copy)]
 pub enum NextSubtable {
     At(Subtable),
     End,
 }
 
 // What a cursor of subtables answers: DONE with that, or a refusal.
-#[derive(Drop)]
+#[derive(Clone, Copy)]
 pub enum SubtableReply {
     Next(NextSubtable),
     Refused(Refusal),
 }
 
 // A head that a walk reads.
-#[derive(Drop)]
+#[derive(Clone, Copy)]
 pub enum Head {
     Chain(Chain),
     Subtable(Subtable),
 }
 
 // Where a walk stands: the subtables that are left of the chain it is in, and the chains behind that.
-#[derive(Drop)]
+#[derive(Clone, Copy)]
 pub struct Walk {
     pub subtables: Cursor,
     pub chains: Cursor,
 }
 
 // What a walk goes on with.
-#[derive(Drop)]
+#[derive(Clone, Copy)]
 pub enum NextHead {
     At { head: Head, next: Walk },
     End,

@@ -25,7 +25,7 @@ use tables::lookup;
 use tables::lookup::Found;
 
 // The state of a pass: the state table's state, whether a mark was set, its place, and the glyph that is remembered for it.
-#[derive(Drop)]
+#[derive(Clone, Copy)]
 pub struct ContextualState {
     pub state: u16,
     pub mark_set: bool,
@@ -34,7 +34,7 @@ pub struct ContextualState {
 }
 
 // What a step answers: DONE with the advance, ENDED, or a refusal; and the state that it hands back.
-#[derive(Drop)]
+#[derive(Clone, Copy)]
 pub struct ContextualStep {
     pub answer: Answer,
     pub state: ContextualState,
@@ -42,14 +42,14 @@ pub struct ContextualStep {
 }
 
 // What takes a glyph's place, if anything does.
-#[derive(Drop)]
+#[derive(Clone, Copy)]
 pub enum Substitute {
     To(u16),
     None,
 }
 
 // What an entry does: what takes the place of the marked glyph and of the step's own, the new state, and the current glyph after it.
-#[derive(Drop)]
+#[derive(Clone, Copy)]
 struct Acted {
     mark: Substitute,
     own: Substitute,

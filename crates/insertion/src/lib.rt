@@ -25,7 +25,7 @@ use state_tables::opened::Classes;
 use state_tables::{Made, States, entries, opened};
 
 // The state of a pass: the state table's state, the marked place, and how many steps in a row did not advance.
-#[derive(Drop)]
+#[derive(Clone, Copy)]
 pub struct InsertionState {
     pub state: u16,
     pub mark: usize,
@@ -33,7 +33,7 @@ pub struct InsertionState {
 }
 
 // What is put into the line: nothing, or `count` glyphs at a place. They lie in the table from `glyphs` on, two bytes each.
-#[derive(Drop)]
+#[derive(Clone, Copy)]
 pub enum Inserted {
     None,
     At {
@@ -45,7 +45,7 @@ pub enum Inserted {
 
 // What a step answers: DONE with the advance, FULL, ENDED or a refusal; the state that it hands back; and the insertions that it makes, at
 // the mark first.
-#[derive(Drop)]
+#[derive(Clone, Copy)]
 pub struct InsertionStep {
     pub answer: Answer,
     pub state: InsertionState,
@@ -55,14 +55,14 @@ pub struct InsertionStep {
 }
 
 // What a pass answers, and the used length afterwards.
-#[derive(Drop)]
+#[derive(Clone, Copy)]
 pub struct InsertionPass {
     pub answer: Answer,
     pub used: usize,
 }
 
 // A list of glyphs that an entry names: none, where it begins, or one that can't be read.
-#[derive(Drop)]
+#[derive(Clone, Copy)]
 pub enum Listed {
     None,
     At(usize),
@@ -70,7 +70,7 @@ pub enum Listed {
 }
 
 // What becomes of an insertion: it is made, or the step ends before it.
-#[derive(Drop)]
+#[derive(Clone, Copy)]
 pub enum Tried {
     Made(Inserted),
     Over(Answer),

@@ -5,7 +5,7 @@ ghost use Rattle.kerning.specs.Choices.{rule_of, reading_of, choices_of, unchose
 use tables::units::Reading;
 
 // Which two places are a pair.
-#[derive(Drop)]
+#[derive(Clone, Copy)]
 pub enum PairRule {
     // Neighbours, whatever their glyphs.
     Neighbours,
@@ -13,7 +13,7 @@ pub enum PairRule {
     Joined,
 }
 
-#[derive(Drop)]
+#[derive(Clone, Copy)]
 pub struct Choices {
     pub pairs: PairRule,
     // Of kerx alone: its lists, lookups and tuples.

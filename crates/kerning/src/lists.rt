@@ -10,7 +10,7 @@ use parse::ReadU16;
 pub const DEPTH: usize = 8;
 
 // When a list ends.
-#[derive(Drop)]
+#[derive(Clone, Copy)]
 pub enum Rule {
     // kern: an odd number is the last; across the stream one number adds nothing.
     Odd { crossed: bool },
@@ -21,7 +21,7 @@ pub enum Rule {
 }
 
 // A number of a list, by its rule: none can be read, it stops the list, is the last, or the list goes on.
-#[derive(Drop)]
+#[derive(Clone, Copy)]
 pub enum Number {
     Short,
     Stop,
@@ -30,7 +30,7 @@ pub enum Number {
 }
 
 // How a list was left: whether a number could not be read, and how deep the stack is then.
-#[derive(Drop)]
+#[derive(Clone, Copy)]
 pub struct Walked {
     pub ended: bool,
     pub depth: usize,

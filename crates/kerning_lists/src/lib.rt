@@ -13,7 +13,7 @@ ghost use Rattle.kerning_lists.specs.Cursors.{next_by, list_tests};
 use answers::{Answer, Check, Refusal};
 
 // A subtable by its head: whether a run passes over it, whether it goes the other way round, its format, where it begins and where the next does.
-#[derive(Drop)]
+#[derive(Clone, Copy)]
 pub struct Subtable {
     pub passed_over: bool,
     pub turned: bool,
@@ -23,7 +23,7 @@ pub struct Subtable {
 }
 
 // The list's own head: its version, how many subtables it counts, and where the first begins.
-#[derive(Drop)]
+#[derive(Clone, Copy)]
 pub struct ListHead {
     pub version: u16,
     pub count: u32,
@@ -31,14 +31,14 @@ pub struct ListHead {
 }
 
 // What reading a head gives.
-#[derive(Drop)]
+#[derive(Clone, Copy)]
 pub enum Head {
     At(Subtable),
     Cut,
 }
 
 // Where a list goes on: the place of its next subtable in the table, how many its count still gives, and its version.
-#[derive(Drop)]
+#[derive(Clone, Copy)]
 pub struct Cursor {
     pub place: usize,
     pub left: usize,
@@ -46,28 +46,28 @@ pub struct Cursor {
 }
 
 // What a list goes on with: a subtable, and where the list goes on behind it.
-#[derive(Drop)]
+#[derive(Clone, Copy)]
 pub enum NextSubtable {
     At { subtable: Subtable, next: Cursor },
     End,
 }
 
 // What a list's start answers: DONE with its cursor, or a refusal.
-#[derive(Drop)]
+#[derive(Clone, Copy)]
 pub enum ListStart {
     From(Cursor),
     Refused(Refusal),
 }
 
 // What a cursor answers: DONE with what the list goes on with, or a refusal.
-#[derive(Drop)]
+#[derive(Clone, Copy)]
 pub enum SubtableReply {
     Next(NextSubtable),
     Refused(Refusal),
 }
 
 // What a whole run answers, with the heads that it read.
-#[derive(Drop)]
+#[derive(Clone, Copy)]
 pub struct Run {
     pub answer: Answer,
     pub heads: u32,

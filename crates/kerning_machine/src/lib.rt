@@ -26,7 +26,7 @@ use state_tables::{States, classes, entries, opened};
 
 // How a machine reads its entries: kern's flags hold where the list begins, and its subtable may go across the stream; kerx's entries hold
 // an index, which the crate counts in tuples, the value table with it, and the manual in numbers from the value table on.
-#[derive(Drop)]
+#[derive(Clone, Copy)]
 pub enum Reading {
     Kern { crossed: bool },
     Kerx { values: u32, tuples: u32 },
@@ -34,14 +34,14 @@ pub enum Reading {
 }
 
 // A machine, as its subtable's head gives it.
-#[derive(Drop)]
+#[derive(Clone, Copy)]
 pub struct Kerning {
     pub states: States,
     pub reading: Reading,
 }
 
 // What a head gives: a machine; none, where it can't be read; or one with tuples, where these are refused.
-#[derive(Drop)]
+#[derive(Clone, Copy)]
 pub enum Opened {
     Ready(Kerning),
     Short,
@@ -49,7 +49,7 @@ pub enum Opened {
 }
 
 // Where an entry's list begins: there is none, at a place, or at one that no 64-bit number tells.
-#[derive(Drop)]
+#[derive(Clone, Copy)]
 pub enum Start {
     None,
     At(usize),
@@ -57,7 +57,7 @@ pub enum Start {
 }
 
 // What an entry says, but for the state that it leads to.
-#[derive(Drop)]
+#[derive(Clone, Copy)]
 pub struct Orders {
     pub pushes: bool,
     pub clears: bool,
@@ -67,7 +67,7 @@ pub struct Orders {
 }
 
 // The state of a pass: the state table's state, the stack of places, and how many steps in a row did not advance.
-#[derive(Drop)]
+#[derive(Clone, Copy)]
 pub struct KerningState {
     pub state: u16,
     pub stack: [usize; KerningState::DEPTH],
@@ -76,7 +76,7 @@ pub struct KerningState {
 }
 
 // What a step answers: DONE with the advance, or ENDED; and the new state.
-#[derive(Drop)]
+#[derive(Clone, Copy)]
 pub struct KerningStep {
     pub answer: Answer,
     pub state: KerningState,
@@ -84,7 +84,7 @@ pub struct KerningStep {
 }
 
 // What a step on a lent stack came to: its answer, the new state but for the slots, and the advance.
-#[derive(Drop)]
+#[derive(Clone, Copy)]
 struct Moved {
     answer: Answer,
     state: u16,

@@ -8,14 +8,14 @@ use crate::LigatureState;
 use parse::{ReadU16, ReadU32};
 
 // The number of a component; there is none below 0.
-#[derive(Drop)]
+#[derive(Clone, Copy)]
 enum Component {
     At(u32),
     Negative,
 }
 
 // What an action does: it ends the step, adds its component to the sum, or makes the ligature of the sum too, perhaps as the last.
-#[derive(Drop)]
+#[derive(Clone, Copy)]
 pub enum Action {
     Ended,
     Adds(u32),

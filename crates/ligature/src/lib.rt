@@ -25,7 +25,7 @@ use state_tables::opened::Classes;
 use state_tables::{Made, States, entries, opened};
 
 // The state of a pass: the state table's state, and the stack, a place and a glyph for each slot, of which the first `depth` are used.
-#[derive(Drop)]
+#[derive(Clone, Copy)]
 pub struct LigatureState {
     pub state: u16,
     pub places: [usize; LigatureState::DEPTH],
@@ -34,7 +34,7 @@ pub struct LigatureState {
 }
 
 // What a step answers: DONE with the advance, ENDED, or a refusal; and the state that it hands back.
-#[derive(Drop)]
+#[derive(Clone, Copy)]
 pub struct LigatureStep {
     pub answer: Answer,
     pub state: LigatureState,
@@ -42,14 +42,14 @@ pub struct LigatureStep {
 }
 
 // How the stack stands after an action: so many slots are left, with this sum, and whether the action was the last.
-#[derive(Drop)]
+#[derive(Clone, Copy)]
 enum Turn {
     Ended,
     On { at: usize, sum: u32, last: bool },
 }
 
 // What an entry or its actions came to: whether they ended the step, the stack's depth, and the cycle count.
-#[derive(Drop)]
+#[derive(Clone, Copy)]
 struct Did {
     ended: bool,
     depth: usize,
@@ -57,7 +57,7 @@ struct Did {
 }
 
 // What a step came to: its answer, the new state, and the stack's depth.
-#[derive(Drop)]
+#[derive(Clone, Copy)]
 struct Reached {
     answer: Answer,
     state: u16,

@@ -13,7 +13,7 @@ pub mod edits;
 pub mod valid;
 
 // What a fresh line answers: DONE with its used length, or a refusal.
-#[derive(Drop)]
+#[derive(Clone, Copy)]
 pub enum FreshLine {
     Used(usize),
     Refused(Refusal),

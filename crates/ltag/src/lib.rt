@@ -8,7 +8,7 @@ use answers::{Check, Reply};
 use parse::bytes::Bytes;
 
 // What a tag is to a name: the same, another, or one whose range is bad.
-#[derive(Drop)]
+#[derive(Clone, Copy)]
 pub enum Look {
     Same,
     Other,

@@ -17,7 +17,7 @@ use answers::{Answer, Check, Refusal};
 use state_tables::{Made, States};
 
 // Whether the next step is at the next place, and how often in a row it was not.
-#[derive(Drop)]
+#[derive(Clone, Copy)]
 pub struct Stalled {
     pub cycles: u16,
     pub advance: usize,

@@ -6,7 +6,7 @@ use tables::records;
 use tables::records::Kind;
 
 // Its records, or anything else.
-#[derive(Drop)]
+#[derive(Clone, Copy)]
 pub enum Lot {
     Of { kind: Kind, count: u16 },
     Bad,

@@ -25,7 +25,7 @@ use rearrangement::RearrangementState;
 pub const REQUESTS: usize = 64;
 
 // The kinds of subtables, mort's two behind morx's; those that are left out are one.
-#[derive(Drop)]
+#[derive(Clone, Copy)]
 pub enum Kind {
     Rearrangement,
     Contextual,
@@ -38,21 +38,21 @@ pub enum Kind {
 }
 
 // What a pass answers, and the used length afterwards.
-#[derive(Drop)]
+#[derive(Clone, Copy)]
 pub struct PassReply {
     pub answer: Answer,
     pub used: usize,
 }
 
 // What a run is told beside the table and the line: whether the line goes from right to left, and which edition the table is.
-#[derive(Drop)]
+#[derive(Clone, Copy)]
 pub struct Choices {
     pub right_to_left: bool,
     pub edition: Edition,
 }
 
 // What a run answers, the used length afterwards, and how many heads it read.
-#[derive(Drop)]
+#[derive(Clone, Copy)]
 pub struct RunReply {
     pub answer: Answer,
     pub used: usize,

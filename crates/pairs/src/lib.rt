@@ -22,7 +22,7 @@ use tables::{opened, records, units};
 
 // Where a subtable's pairs lie, from its own start on: as many ordered pairs as counted, or the left glyphs' rows, the right
 // ones' columns, and the array; rows and columns are read by a reading.
-#[derive(Drop)]
+#[derive(Clone, Copy)]
 pub enum PairTable {
     Ordered {
         first: u16,
@@ -37,7 +37,7 @@ pub enum PairTable {
 }
 
 // What opening a subtable's pairs gives: pairs; none, where its head can't be read; or some with tuples, where these are refused.
-#[derive(Drop)]
+#[derive(Clone, Copy)]
 pub enum Opened {
     Ready(PairTable),
     Short,
@@ -45,14 +45,14 @@ pub enum Opened {
 }
 
 // What a pair of glyphs adds, or why it adds nothing.
-#[derive(Drop)]
+#[derive(Clone, Copy)]
 pub enum Number {
     By(i16),
     Nothing(Why),
 }
 
 // The answer for a pair of glyphs: a refusal, its number, or nothing and why. In this order the compiler takes no `Number` for a refusal.
-#[derive(Drop)]
+#[derive(Clone, Copy)]
 pub enum PairReply {
     Refused(Refusal),
     Number(i16),

@@ -6,7 +6,7 @@ ghost use Rattle.parse.specs.Bytes.{bytes_of};
 
 use crate::{ReadI16, ReadU8, ReadU16, ReadU32};
 
-#[derive(Drop)]
+#[derive(Clone, Copy)]
 pub struct Bytes<'a> {
     pub table: &'a [u8],
     pub start: usize,

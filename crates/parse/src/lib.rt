@@ -10,32 +10,32 @@ ghost use Rattle.parse.specs.Parts.{read_part};
 
 pub mod bytes;
 
-#[derive(Drop)]
+#[derive(Clone, Copy)]
 pub enum ReadU8 {
     Got(u8),
     Short,
 }
 
-#[derive(Drop)]
+#[derive(Clone, Copy)]
 pub enum ReadU16 {
     Got(u16),
     Short,
 }
 
-#[derive(Drop)]
+#[derive(Clone, Copy)]
 pub enum ReadI16 {
     Got(i16),
     Short,
 }
 
-#[derive(Drop)]
+#[derive(Clone, Copy)]
 pub enum ReadU32 {
     Got(u32),
     Short,
 }
 
 // A list's bytes, by the place where they end.
-#[derive(Drop)]
+#[derive(Clone, Copy)]
 pub enum ReadPart {
     Until(usize),
     Short,

@@ -24,7 +24,7 @@ use state_tables::{Made, States, entries, opened};
 pub mod lent;
 
 // The state of a pass: the state table's state, the marked window, and how many steps in a row did not advance.
-#[derive(Drop)]
+#[derive(Clone, Copy)]
 pub struct RearrangementState {
     pub first: usize,
     pub state: u16,
@@ -33,7 +33,7 @@ pub struct RearrangementState {
 }
 
 // What a step does to the line: nothing, or a verb on a window.
-#[derive(Drop)]
+#[derive(Clone, Copy)]
 pub enum Window {
     None,
     At {
@@ -44,7 +44,7 @@ pub enum Window {
 }
 
 // What a step answers: DONE with the advance, or ENDED; the new state and the edit.
-#[derive(Drop)]
+#[derive(Clone, Copy)]
 pub struct RearrangementStep {
     pub answer: Answer,
     pub state: RearrangementState,

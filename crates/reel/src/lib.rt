@@ -33,7 +33,7 @@ pub fn adds_up(sizes: &[usize], slice: usize) -> bool
 }
 
 // Where a line's part lies: in glyphs and tags, and in homes.
-#[derive(Drop)]
+#[derive(Clone, Copy)]
 pub struct Span {
     pub at: usize,
     pub room: usize,

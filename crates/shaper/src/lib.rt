@@ -19,7 +19,7 @@ pub const SHAPER_TABLE: u32 = 32_768;
 pub const SHAPER_ROOM: usize = 4096;
 
 // What the input says: where its table ends, with the glyph count behind it, or why it is refused.
-#[derive(Drop)]
+#[derive(Clone, Copy)]
 pub enum Input {
     TableUntil(usize),
     Refused(Refusal),
@@ -27,7 +27,7 @@ pub enum Input {
 
 // What the shaper answers: beside the answer how many heads were read, the used length and the number of characters, all 0 where
 // the input is refused.
-#[derive(Drop)]
+#[derive(Clone, Copy)]
 pub struct Shaped {
     pub answer: Answer,
     pub heads: u32,

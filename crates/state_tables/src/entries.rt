@@ -8,7 +8,7 @@ use crate::{Edition, States};
 use parse::ReadU16;
 
 // An entry: the state that it leads to, its flags, and where its payload begins.
-#[derive(Drop)]
+#[derive(Clone, Copy)]
 pub struct Entry {
     pub state: u16,
     pub flags: u16,
@@ -16,21 +16,21 @@ pub struct Entry {
 }
 
 // What a state and a class give. `Ended` is the crate's None, and class count 0, where the crate panics.
-#[derive(Drop)]
+#[derive(Clone, Copy)]
 pub enum Entered {
     At(Entry),
     Ended,
 }
 
 // What a row and a class of a classic table give: the row that the entry leads to, by the number of its first cell, and the entry's flags.
-#[derive(Drop)]
+#[derive(Clone, Copy)]
 pub enum Reached {
     At { row: u32, flags: u16 },
     Ended,
 }
 
 // The two numbers of a payload.
-#[derive(Drop)]
+#[derive(Clone, Copy)]
 pub struct Two {
     pub first: u16,
     pub second: u16,

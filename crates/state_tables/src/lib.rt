@@ -13,14 +13,14 @@ use tables::units::Reading;
 
 // The two editions, and where each has the classes of its glyphs: in a lookup table, which is read by a reading, or in an array of bytes
 // for `count` glyphs from `first` on.
-#[derive(Drop)]
+#[derive(Clone, Copy)]
 pub enum Edition {
     Extended { table: u32, reading: Reading },
     Classic { place: u32, first: u16, count: u16 },
 }
 
 // A state table by its head: how many classes it has, and where its state array and its entry table begin.
-#[derive(Drop)]
+#[derive(Clone, Copy)]
 pub struct States {
     edition: Edition,
     classes: u32,
@@ -29,7 +29,7 @@ pub struct States {
 }
 
 // What a head gives, where it can be read.
-#[derive(Drop)]
+#[derive(Clone, Copy)]
 pub enum Made {
     Ready(States),
     Short,

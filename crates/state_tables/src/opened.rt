@@ -9,7 +9,7 @@ use tables::units::Units;
 use tables::{opened, units};
 
 // An array of words or of bytes, of which so many lie in the table, or one that is searched.
-#[derive(Drop)]
+#[derive(Clone, Copy)]
 pub enum Classes {
     Words {
         base: usize,

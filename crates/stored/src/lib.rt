@@ -13,21 +13,21 @@ pub mod reading;
 pub mod writing;
 
 // What storing a line answers: DONE with the size of its record, or a refusal.
-#[derive(Drop)]
+#[derive(Clone, Copy)]
 pub enum StoredLine {
     Size(usize),
     Refused(Refusal),
 }
 
 // How many places and characters a line has.
-#[derive(Drop)]
+#[derive(Clone, Copy)]
 pub struct Lengths {
     pub used: usize,
     pub characters: usize,
 }
 
 // What reading a line answers: DONE with its lengths, or a refusal.
-#[derive(Drop)]
+#[derive(Clone, Copy)]
 pub enum ReadLine {
     Lengths(Lengths),
     Refused(Refusal),

@@ -8,7 +8,7 @@ use answers::{Check, Refusal};
 use parse::bytes::Bytes;
 
 // Why a lookup found nothing.
-#[derive(Drop)]
+#[derive(Clone, Copy)]
 pub enum Why {
     NotCovered,
     CutShort,
@@ -16,14 +16,14 @@ pub enum Why {
 }
 
 // The element of a glyph, or why there is none.
-#[derive(Drop)]
+#[derive(Clone, Copy)]
 pub enum Found {
     At(u16),
     Nothing(Why),
 }
 
 // The public answer: a refusal, the element of a glyph, or nothing and why. In this order the compiler takes no `Found` for a refusal.
-#[derive(Drop)]
+#[derive(Clone, Copy)]
 pub enum LookupReply {
     Refused(Refusal),
     Element(u16),

@@ -7,7 +7,7 @@ use crate::records::Format;
 use crate::{lookup, records};
 
 // An array, of which so many elements lie in the table, or anything else.
-#[derive(Drop)]
+#[derive(Clone, Copy)]
 pub enum Opened {
     Array { base: u32, first: u16, count: usize },
     Other,

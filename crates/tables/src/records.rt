@@ -6,7 +6,7 @@ ghost use Rattle.tables.specs.declared.records.Keys.TheVariants.{Pairs};
 ghost use Rattle.tables.specs.Search.{side_of_range, side_of_array, side_of_single, side_of_record, side_of_pair, side_of, searched};
 
 // The records of formats 2, 4 and 6: last, first, element; last, first, offset; glyph, element.
-#[derive(Drop)]
+#[derive(Clone, Copy)]
 pub enum Kind {
     Ranges,
     Arrays,
@@ -14,14 +14,14 @@ pub enum Kind {
 }
 
 // What a search looks for: a glyph in the records of a lookup table, or a kerning pair, whose key is both its glyphs.
-#[derive(Drop)]
+#[derive(Clone, Copy)]
 pub enum Keys {
     Glyphs(Kind),
     Pairs,
 }
 
 // How a lookup table is laid out; of a trimmed array, where its first glyph stands.
-#[derive(Drop)]
+#[derive(Clone, Copy)]
 pub enum Format {
     Simple,
     Records(Kind),
@@ -30,7 +30,7 @@ pub enum Format {
 }
 
 // Where a key lies from a record.
-#[derive(Drop)]
+#[derive(Clone, Copy)]
 pub enum Side {
     Left,
     Here,
@@ -39,7 +39,7 @@ pub enum Side {
 }
 
 // What a search finds: the number of a record, no record, or a record that is cut short.
-#[derive(Drop)]
+#[derive(Clone, Copy)]
 pub enum Spot {
     At(u32),
     Absent,

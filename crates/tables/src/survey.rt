@@ -7,14 +7,14 @@ use crate::records::{Format, Kind};
 use answers::{Check, Refusal};
 
 // The first and last glyph of a record that lies wholly in the table.
-#[derive(Drop)]
+#[derive(Clone, Copy)]
 pub enum Record {
     Whole { first: u16, last: u16 },
     Cut,
 }
 
 // What the survey says; `Bad` names the first record that is not in order, `UnitSize` a size that the format's records don't have.
-#[derive(Drop)]
+#[derive(Clone, Copy)]
 pub enum Surveyed {
     Sorted,
     Bad(u32),

@@ -6,14 +6,14 @@ use crate::lookup;
 use crate::lookup::{Found, Why};
 
 // Whose word is taken for how many bytes an element of format 10 has: the crate has two, the manual as many as the unit size says.
-#[derive(Drop)]
+#[derive(Clone, Copy)]
 pub enum Reading {
     Crate,
     Manual,
 }
 
 // The elements of a lookup table: of two bytes, as the crate finds them; of one byte, for `count` glyphs from `first` on; or none, and why.
-#[derive(Drop)]
+#[derive(Clone, Copy)]
 pub enum Units {
     Words,
     Bytes { first: u16, count: u16 },

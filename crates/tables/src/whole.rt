@@ -10,7 +10,7 @@ use crate::records::{Format, Kind, Side};
 use crate::{lookup, records};
 
 // Its records, or anything else.
-#[derive(Drop)]
+#[derive(Clone, Copy)]
 pub enum Records {
     Whole { kind: Kind, count: u16 },
     Other,

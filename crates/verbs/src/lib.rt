@@ -6,7 +6,7 @@ ghost use Rattle.verbs.specs.Verbs.{groups_of, size_of, moved, taken, rearranged
 ghost use Rattle.verbs.specs.Steps.{Filled, pair_at, flipped, lifted, held_at, slid_at};
 
 // What stands at one end of a verb's window: no glyph, one, two, or two that change places.
-#[derive(Drop)]
+#[derive(Clone, Copy)]
 enum Group {
     Absent,
     One,
@@ -15,11 +15,11 @@ enum Group {
 }
 
 // The groups that a verb moves: the left one to the window's end, and the right one to its start.
-#[derive(Drop)]
+#[derive(Clone, Copy)]
 struct Groups(Group, Group);
 
 // A group taken out of the line: its first glyph or tag and its second, as many as it has.
-#[derive(Drop)]
+#[derive(Clone, Copy)]
 struct Held(u16, u16);
 
 // Document 01's table of verbs.

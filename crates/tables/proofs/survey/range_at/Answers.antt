@@ -1,0 +1,22 @@
+use native.Mathlib.Omega.{arith}
+use Rattle.parse.proofs.Laws.{part_short, part_inside, inside-fits}
+use Rattle.tables.specs.Survey.{record_in}
+use borrow.Author.Rules.{rules}
+use Rattle.tables.proofs.survey.range_at.Goals as goal
+
+pub returns-in_default : goal.returns-in_default
+unfolding record_in
+returns-in_default c = rw (part_short _ _ _ c.read_part.ensures c.in_default.is, record_in)
+
+pub overflow_add-place : goal.overflow_add-place
+overflow_add-place c = omega (arith, inside-fits _ _ _ (part_inside _ _ _ c.read_part.ensures c.in-Until.is))
+
+pub u16_at-first-requires : goal.u16_at-first-requires
+u16_at-first-requires c = omega (arith, inside-fits _ _ _ (part_inside _ _ _ c.read_part.ensures c.in-Until.is))
+
+pub u16_at-last-requires : goal.u16_at-last-requires
+u16_at-last-requires c = omega (arith, inside-fits _ _ _ (part_inside _ _ _ c.read_part.ensures c.in-Until.is))
+
+pub returns : goal.returns
+unfolding record_in
+returns c = rw (part_inside _ _ _ c.read_part.ensures c.in-Until.is, c.u16_at-last.ensures, c.u16_at-first.ensures, record_in)

@@ -1,0 +1,11 @@
+use Prim.Native.Nat.{◌-◌}
+use native.Mathlib.Omega.{arith}
+use borrow.Author.Rules.{rules}
+use Rattle.tables.proofs.Scanning.{Surveying, surveying_start, bad-cut, bad_low, bad-turned, surveying_next, surveying_done}
+use Rattle.tables.proofs.survey.survey_records.Given as goal
+
+abbrev pub invariant-loop-index : goal.invariant-loop-index
+invariant-loop-index l = Surveying l.bytes l.kind l.count l.floor l.index
+
+abbrev pub decreases-loop-index : goal.decreases-loop-index
+decreases-loop-index l = l.count - l.index
