@@ -1,0 +1,13 @@
+use Rattle.line.proofs.Loops.{Pasting, pasting_start, put_next, pasting_done}
+use Rattle.line.specs.Changes.{glyphs_of}
+use borrow.Author.Rules.{rules}
+use lib.ListN.{length}
+use native.Mathlib.Omega.{arith}
+use Prim.Native.Nat.{◌-◌, ◌/◌}
+use Rattle.line.proofs.edits.put.Given as goal
+
+abbrev pub invariant-loop-k : goal.invariant-loop-k
+invariant-loop-k l = Pasting l.initial.glyphs l.at (glyphs_of l.new) (length l.new / 2) l.glyphs l.k
+
+abbrev pub decreases-loop-k : goal.decreases-loop-k
+decreases-loop-k l = l.count - l.k

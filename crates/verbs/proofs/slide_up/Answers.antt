@@ -1,0 +1,18 @@
+use Prim.Native.Nat.{◌≤◌, ◌-◌}
+use mathlib.Core.Path.{◌≡◌, refl}
+use native.Mathlib.Omega.{arith}
+use Rattle.verbs.specs.Steps.{Filled, slid_at}
+use Rattle.verbs.proofs.Steps.{filled_none, slid_up}
+use Rattle.verbs.proofs.slide_up.Goals as goal
+
+pub loop-k-init : goal.loop-k-init
+loop-k-init c = (omega arith, omega arith, filled_none _ _ _ _ refl)
+
+pub loop-k-preserved : goal.loop-k-preserved
+loop-k-preserved c = (omega arith, omega arith, search slid_up)
+
+pub shape_of-part : goal.shape_of-part
+shape_of-part c = c.loop-k.invariant.2.long
+
+pub returns : goal.returns
+returns c = let e : c.loop-k.k ≡ c.args.to = omega arith in rw e at c.loop-k.invariant.2
