@@ -7,6 +7,7 @@ use mathlib.Core.Logic.{⊎_elim}
 use lib.ListN.{length, drop}
 use Rattle.laws.proofs.Numbers.{lt-or-ge}
 use Rattle.answers.specs.Refuse.{Test, refuse}
+use Rattle.answers.specs.declared.Answer.TheVariants as Answer'
 use Rattle.answers.specs.declared.Refusal.{Refusal}
 use Rattle.answers.specs.declared.Refusal.TheVariants as Refusal'
 use Rattle.answers.specs.declared.Check.{Check}
@@ -92,7 +93,8 @@ module _ (On : Line → Type 0) (Has : List Change → Line → Type 0) (closed 
         let bytes : List ℕ = drop start table in
         let made : Made = machine.opened bytes in
         let P : Stepped S → Type 0 = λ r. Has r.changes l in
-        if_passed_lem P _ (λ why. closed.none l on)
+        let refused : Refusal → Stepped S = λ why. record { answer = Answer'.Refused why; state = s; advance = 0; changes = [] } in
+        if_passed_lem P refused (λ why. closed.none l on)
         (refuse (step_tests (length table) (line_test l ∷ []) l.used index (machine.state_tests s l.used) made)) _
-        (on-made P _ (λ why. closed.none l on) made _
+        (on-made P refused (λ why. closed.none l on) made _
         (λ states. has (class_of (body_of bytes) states) (body_of bytes) states s l index glyph ends on))

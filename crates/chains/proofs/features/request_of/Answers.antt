@@ -1,0 +1,8 @@
+use Rattle.chains.specs.Features.{request_of}
+use borrow.Author.Rules.{rules}
+use native.Mathlib.Omega.{arith}
+use Rattle.chains.proofs.features.request_of.Goals as goal
+
+pub returns : goal.returns
+unfolding request_of
+returns c = omega arith

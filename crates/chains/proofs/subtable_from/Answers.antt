@@ -1,0 +1,35 @@
+use Rattle.chains.specs.Lists.{next_subtable}
+use Prim.Native.Nat.{ℕ, ◌+◌, ◌*◌}
+use mathlib.Core.Path.{ap}
+use borrow.Author.Tests.{eq-eqb, ne_eqb}
+use Rattle.parse.proofs.Laws.{part_short, part_inside, inside-fits}
+use Rattle.chains.proofs.Editions.{as_long}
+use borrow.Author.Rules.{rules}
+use Rattle.chains.proofs.subtable_from.Goals as goal
+
+pub returns-then-cursor-eq0 : goal.returns-then-cursor-eq0
+unfolding next_subtable
+returns-then-cursor-eq0 c = rw (eq-eqb _ _ c.if-cursor-eq0.true, next_subtable)
+
+pub returns-in_default : goal.returns-in_default
+unfolding next_subtable
+returns-in_default c =
+    rw (
+      ne_eqb _ _ c.if-cursor-eq0.false,
+      as_long _ _ (ap (λ (w : ℕ). 2 * w + 4) c.width.ensures.0) (part_short _ _ _ c.read_part.ensures c.in_default.is),
+      next_subtable,
+    )
+
+pub subtable_at-requires : goal.subtable_at-requires
+subtable_at-requires c =
+    inside-fits _ _ _ (as_long _ _ (ap (λ (w : ℕ). 2 * w + 4) c.width.ensures.0) (part_inside _ _ _ c.read_part.ensures c.in-Until.is))
+
+pub returns : goal.returns
+unfolding next_subtable
+returns c =
+    rw (
+      ne_eqb _ _ c.if-cursor-eq0.false,
+      as_long _ _ (ap (λ (w : ℕ). 2 * w + 4) c.width.ensures.0) (part_inside _ _ _ c.read_part.ensures c.in-Until.is),
+      c.subtable_at.ensures,
+      next_subtable,
+    )

@@ -1,0 +1,18 @@
+use Rattle.stored.proofs.Got.{home-next, homes-done}
+use Rattle.stored.specs.Reading.{homes_in}
+use Rattle.line.proofs.Loops.{Pasting, pasting_start}
+use Prim.Native.Nat.{◌-◌}
+use native.Mathlib.Omega.{arith}
+use Rattle.stored.proofs.reading.get_homes.Goals as goal
+
+pub loop-c-init : goal.loop-c-init
+loop-c-init c = pasting_start _ _ _ _
+
+pub loop-c-preserved : goal.loop-c-preserved
+loop-c-preserved c = search home-next
+
+pub shape_of-homes : goal.shape_of-homes
+shape_of-homes c = c.loop-c.invariant.long
+
+pub returns : goal.returns
+returns c = search homes-done

@@ -1,0 +1,21 @@
+use Rattle.stored.proofs.Got.{glyph-next, glyphs-done, tag_next, tags-done}
+use Rattle.stored.specs.Reading.{glyphs_in, tags_in}
+use Rattle.line.proofs.Loops.{Pasting, pasting_start}
+use Prim.Native.Nat.{◌-◌}
+use native.Mathlib.Omega.{arith}
+use Rattle.stored.proofs.reading.get_places.Goals as goal
+
+pub loop-p-init : goal.loop-p-init
+loop-p-init c = (pasting_start _ _ _ _, pasting_start _ _ _ _)
+
+pub loop-p-preserved : goal.loop-p-preserved
+loop-p-preserved c = (search glyph-next, search tag_next)
+
+pub shape_of-glyphs : goal.shape_of-glyphs
+shape_of-glyphs c = c.loop-p.invariant.0.long
+
+pub shape_of-tags : goal.shape_of-tags
+shape_of-tags c = c.loop-p.invariant.1.long
+
+pub returns : goal.returns
+returns c = record { glyphs = search glyphs-done; tags = search tags-done }

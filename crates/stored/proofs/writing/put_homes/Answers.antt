@@ -1,0 +1,18 @@
+use Rattle.stored.proofs.Written.{Filling, filling_start, home-next, filling_done}
+use Rattle.stored.specs.Record.{home_bytes}
+use lib.ListN.{length}
+use Prim.Native.Nat.{◌-◌}
+use native.Mathlib.Omega.{arith}
+use Rattle.stored.proofs.writing.put_homes.Goals as goal
+
+pub loop-c-init : goal.loop-c-init
+loop-c-init c = filling_start _ _ _ _ (omega arith)
+
+pub loop-c-preserved : goal.loop-c-preserved
+loop-c-preserved c = search home-next
+
+pub shape_of-buffer : goal.shape_of-buffer
+shape_of-buffer c = c.loop-c.invariant.long
+
+pub returns : goal.returns
+returns c = search filling_done
