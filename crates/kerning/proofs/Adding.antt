@@ -145,7 +145,7 @@ pub within-add_all : {b : ℕ} {xs : List Addition} (along : List ℤ) → Small
 unfolding add_all
 within-add_all {b} along small-none w = within_more (omega arith) w
 within-add_all {b} along (small-first {a} {xs} h s) w =
-    within_more (omega arith) (within-add_all (add_at a.place a.number along) s (within-add_at a.place a.number along w h))
+    within_more (omega arith) (within-add_all {b = b + 32768} (add_at a.place a.number along) s (within-add_at a.place a.number along w h))
 
 -- a number for a place of the line
 module _ (used place : ℕ) (z : ℤ) where

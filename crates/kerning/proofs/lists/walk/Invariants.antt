@@ -1,0 +1,11 @@
+use native.Mathlib.Omega.{arith}
+use borrow.Author.Rules.{rules}
+use Rattle.kerning.specs.Lists.{walk}
+use Rattle.kerning.proofs.Walking.{Walking, walking_start, walking_long, walking_within, walking_short, walking_stop, walking_last, walking_more, walking_inside, walking_done}
+use Rattle.kerning.proofs.lists.walk.Given as goal
+
+abbrev pub invariant-loop-left : goal.invariant-loop-left
+invariant-loop-left l = Walking l.bytes l.rule l.stride l.stack l.used (walk l.bytes l.rule l.stride l.stack l.used l.depth l.place) l.initial.along l.along l.left l.next
+
+abbrev pub decreases-loop-left : goal.decreases-loop-left
+decreases-loop-left l = l.left
