@@ -1,0 +1,8 @@
+use borrow.Author.Rules.{rules}
+use Rattle.contextual.proofs.Passes.{pass-ends}
+use Rattle.contextual.proofs.pass_line.Goals as goal
+
+pub returns : goal.returns
+returns c =
+    let e = pass-ends _ _ _ _ _ _ _ c.new.ensures c.glyph_at-first.ensures c.run-step.ensures.step c.run-step.ensures.glyphs in
+    record { answer = e.answers; glyphs = e.left }
