@@ -1,0 +1,20 @@
+use Rattle.kerning_machine.proofs.Acting.{act_full, act_deep, act_follows}
+use mathlib.Core.Path.{sym, ◌∙◌}
+use borrow.Author.Rules.{rules}
+use Rattle.kerning_machine.proofs.act_kern.Goals as goal
+
+pub returns-then-is_full : goal.returns-then-is_full
+returns-then-is_full c = let e = act_full _ _ _ _ _ _ _ _ c.is_full.ensures c.if-is_full.true in
+    record { step = e.steps; along = e.leaves }
+
+pub push-deep-requires : goal.push-deep-requires
+push-deep-requires c = (c.requires.0, sym c.is_full.ensures ∙ c.if-is_full.false)
+
+pub follow_kern-requires : goal.follow_kern-requires
+follow_kern-requires c =
+    (act_deep c.args.orders _ _ _ c.requires.0 (sym c.is_full.ensures ∙ c.if-is_full.false) c.push-deep.ensures, c.requires.1, c.requires.2)
+
+pub returns : goal.returns
+returns c =
+    let e = act_follows _ _ _ _ _ _ _ _ c.is_full.ensures c.if-is_full.false c.push-deep.ensures c.follow_kern.ensures.left c.follow_kern.ensures.along in
+    record { step = e.steps; along = e.leaves }

@@ -1,0 +1,7 @@
+use Rattle.kerning_machine.specs.Machine.{kerx_orders}
+use borrow.Author.Rules.{rules}
+use Rattle.kerning_machine.proofs.kerx_orders.Goals as goal
+
+pub returns : goal.returns
+unfolding kerx_orders
+returns c = rw (c.indexed_orders.ensures, c.kerx_start.ensures, kerx_orders)

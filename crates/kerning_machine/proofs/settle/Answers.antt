@@ -1,0 +1,7 @@
+use Rattle.kerning_machine.specs.Machine.{settled}
+use borrow.Author.Rules.{rules}
+use Rattle.kerning_machine.proofs.settle.Goals as goal
+
+pub returns : goal.returns
+unfolding settled
+returns c = λ stack. rw (c.kept.ensures, c.stall-stalled.ensures, settled)

@@ -1,0 +1,30 @@
+use native.Mathlib.Omega.{arith}
+use mathlib.Core.Path.{sym, ◌∙◌, ap}
+use Rattle.line.specs.Line.{Line, line_of}
+use Rattle.line.specs.Changes.{apply_all}
+use Rattle.machine.specs.Call.{is_ready}
+use Rattle.machine.specs.Machine.{subtable_of, call_leaves}
+use Rattle.machine.specs.Work.{work_leaves}
+use Rattle.machine.proofs.Calls.{call_refused, call_works, taken-line, same_answer, same_left}
+use Rattle.ligature.specs.Calls.{ligature}
+use borrow.Author.Rules.{rules}
+use Rattle.ligature.proofs.pass.Goals as goal
+
+pub returns-in-Refused : goal.returns-in-Refused
+unfolding call_leaves apply_all
+returns-in-Refused c =
+    let opens = c.is_ready.ensures ∙ ap is_ready c.open.ensures in
+    let e = call_refused (subtable_of ligature) _ _ (line_of _ _ _ _) c.from-bytes.ensures opens c.refuse_pass.ensures c.in-Refused.is in
+    record { answer = same_answer e; glyphs = same_left (λ (l : Line). l.glyphs) (line_of _ _ _ _) e; homes = same_left (λ (l : Line). l.homes) (line_of _ _ _ _) e }
+
+pub work-requires : goal.work-requires
+work-requires c =
+    let v = taken-line _ _ _ (sym c.refuse_pass.ensures ∙ c.in_default.is) in
+    (v.within, omega (arith, v.within, v.paired))
+
+pub returns : goal.returns
+unfolding call_leaves work_leaves
+returns c =
+    let opens = c.is_ready.ensures ∙ ap is_ready c.open.ensures in
+    let e = call_works (subtable_of ligature) _ _ (line_of _ _ _ _) c.from-bytes.ensures opens c.refuse_pass.ensures c.in_default.is in
+    record { answer = c.work.ensures.answer ∙ same_answer e; glyphs = c.work.ensures.glyphs ∙ same_left (λ (l : Line). l.glyphs) (line_of _ _ _ _) e; homes = c.work.ensures.homes ∙ same_left (λ (l : Line). l.homes) (line_of _ _ _ _) e }

@@ -1,0 +1,38 @@
+use Prim.Native.Nat.{◌-◌, ◌^◌}
+use mathlib.Core.Path.{subst⁻¹}
+use native.Mathlib.Omega.{arith}
+use borrow.Author.Rules.{rules}
+use Rattle.tables.specs.Opened.{LiesIn}
+use Rattle.tables.proofs.Openings.{opened-lies}
+use Rattle.kerning.proofs.Adding.{within_more}
+use Rattle.line.proofs.Room.{room_small}
+use Rattle.pairs.specs.Work.{Sized}
+use Rattle.pairs.specs.Pairs.{pair_number}
+use Rattle.tables.specs.declared.units.Reading.TheVariants.{Crate}
+use Rattle.pairs.specs.declared.PairTable.TheVariants.{Classes}
+use Rattle.pairs.proofs.Passes.{sized, sized-opened, opened-adds, Stretching, stretching_start, stretching_next, stretching_done}
+use Rattle.pairs.proofs.add_classes.Goals as goal
+
+pub loop-place-init : goal.loop-place-init
+loop-place-init c =
+    stretching_start _ _ _ _ _ _ _ _ c.requires.0 c.requires.1 c.requires.5
+
+pub opened_number-number-requires : goal.opened_number-number-requires
+opened_number-number-requires c =
+    (subst⁻¹ (LiesIn _) c.open-left_rows.ensures (opened-lies _), subst⁻¹ (LiesIn _) c.open-right_columns.ensures (opened-lies _))
+
+pub add_number-requires : goal.add_number-requires
+add_number-requires c =
+    (omega (arith, c.loop-place.invariant.begun, c.loop-place.invariant.within, c.loop-place.invariant.long), within_more (omega (arith, room_small)) c.loop-place.invariant.small, subst⁻¹ Sized c.opened_number-number.ensures (sized-opened _ _ _ _ _ _ _ _))
+
+pub loop-place-preserved : goal.loop-place-preserved
+loop-place-preserved c =
+    stretching_next _ _ _ _ c.loop-place.invariant c.loop-place-test.true
+    c.add_number.ensures
+    (opened-adds _ _ _ _ _ _ c.from-lefts.ensures c.from-rights.ensures c.open-left_rows.ensures c.open-right_columns.ensures c.opened_number-number.ensures _)
+
+pub shape_of-along : goal.shape_of-along
+shape_of-along c = c.loop-place.invariant.long
+
+pub returns : goal.returns
+returns c = stretching_done _ _ _ c.loop-place.invariant c.loop-place-test.false

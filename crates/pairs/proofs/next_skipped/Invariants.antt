@@ -1,0 +1,16 @@
+use Prim.Native.Nat.{◌-◌}
+use mathlib.Core.Path.{sym, ◌∙◌}
+use mathlib.Core.Bool.{false}
+use native.Mathlib.Omega.{arith}
+use borrow.Author.Rules.{rules}
+use borrow.Author.Tests.{not-true, not-false}
+use Rattle.kerning.specs.declared.choices.PairRule.TheVariants.{Joined}
+use Rattle.pairs.specs.Pass.{counts}
+use Rattle.pairs.proofs.Scans.{Scanning, scanning_start, scanning_next, scanning_here, scanning_done, none-skipped, by_rule}
+use Rattle.pairs.proofs.next_skipped.Given as goal
+
+abbrev pub invariant-loop-place : goal.invariant-loop-place
+invariant-loop-place l = Scanning (counts Joined l.glyphs) false l.from l.place
+
+abbrev pub decreases-loop-place : goal.decreases-loop-place
+decreases-loop-place l = l.used - l.place
