@@ -57,7 +57,7 @@ point_is reading ankr glyph number = go (point_of reading ankr glyph number) ref
 
 -- what two points write, through the bits of their numbers
 round : (z : ℤ) → mag z < 32768 → to_z w16 (of_z w16 z) ≡ z
-round z h = to_z-of_z (record { sfits = h })
+round z h = to_z-of_z {w = w16} (record { sfits = h })
 
 module _ (x y : ℤ) (p : mag x < 32768) (q : mag y < 32768) {d : ℤ} (e : d ≡ to_z w16 (of_z w16 x) -ℤ to_z w16 (of_z w16 y)) where
   plain : d ≡ x -ℤ y

@@ -1,0 +1,28 @@
+use mathlib.Core.Path.{sym, ◌∙◌}
+use Rattle.anchor_machine.proofs.Steps.{step_ready, step_refused, step_headless, step_tupled, step_works}
+use borrow.Author.Rules.{rules}
+use Rattle.anchor_machine.proofs.AnchorState.step.Goals as goal
+
+pub returns-in-Refused : goal.returns-in-Refused
+returns-in-Refused c =
+    let e = step_refused _ _ _ _ _ _ _ _ _ _ _ _ c.is_roomy-roomy.ensures c.refuse.ensures c.in-Refused.is c.stopped.ensures in
+    record { step = e.steps; x = e.wrote.xs; y = e.wrote.ys; back = e.wrote.backs }
+
+pub go-requires : goal.go-requires
+go-requires c =
+    step_ready _ _ _ _ _ _ _ _ _ _ _ c.is_roomy-roomy.ensures (sym c.refuse.ensures ∙ c.in_default.is)
+
+pub returns-in-Ready : goal.returns-in-Ready
+returns-in-Ready c =
+    let e = step_works _ _ _ _ _ _ _ _ _ _ _ _ c.is_roomy-roomy.ensures c.refuse.ensures c.in_default.is c.in-Ready.is c.go.ensures.step (record { xs = c.go.ensures.x; ys = c.go.ensures.y; backs = c.go.ensures.back }) in
+    record { step = e.steps; x = e.wrote.xs; y = e.wrote.ys; back = e.wrote.backs }
+
+pub returns-in-Short : goal.returns-in-Short
+returns-in-Short c =
+    let e = step_headless _ _ _ _ _ _ _ _ _ _ _ _ c.is_roomy-roomy.ensures c.refuse.ensures c.in_default.is c.in-Short.is c.stopped-in-Short.ensures in
+    record { step = e.steps; x = e.wrote.xs; y = e.wrote.ys; back = e.wrote.backs }
+
+pub returns-in-Tupled : goal.returns-in-Tupled
+returns-in-Tupled c =
+    let e = step_tupled _ _ _ _ _ _ _ _ _ _ _ _ c.is_roomy-roomy.ensures c.refuse.ensures c.in_default.is c.in-Tupled.is c.stopped-in-Tupled.ensures in
+    record { step = e.steps; x = e.wrote.xs; y = e.wrote.ys; back = e.wrote.backs }

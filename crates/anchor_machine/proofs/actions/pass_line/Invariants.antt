@@ -1,0 +1,30 @@
+use Rattle.line.proofs.Room.{room_small}
+use Prim.Native.Nat.{◌-◌}
+use mathlib.Core.Path.{sym, ◌∙◌}
+use native.Mathlib.Omega.{arith}
+use borrow.Author.Tests.{not-true, not-false}
+use borrow.Author.Rules.{rules}
+use Rattle.state_tables.proofs.Laws.{entry_payload}
+use Rattle.anchors.specs.Opened.{Placed}
+use Rattle.anchor_machine.specs.Machine.{rest}
+use Rattle.anchor_machine.proofs.Writing.{wrote_long}
+use Rattle.anchor_machine.proofs.Passes.{place_after, Going, Staying, still_here, moved_on, going_start, going_lies, going_ended, going_small, going_stops, going_less, going_goes, going_end}
+use Rattle.anchor_machine.proofs.actions.pass_line.Given as goal
+
+abbrev pub invariant-loop-stays : goal.invariant-loop-stays
+invariant-loop-stays l =
+    Staying l.index l.ankr l.bytes l.anchoring l.glyphs l.used l.opened l.place l.initial.memo l.initial.x l.initial.y l.initial.back l.initial.state l.memo l.x l.y l.back l.state l.stays
+    × Placed l.anchoring.reading l.ankr l.kept.glyph l.kept.place
+
+abbrev pub decreases-loop-stays : goal.decreases-loop-stays
+decreases-loop-stays l =
+    rest l.used l.state (place_after l.stays l.place)
+
+abbrev pub invariant-loop-place : goal.invariant-loop-place
+invariant-loop-place l =
+    Going l.index l.ankr l.bytes l.anchoring l.glyphs l.used l.initial.x l.initial.y l.initial.back l.opened l.memo l.x l.y l.back l.state l.place
+    × Placed l.anchoring.reading l.ankr l.kept.glyph l.kept.place
+
+abbrev pub decreases-loop-place : goal.decreases-loop-place
+decreases-loop-place l =
+    l.used - l.place

@@ -1,0 +1,15 @@
+use mathlib.Core.Path.{sym, ◌∙◌}
+use Rattle.parse.proofs.Laws.{part_short, part_inside, inside-fits, read_u16_got}
+use Rattle.mort.specs.Mort.{has_kind}
+use Rattle.mort.proofs.Heads.{kind_cut, kind_is, kind_unread}
+use borrow.Author.Rules.{rules}
+use Rattle.mort.proofs.has_kind.Goals as goal
+
+pub returns-in_default : goal.returns-in_default
+returns-in_default c = search kind_cut
+
+pub returns-in_default-read_u16 : goal.returns-in_default-read_u16
+returns-in_default-read_u16 c = search kind_unread
+
+pub returns : goal.returns
+returns c = search kind_is
