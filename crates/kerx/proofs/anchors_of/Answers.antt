@@ -1,0 +1,7 @@
+use Rattle.kerx.proofs.Anchoring.{anchors_are}
+use borrow.Author.Rules.{rules}
+use Rattle.kerx.proofs.anchors_of.Goals as goal
+
+pub returns : goal.returns
+returns c =
+    anchors_are _ _ _ c.is_tupled-tupled.ensures c.from.ensures c.open-machine.ensures c.barred.ensures

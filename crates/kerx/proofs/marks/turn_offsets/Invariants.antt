@@ -1,0 +1,11 @@
+use mir.Facts.{to_z-of_z}
+use native.Mathlib.Omega.{arith}
+use lib.ListN.{length-set}
+use Rattle.kerning_lists.proofs.Turns.{Turning, turning_start, turning_next, turning_done}
+use Rattle.kerx.proofs.marks.turn_offsets.Given as goal
+
+abbrev pub invariant-loop-low : goal.invariant-loop-low
+invariant-loop-low l = Turning l.initial.along l.used l.along l.low l.high
+
+abbrev pub decreases-loop-low : goal.decreases-loop-low
+decreases-loop-low l = l.high

@@ -1,0 +1,20 @@
+use Prim.Native.Nat.{◌-◌}
+use native.Mathlib.Omega.{arith}
+use lib.ListN.{length}
+use Rattle.kerx.proofs.Written.{Zeroing, zeroing_start, zeroing_next, zeroing_done}
+use Rattle.kerx.proofs.marks.zero_distances.Goals as goal
+
+pub loop-place-init : goal.loop-place-init
+loop-place-init c = zeroing_start _
+
+pub loop-place-smaller : goal.loop-place-smaller
+loop-place-smaller c = omega (arith, c.loop-place.invariant.long)
+
+pub loop-place-preserved : goal.loop-place-preserved
+loop-place-preserved c = zeroing_next _ c.loop-place.invariant c.loop-place-test.true
+
+pub shape_of-back : goal.shape_of-back
+shape_of-back c = c.loop-place.invariant.long
+
+pub returns : goal.returns
+returns c = zeroing_done _ c.loop-place.invariant c.loop-place-test.false

@@ -1,0 +1,11 @@
+use Prim.Native.Nat.{◌-◌}
+use native.Mathlib.Omega.{arith}
+use lib.ListN.{length}
+use Rattle.kerning_lists.proofs.Turns.{Zeroing, zeroing_start, zeroing_next, zeroing_done}
+use Rattle.kerx.proofs.marks.zero_offsets.Given as goal
+
+abbrev pub invariant-loop-place : goal.invariant-loop-place
+invariant-loop-place l = Zeroing (length l.initial.along) l.along l.place
+
+abbrev pub decreases-loop-place : goal.decreases-loop-place
+decreases-loop-place l = length l.initial.along - l.place

@@ -1,0 +1,18 @@
+use Rattle.line.specs.Line.{line_of}
+use Rattle.kerning_lists.proofs.Calls.{pass_ready, pass-modest}
+use Rattle.kerx.specs.Kerx.{kerx}
+use Rattle.kerning_lists.proofs.Families.{pass_refused, pass-passed}
+use borrow.Author.Rules.{rules}
+use Rattle.kerx.proofs.pass_by.Goals as goal
+
+pub returns-in-Refused : goal.returns-in-Refused
+returns-in-Refused c = let w = pass_refused kerx _ _ _ (line_of _ _ _ _) _ _ c.refuse_pass.ensures c.in-Refused.is in
+    record { answer = w.answers; along = w.leaves }
+
+pub pass_in-requires : goal.pass_in-requires
+pass_in-requires c = let r = pass_ready _ _ _ _ _ _ c.refuse_pass.ensures c.in_default.is in (r.inside, r.long, r.limited, pass-modest _ _ _ _ _ _ c.refuse_pass.ensures c.in_default.is)
+
+pub returns : goal.returns
+returns c =
+    let w = pass-passed kerx _ _ _ (line_of _ _ _ _) _ _ c.refuse_pass.ensures c.in_default.is c.from.ensures c.pass_in.ensures.answer c.pass_in.ensures.along in
+    record { answer = w.answers; along = w.leaves }

@@ -1,0 +1,13 @@
+use Rattle.kerx.specs.Kerx.{kerx}
+use Rattle.kerning_lists.proofs.Families.{passes_cut, passes_by}
+use borrow.Author.Rules.{rules}
+use Rattle.kerx.proofs.pass_in.Goals as goal
+
+pub returns-in_default : goal.returns-in_default
+returns-in_default c = let w = passes_cut kerx _ _ _ _ _ _ c.head_in.ensures c.in_default.is in
+    record { answer = w.answers; along = w.leaves }
+
+pub returns : goal.returns
+returns c =
+    let w = passes_by kerx _ _ _ _ _ _ c.head_in.ensures c.in-At.is (record { answers = c.work.ensures.answer; leaves = c.work.ensures.along }) in
+    record { answer = w.answers; along = w.leaves }
