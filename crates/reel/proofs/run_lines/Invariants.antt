@@ -1,0 +1,20 @@
+use mathlib.Core.Path.{◌≡◌, refl, sym, ◌∙◌}
+use Prim.Native.Nat.{◌-◌}
+use native.Mathlib.Omega.{arith}
+use lib.ListN.{length}
+use borrow.Author.Rules.{rules}
+use Rattle.reel.specs.Reel.{reel_of}
+use Rattle.reel.specs.Morx.{run_by}
+use Rattle.reel.proofs.Exact.{lent_of}
+use Rattle.reel.proofs.Going.{Going, going_start, going_next, inside, at-fits, from_fits}
+use Rattle.reel.proofs.Calls.{all-ran}
+use Rattle.reel.proofs.run_lines.Given as goal
+
+abbrev pub invariant-loop-i : goal.invariant-loop-i
+invariant-loop-i l =
+    Going (run_by l.table l.start l.choices l.requests) (reel_of l.rooms l.characters l.initial.used l.initial.answers l.initial.heads l.initial.glyphs l.initial.tags l.initial.homes)
+    (reel_of l.rooms l.characters l.used l.answers l.heads l.glyphs l.tags l.homes) l.at l.from l.i
+
+abbrev pub decreases-loop-i : goal.decreases-loop-i
+decreases-loop-i l =
+    length l.rooms - l.i
