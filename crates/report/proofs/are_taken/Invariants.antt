@@ -1,0 +1,14 @@
+use Prim.Native.Nat.{◌-◌}
+use native.Mathlib.Omega.{arith}
+use lib.ListN.{length}
+use borrow.Author.Rules.{rules}
+use Rattle.report.specs.Report.{lines_of}
+use Rattle.report.proofs.Scanning.{Scanned, scanned-start, glyphs-inside, along-inside, scanned_fails, scanned-next, scanned-done}
+use Rattle.report.proofs.are_taken.Given as goal
+
+abbrev pub invariant-loop-i : goal.invariant-loop-i
+invariant-loop-i l =
+    Scanned (lines_of l.rooms l.characters l.used l.glyphs l.tags l.homes l.along) l.at l.from l.i
+
+abbrev pub decreases-loop-i : goal.decreases-loop-i
+decreases-loop-i l = length l.rooms - l.i

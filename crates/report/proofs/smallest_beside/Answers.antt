@@ -1,0 +1,15 @@
+use Rattle.report.proofs.Sums.{back, smaller-back, none_beside, first_beside, more_beside}
+use borrow.Author.Rules.{rules}
+use mathlib.Core.Path.{ap}
+use mathlib.Core.Bool.{not}
+use Rattle.report.proofs.smallest_beside.Goals as goal
+
+pub returns-then-used-eq0 : goal.returns-then-used-eq0
+returns-then-used-eq0 c = none_beside _ _ _ _ _ c.if-used-eq0.true (back c.ranges.least)
+
+pub returns-then-not-some : goal.returns-then-not-some
+returns-then-not-some c = first_beside _ _ _ _ _ c.if-used-eq0.false (ap not c.if-not-some.true) (back c.ranges.line)
+
+pub returns : goal.returns
+returns c =
+    more_beside _ _ _ _ _ c.if-used-eq0.false (ap not c.if-not-some.false) (smaller-back c.ranges.least c.ranges.line c.smaller.ensures)

@@ -1,0 +1,22 @@
+use Prim.Native.Nat.{◌-◌}
+use native.Mathlib.Omega.{arith}
+use borrow.Author.Rules.{rules}
+use mir.Syntax.{w64}
+use mir.Val.{to_z}
+use Rattle.report.specs.Numbers.{smaller}
+use Rattle.report.proofs.Sums.{Choosing, choosing-start, choosing-goes, smaller-one, smallest-none, smallest-done}
+use Rattle.report.proofs.smallest_of.Goals as goal
+
+pub returns-then-used-eq0 : goal.returns-then-used-eq0
+returns-then-used-eq0 c = smallest-none _ _ c.if-used-eq0.true
+
+pub loop-place-init : goal.loop-place-init
+loop-place-init c =
+    choosing-start smaller smaller-one _ _ c.requires.1 c.requires.0 c.if-used-eq0.false
+
+pub loop-place-preserved : goal.loop-place-preserved
+loop-place-preserved c =
+    choosing-goes smaller smaller-one _ _ c.requires.1 c.requires.0 c.loop-place.invariant c.loop-place-test.true c.smaller-least.ensures
+
+pub returns : goal.returns
+returns c = smallest-done _ _ _ _ c.loop-place.invariant c.loop-place-test.false
