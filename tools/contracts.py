@@ -8,7 +8,8 @@ HEAD = re.compile(
     r"\bfn\s+(?P<name>\w+)\s*(?:<[^()]*>)?\s*\("
 )
 CLAUSE = re.compile(r"^\s*(?P<kind>requires|ensures)\b(?P<text>.*?)(?=^\s*(?:requires|ensures)\b|\Z)", re.M | re.S)
-FORM = re.compile(r"(?P<about>\w*) ?\{ λ (?P<answer>\w+)\. ⌜ (?P<said>.*) ⌝ \}")
+FORM = re.compile(r"(?P<about>\w*) ?\{ (?P<said>.*) \}")
+RESULT = "result"  # what a clause calls the answer
 
 
 @dataclass
