@@ -8,8 +8,8 @@ top=$(cd "$(dirname "${BASH_SOURCE[0]}")/.." && pwd)
 firmware=$top/crates/firmware
 built=$top/target/beside
 target=x86_64-unknown-linux-gnu
-archive=${BESIDE_ARCHIVE:-$top/target/staticlib/libfirmware.a}
-program=${BESIDE_SHAPE:-$top/target/bin/shape}
+archive=${BESIDE_ARCHIVE:-$built/libfirmware.a}
+program=${BESIDE_SHAPE:-$top/crates/shape/out/shape}
 mkdir -p "$built"
 
 give_up() { # STATUS WORDS..
@@ -63,10 +63,8 @@ find_rustc() {
 }
 
 find_kit() {
-    local rt
-    rt=$(command -v rt) || give_up 2 "rt is not in the path"
-    kit=${RATTLE_HOME:-$(dirname "$(dirname "$(readlink -f "$rt")")")}
-    tools=$kit/on/$(uname -m)
+    command -v rt >/dev/null || give_up 2 "rt is not in the path"
+    kit=$(dirname "$(rt doc)")
 }
 
 # Whether a file is missing or older than one of its sources.
@@ -111,24 +109,28 @@ build_comparing() { # PROGRAM
 }
 
 compile() { # FILE OBJECT WORDS..
-    quietly "$tools/toolchain/bin/clang" --target=$target --no-default-config -O2 -Wall -Wextra -Werror "${@:3}" -c "$1" -o "$2"
+    quietly "$kit/toolchain/bin/clang" --target=$target --no-default-config -O2 -Wall -Wextra -Werror "${@:3}" -c "$1" -o "$2"
 }
 
 # Links objects and the archive to a program.
 link() { # PROGRAM OBJECT..
-    quietly "$tools/bin/rattle-link" --target $target --toolchain "$tools/toolchain" -o "$@" "$archive"
+    quietly "$kit/bin/rattle-link" --target $target --toolchain "$kit/toolchain" -o "$@" "$archive"
 }
 
-# Proves the archive, by a command, where its sources are newer.
-prove_archive() { # COMMAND..
+# Proves the entries and builds their archive by `rt lib`, where their sources are newer; what is being proved is told on standard error.
+prove_archive() { # WORDS..
     if [ -n "${BESIDE_ARCHIVE:-}" ]; then return; fi
     if is_stale "$archive" "$top/crates.txt" "$top"/crates/*/{src,specs,proofs}; then
-        (cd "$top" && "$@") >&2 || give_up 2 "there is no archive to compare"
+        (cd "$firmware" && rt lib "$@" 2>&1) | tee "$built/log" | sed -un 's/^rt: chose .* for /proving /p' >&2 ||
+            { cat "$built/log" >&2; give_up 2 "there is no archive to compare"; }
+        mkdir -p "$(dirname "$archive")"
+        cp "$firmware/out/libfirmware.a" "$archive"
     fi
 }
 
+# For every x86-64 processor; Rattle's own choice are those of version 2.
 find_archive() {
-    prove_archive rt staticlib firmware
+    prove_archive --cpu x86-64
 }
 
 # The box as a program.
