@@ -1,0 +1,6 @@
+use mathlib.Core.Path.{sym}
+use borrow.Author.Rules.{rules}
+use Rattle.firmware.proofs.aat_class_classic.Goals as goal
+
+pub returns : goal.returns
+returns c = record { answer = rw (sym c.class_classic.ensures) (c.put_reply.ensures.answer); value = rw (sym c.class_classic.ensures) (c.put_reply.ensures.value) }

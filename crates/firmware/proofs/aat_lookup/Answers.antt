@@ -1,0 +1,6 @@
+use mathlib.Core.Path.{sym}
+use borrow.Author.Rules.{rules}
+use Rattle.firmware.proofs.aat_lookup.Goals as goal
+
+pub returns : goal.returns
+returns c = record { answer = rw (sym c.lookup.ensures) (c.put_element.ensures.answer); value = rw (sym c.lookup.ensures) (c.put_element.ensures.value) }

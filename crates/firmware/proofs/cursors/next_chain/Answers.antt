@@ -1,0 +1,17 @@
+use Rattle.firmware.proofs.Stepping.{numbered}
+use Rattle.firmware.proofs.Lists.{chain_after_lem, leaves}
+use Rattle.firmware.specs.Cursors.{chain_cursor, chain_fields}
+use Rattle.chains.specs.Entries.{chain_answer}
+use mathlib.Core.Path.{refl}
+use borrow.Author.Rules.{rules}
+use Rattle.firmware.proofs.cursors.next_chain.Goals as goal
+
+pub returns-in-Next : goal.returns-in-Next
+returns-in-Next c =
+    let e = chain_after_lem _ _ _ c.cursor_from-given.ensures c.next_chain.ensures c.in-Next.is in
+    record { answer = numbered chain_answer e refl; cursor = leaves chain_cursor _ e c.put_chain.ensures.cursor; fields = leaves chain_fields _ e c.put_chain.ensures.fields }
+
+pub returns-in-Refused : goal.returns-in-Refused
+returns-in-Refused c =
+    let e = chain_after_lem _ _ _ c.cursor_from-given.ensures c.next_chain.ensures c.in-Refused.is in
+    record { answer = numbered chain_answer e c.refusal_number.ensures; cursor = leaves chain_cursor _ e refl; fields = leaves chain_fields _ e refl }

@@ -1,0 +1,17 @@
+use Rattle.firmware.proofs.Stepping.{numbered}
+use Rattle.firmware.proofs.Lists.{subtable-after, leaves}
+use Rattle.firmware.specs.Cursors.{subtable_cursor, subtable_fields}
+use Rattle.chains.specs.Entries.{subtable_answer}
+use mathlib.Core.Path.{refl}
+use borrow.Author.Rules.{rules}
+use Rattle.firmware.proofs.cursors.next_subtable.Goals as goal
+
+pub returns-in-Next : goal.returns-in-Next
+returns-in-Next c =
+    let e = subtable-after _ _ _ c.cursor_from-given.ensures c.next_subtable.ensures c.in-Next.is in
+    record { answer = numbered subtable_answer e refl; cursor = leaves subtable_cursor _ e c.put_subtable.ensures.cursor; fields = leaves subtable_fields _ e c.put_subtable.ensures.fields }
+
+pub returns-in-Refused : goal.returns-in-Refused
+returns-in-Refused c =
+    let e = subtable-after _ _ _ c.cursor_from-given.ensures c.next_subtable.ensures c.in-Refused.is in
+    record { answer = numbered subtable_answer e c.refusal_number.ensures; cursor = leaves subtable_cursor _ e refl; fields = leaves subtable_fields _ e refl }

@@ -1,0 +1,11 @@
+use Rattle.firmware.proofs.KernPairs.{kern-small}
+use Rattle.firmware.specs.Small.{IsSmall}
+use mathlib.Core.Path.{sym, subst}
+use borrow.Author.Rules.{rules}
+use Rattle.firmware.proofs.kern_steps.aat_kern_pair.Goals as goal
+
+pub put_pair-requires : goal.put_pair-requires
+put_pair-requires c = subst IsSmall (sym c.pair.ensures) (kern-small _ _ _ _ _)
+
+pub returns : goal.returns
+returns c = record { answer = rw (sym c.pair.ensures) (c.put_pair.ensures.answer); value = rw (sym c.pair.ensures) (c.put_pair.ensures.value) }

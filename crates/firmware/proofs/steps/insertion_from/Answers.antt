@@ -1,0 +1,16 @@
+use borrow.Author.Tests.{lt-ltb, le-ltb}
+use Rattle.firmware.specs.Steps.{insertion_from}
+use borrow.Author.Rules.{rules}
+use Rattle.firmware.proofs.steps.insertion_from.Goals as goal
+
+pub returns-then-state-gt-WIDEST : goal.returns-then-state-gt-WIDEST
+unfolding insertion_from
+returns-then-state-gt-WIDEST c = rw (c.no_insertion.ensures, lt-ltb _ _ c.if-state-gt-WIDEST.true, insertion_from)
+
+pub returns-then-cycles-gt-WIDEST : goal.returns-then-cycles-gt-WIDEST
+unfolding insertion_from
+returns-then-cycles-gt-WIDEST c = rw (c.no_insertion-then-cycles-gt-WIDEST.ensures, le-ltb _ _ c.if-state-gt-WIDEST.false, lt-ltb _ _ c.if-cycles-gt-WIDEST.true, insertion_from)
+
+pub returns : goal.returns
+unfolding insertion_from
+returns c = rw (le-ltb _ _ c.if-state-gt-WIDEST.false, le-ltb _ _ c.if-cycles-gt-WIDEST.false, insertion_from)

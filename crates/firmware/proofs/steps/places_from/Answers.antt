@@ -1,0 +1,16 @@
+use Rattle.firmware.proofs.Slots.{copied_more, copied}
+use Rattle.firmware.specs.Steps.{slots_from}
+use Rattle.line.proofs.Loops.{Pasting, pasting_start}
+use native.Mathlib.Omega.{arith}
+use mathlib.Core.Path.{refl}
+use Prim.Native.Nat.{◌-◌}
+use Rattle.firmware.proofs.steps.places_from.Goals as goal
+
+pub loop-slot-init : goal.loop-slot-init
+loop-slot-init c = pasting_start _ _ _ _
+
+pub loop-slot-preserved : goal.loop-slot-preserved
+loop-slot-preserved c = copied_more _ _ refl c.loop-slot.invariant c.loop-slot-test.true
+
+pub returns : goal.returns
+returns c = copied _ _ refl c.loop-slot.invariant c.loop-slot-test.false

@@ -1,0 +1,13 @@
+use mathlib.Core.Path.{refl}
+use borrow.Author.Rules.{rules}
+use Rattle.firmware.proofs.Slots.{put_more, put_done}
+use Rattle.line.proofs.Loops.{Pasting, pasting_start}
+use native.Mathlib.Omega.{arith}
+use Prim.Native.Nat.{◌-◌}
+use Rattle.firmware.proofs.steps.put_places.Given as goal
+
+abbrev pub invariant-loop-slot : goal.invariant-loop-slot
+invariant-loop-slot l = Pasting l.initial.slots l.from l.places 32 l.slots l.slot
+
+abbrev pub decreases-loop-slot : goal.decreases-loop-slot
+decreases-loop-slot l = 32 - l.slot
