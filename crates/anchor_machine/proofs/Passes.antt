@@ -1,5 +1,5 @@
 -- The pass's loops: what is left to do, behind the writes made, gives what the whole pass gives.
-use Prim.Native.Nat.{ℕ, zero, suc, ◌+◌, ◌-◌, ◌*◌, ◌<◌, ◌≤◌}
+use Prim.Native.Nat.{ℕ, zero, suc, ◌+◌, ◌<◌, ◌≤◌}
 use mathlib.Core.Path.{◌≡◌, refl, sym, ◌∙◌, ap, subst, subst⁻¹}
 use mathlib.Core.Bool.{Bool, true, false}
 use mathlib.Core.List.{List, [], ◌++◌, append_assoc}
@@ -24,15 +24,13 @@ use Rattle.machine.proofs.Stalls.{stall_falls}
 use Rattle.indexes.specs.Index.{classes_by}
 use Rattle.indexes.proofs.Laws.{opened-index}
 use Rattle.anchor_machine.specs.Writes.{Write, writes_at, Anchored, after, nothing_written}
-use Rattle.anchor_machine.specs.Machine.{fresh, stopped, acted, next, step_at, pass_from, rest, passed_by, passed_indexed}
+use Rattle.anchor_machine.specs.Machine.{fresh, acted, next, step_at, pass_from, rest, passed_by, passed_indexed}
 use Rattle.anchor_machine.specs.Small.{IsOffset}
 use Rattle.anchor_machine.specs.declared.Anchoring.{Anchoring}
-use Rattle.anchor_machine.specs.declared.Written.{Written}
-use Rattle.anchor_machine.specs.declared.Written.TheVariants as Written'
 use Rattle.anchor_machine.specs.declared.AnchorState.{AnchorState}
 use Rattle.anchor_machine.specs.declared.AnchorStep.{AnchorStep}
 use Rattle.anchor_machine.proofs.Writing.{Wrote, wrote_none, wrote_more, put_none}
-use Rattle.anchor_machine.proofs.Acting.{Sound, acted-sound, next-sound, next-ended, next-acts}
+use Rattle.anchor_machine.proofs.Acting.{Sound, next-sound, next-ended, next-acts}
 
 -- one turn, by the answer of its step
 module _ (classes : ℕ → ℕ) (ankr bytes : List ℕ) (anchoring : Anchoring) (glyphs : List ℕ) (used turns : ℕ) (s : AnchorState) (i : ℕ) where

@@ -25,7 +25,6 @@ use Rattle.anchor_machine.specs.Machine.{stopped, next, own_classes, is_short, i
 use Rattle.anchor_machine.specs.declared.Anchoring.{Anchoring}
 use Rattle.anchor_machine.specs.declared.Opened.{Opened}
 use Rattle.anchor_machine.specs.declared.Opened.TheVariants as Opened'
-use Rattle.anchor_machine.specs.declared.Written.TheVariants as Written'
 use Rattle.anchor_machine.specs.declared.AnchorState.{AnchorState}
 use Rattle.anchor_machine.specs.declared.AnchorStep.{AnchorStep}
 use Rattle.anchor_machine.proofs.Writing.{Wrote, put_none}

@@ -7,7 +7,7 @@ use native.Mathlib.Omega.{arith}
 use lib.IntN.{ℤ}
 use lib.ListN.{length}
 use Rattle.laws.specs.Signed.{signed16}
-use Rattle.parse.specs.Reads.{inside, u16_at, u32_at, read_i16, read_u16, read_u32}
+use Rattle.parse.specs.Reads.{inside, u16_at, read_i16, read_u16, read_u32}
 use Rattle.parse.specs.Use.{on_u32}
 use Rattle.parse.specs.declared.ReadI16.{ReadI16}
 use Rattle.parse.specs.declared.ReadI16.TheVariants as I16

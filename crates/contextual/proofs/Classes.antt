@@ -1,6 +1,6 @@
 -- The class table that a pass opens, and the class of a place by it.
 use Prim.Native.Nat.{ℕ, ◌<◌}
-use mathlib.Core.Path.{◌≡◌, ◌∙◌, ap, subst, subst⁻¹}
+use mathlib.Core.Path.{◌≡◌, ◌∙◌, subst, subst⁻¹}
 use mathlib.Core.Bool.{Bool, true, false}
 use mathlib.Core.List.{List}
 use Rattle.state_tables.specs.Opened.{opened_classes, word_class, class_by, LiesIn, Remembers, noted, nothing_found}

@@ -1,6 +1,6 @@
 -- What an exported step leaves: its numbers, or those that were lent where it was refused. For any machine's step.
 use Prim.Native.Nat.{ℕ}
-use mathlib.Core.Path.{◌≡◌, refl, sym, ◌∙◌, ap, ap₂, subst}
+use mathlib.Core.Path.{◌≡◌, sym, ◌∙◌, ap, ap₂, subst}
 use Rattle.kerning_lists.specs.declared.Run.{Run}
 use mathlib.Core.Bool.{Bool, true, false}
 use mathlib.Core.List.{List}

@@ -1,7 +1,7 @@
 -- An index is filled, glyph by glyph, behind its tests.
 use Prim.Native.Nat.{ℕ, ◌+◌, ◌<◌, ◌≤◌}
 use mathlib.Core.Path.{◌≡◌, refl, sym, ◌∙◌, ap, subst⁻¹}
-use mathlib.Core.Bool.{Bool, true, false}
+use mathlib.Core.Bool.{true, false}
 use mathlib.Core.List.{List, [], ◌∷◌}
 use mathlib.Core.Logic.{⊎_elim}
 use native.Mathlib.Omega.{arith}
@@ -31,7 +31,7 @@ use Rattle.state_tables.specs.declared.Made.TheVariants.{Ready, Short}
 use Rattle.state_tables.specs.declared.opened.Classes.{Classes}
 use Rattle.state_tables.proofs.Laws.{head_why, head_past, head-short, head_ready}
 use Rattle.state_tables.proofs.Openings.{classes-same, classes-lie}
-use Rattle.indexes.specs.Index.{index_limit, index_test, classes_below, Filled, refused_fill, filled_by, unless_refused, fill_tests, fill_call}
+use Rattle.indexes.specs.Index.{index_limit, index_test, classes_below, Filled, refused_fill, filled_by, fill_tests, fill_call}
 
 pub record Filling (classes : ℕ → ℕ) (n : ℕ) (index : List ℕ) (i : ℕ) : Type 0 where
   pub within : i ≤ n

@@ -1,10 +1,9 @@
 -- A pass by an index is the plain pass wherever each entry is that glyph's class, and a filled index is such a one.
 use Prim.Native.Nat.{ℕ, ◌<◌}
-use mathlib.Core.Path.{◌≡◌, sym, ◌∙◌, ap}
+use mathlib.Core.Path.{◌≡◌, ap}
 use mathlib.Core.List.{List}
 use native.Mathlib.Omega.{arith}
 use lib.ListN.{length, get_or}
-use Rattle.laws.specs.Lists.{tab}
 use Rattle.laws.proofs.Lists.{length-tab, get_d_tab}
 use Rattle.state_tables.specs.Classes.{class_of}
 use Rattle.state_tables.specs.declared.States.{States}

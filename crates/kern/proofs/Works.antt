@@ -24,7 +24,6 @@ use Rattle.pairs.specs.declared.PairReply.TheVariants as Reply'
 use Rattle.pairs.proofs.Passes as PairLaws
 use Rattle.kern_machine.specs.Machine as Machine'
 use Rattle.kern_machine.proofs.Bounds as Bounds'
-use Rattle.kerning_lists.specs.declared.Head.{Head}
 use Rattle.kerning_lists.proofs.Calls.{Works, works_same, works_nothing}
 use Rattle.kern_machine.specs.Machine.{head_size}
 use Rattle.kern.specs.Kern.{worked, pair_by}

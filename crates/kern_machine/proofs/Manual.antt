@@ -1,23 +1,22 @@
 -- The crate's reading of kern format 1's lists is the manual's, along the stream and across it.
-use Prim.Native.Nat.{ℕ, zero, suc, ◌+◌, ◌*◌, ◌-◌, ◌%◌, ◌≤◌, ◌<◌}
+use Prim.Native.Nat.{ℕ, zero, suc, ◌+◌, ◌-◌, ◌%◌, ◌≤◌, ◌<◌}
 use mathlib.Core.Path.{◌≡◌, refl, sym, ◌∙◌, ap, subst}
 use mathlib.Core.Bool.{Bool, true, false, cond}
-use mathlib.Core.List.{List, [], ◌++◌, append_assoc, append-nil}
+use mathlib.Core.List.{List, append_assoc, append-nil}
 use mathlib.Core.Logic.{⊎_elim}
 use native.Mathlib.Omega.{arith}
 use lib.Dec.{eqb}
-use lib.IntN.{ℤ, pos}
+use lib.IntN.{pos}
 use lib.ListN.{length, get_or}
 use borrow.Author.Tests.{eq-eqb, ne_eqb}
 use Rattle.laws.specs.Lists.{both}
 use Rattle.laws.specs.Signed.{signed16}
 use Rattle.laws.proofs.Numbers.{lt-or-ge, eq-or-ne}
-use Rattle.parse.specs.Reads.{u16_at, read_u16}
+use Rattle.parse.specs.Reads.{u16_at}
 use Rattle.parse.proofs.Laws.{read_u16_got, read_u16-short}
 use Rattle.kerning.specs.Additions.{Addition, additions_at}
 use Rattle.kerning.specs.Lists.{amount_of, ruled, number_at, Walk, leaves, before, walk}
 use Rattle.kerning.specs.declared.lists.Rule.TheVariants.{Odd}
-use Rattle.kerning.specs.declared.lists.Number.{Number}
 use Rattle.kerning.specs.declared.lists.Number.TheVariants.{Last, More}
 use Rattle.kerning_machine.specs.Machine.{kern_start, walked_from}
 use Rattle.kerning_machine.specs.declared.Reading.TheVariants.{Kern}

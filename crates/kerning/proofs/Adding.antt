@@ -1,24 +1,23 @@
 -- Laws of additions: what they leave, and how large it gets.
-use Prim.Native.Nat.{ℕ, zero, suc, ◌+◌, ◌*◌, ◌<◌, ◌≤◌, ◌^◌}
+use Prim.Native.Nat.{ℕ, ◌+◌, ◌*◌, ◌<◌, ◌≤◌, ◌^◌}
 use mathlib.Core.Path.{◌≡◌, refl, sym, ◌∙◌, ap, ap₂, subst, subst⁻¹}
 use mathlib.Core.Bool.{Bool, true, false, cond}
-use mathlib.Core.Logic.{◌⊎◌, ⊎_elim}
+use mathlib.Core.Logic.{⊎_elim}
 use mathlib.Core.List.{List, [], ◌∷◌, ◌++◌}
 use native.Mathlib.Omega.{arith}
-use native.Mathlib.Nat.{not-suc-le-zero}
-use lib.Dec.{ltb, eqb}
+use lib.Dec.{ltb}
 use lib.IntN.{ℤ, pos, nat_abs, ◌+ℤ◌, +ℤ_idr, +ℤ_assoc}
-use lib.ListN.{length, get_or, set, length-set, length-append}
-use lib.Seq.{set_out, get_or-set_same, get_or-set_other}
+use lib.ListN.{length, get_or, set, length-set}
+use lib.Seq.{get_or-set_same, get_or-set_other}
 use mir.Syntax.{w16, w64}
 use mir.Val.{SFits, to_z, of_z}
 use mir.Facts.{to_z-of_z}
 use borrow.Author.Tests.{lt-ltb, le-ltb, eq-eqb, ne_eqb}
 use Rattle.laws.specs.Choose.{if_eq}
-use Rattle.laws.proofs.Numbers.{lt-or-ge, eq-or-ne}
+use Rattle.laws.proofs.Numbers.{eq-or-ne}
 use Rattle.kerning.specs.Additions.{Addition, add_at, add_all, additions_at}
 use Rattle.kerning.specs.Bounds.{Within}
-use Rattle.kerning.proofs.Signs.{size-sum, size_16, fits_64, sum_is}
+use Rattle.kerning.proofs.Signs.{size-sum, size_16, fits_64}
 
 -- the code's addition
 module _ (x : ℤ) {z w : ℤ} (small : nat_abs x ≤ 2 ^ 62) (f : SFits w16 z) (e : w ≡ to_z w16 (of_z w16 z)) where

@@ -1,11 +1,11 @@
 -- The numbers of a list, from what the code has read.
-use Prim.Native.Nat.{ℕ, zero, suc, ◌+◌, ◌-◌, ◌%◌, ◌<◌, ◌≤◌}
-use mathlib.Core.Path.{◌≡◌, refl, sym, ◌∙◌, ap, subst⁻¹}
+use Prim.Native.Nat.{ℕ, ◌+◌, ◌-◌, ◌%◌, ◌≤◌}
+use mathlib.Core.Path.{◌≡◌, refl, sym, ◌∙◌, ap}
 use mathlib.Core.Bool.{Bool, true, false, cond}
 use mathlib.Core.List.{List}
 use native.Mathlib.Omega.{arith}
 use lib.Dec.{eqb}
-use lib.IntN.{ℤ, pos, nat_abs}
+use lib.IntN.{ℤ, pos}
 use lib.ListN.{length}
 use mir.Syntax.{w16}
 use mir.Val.{SFits, to_z, of_z}
@@ -23,7 +23,6 @@ use Rattle.kerning.specs.declared.lists.Rule.{Rule}
 use Rattle.kerning.specs.declared.lists.Rule.TheVariants.{Odd, Never, Marked}
 use Rattle.kerning.specs.declared.lists.Number.{Number}
 use Rattle.kerning.specs.declared.lists.Number.TheVariants.{Short, Stop, Last, More}
-use Rattle.kerning.proofs.Signs.{size_16}
 
 signed16-fits : (n : ℕ) → SFits w16 (signed16 n)
 signed16-fits n = record { sfits = signed16-size n }

@@ -3,18 +3,18 @@ use Prim.Native.Nat.{ℕ, zero, suc, ◌+◌, ◌*◌, ◌-◌, ◌%◌, ◌<◌
 use mathlib.Core.Path.{◌≡◌, refl, sym, ◌∙◌, ap, subst}
 use mathlib.Core.Bool.{Bool, true, false, cond}
 use mathlib.Core.List.{List, [], ◌++◌, append_assoc, append-nil}
-use mathlib.Core.Logic.{◌⊎◌, ⊎_elim}
+use mathlib.Core.Logic.{⊎_elim}
 use native.Mathlib.Omega.{arith}
 use lib.Dec.{eqb}
 use lib.IntN.{ℤ, pos}
 use lib.ListN.{length, get_or}
 use Rattle.laws.specs.Signed.{signed16}
 use Rattle.laws.proofs.Numbers.{lt-or-ge}
-use Rattle.parse.specs.Reads.{u16_at, read_u16}
+use Rattle.parse.specs.Reads.{u16_at}
 use Rattle.parse.proofs.Laws.{read_u16_got, read_u16-short}
 use Rattle.kerning.specs.Additions.{Addition, additions_at}
 use Rattle.kerning.specs.Lists.{amount_of, ruled, number_at, on_number, Walk, leaves, before, walk}
-use Rattle.kerning.specs.Walks.{popped_place, IsThere, made_of, amount_at, GoesOn, list_adds, Ends, empty, short, stop, last, Walks}
+use Rattle.kerning.specs.Walks.{made_of, amount_at, GoesOn, list_adds, Ends, empty, short, stop, last, Walks}
 use Rattle.kerning.specs.declared.lists.Rule.{Rule}
 use Rattle.kerning.specs.declared.lists.Rule.TheVariants.{Odd, Never, Marked}
 use Rattle.kerning.specs.declared.lists.Number.{Number}

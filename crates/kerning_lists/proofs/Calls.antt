@@ -1,7 +1,6 @@
 -- Calls of a run and of a lone pass: what a call that passes its tests may rely on, and what it answers and leaves.
 use Prim.Native.Nat.{ℕ, ◌≤◌, ◌^◌}
 use mathlib.Core.Path.{◌≡◌, refl, sym, ◌∙◌, ap, subst}
-use mathlib.Core.Bool.{Bool}
 use mathlib.Core.List.{List, [], ◌++◌}
 use native.Mathlib.Omega.{arith}
 use lib.IntN.{ℤ}

@@ -1,10 +1,10 @@
 -- A walk's subtables are the manual's, if each head whose bytes lie in the table, and no other, is read as the manual has it.
 use Prim.Native.Nat.{ℕ, zero, suc, ◌+◌, ◌<◌, ◌≤◌}
-use mathlib.Core.Path.{◌≡◌, refl, sym, ◌∙◌, ap, subst}
+use mathlib.Core.Path.{◌≡◌, refl, ◌∙◌, ap}
 use mathlib.Core.List.{List, [], ◌∷◌}
 use native.Mathlib.Omega.{arith}
 use lib.ListN.{length, get_or}
-use Rattle.kerning_lists.specs.Walk.{on_head, heads_from}
+use Rattle.kerning_lists.specs.Walk.{heads_from}
 use Rattle.kerning_lists.specs.Manual.{Told, told, begins_at, AsManual, NoneInPart}
 use Rattle.kerning_lists.specs.declared.Subtable.{Subtable}
 use Rattle.kerning_lists.specs.declared.Head.{Head}

@@ -2,14 +2,14 @@
 use Prim.Native.Nat.{ℕ, ◌≤◌}
 use mathlib.Core.Path.{◌≡◌, refl, sym, ◌∙◌, ap, ap₂, subst⁻¹}
 use mathlib.Core.Bool.{Bool, true, false, cond}
-use mathlib.Core.List.{List, []}
+use mathlib.Core.List.{List}
 use native.Mathlib.Omega.{arith}
 use lib.IntN.{ℤ}
 use Rattle.answers.specs.declared.Answer.TheVariants as Answer'
 use Rattle.state_tables.specs.declared.entries.Entry.{Entry}
 use Rattle.state_tables.specs.declared.entries.Entered.{Entered}
 use Rattle.state_tables.specs.declared.entries.Entered.TheVariants as Entered'
-use Rattle.state_tables.specs.Entries.{entry_of, on_entry}
+use Rattle.state_tables.specs.Entries.{entry_of}
 use Rattle.machine.specs.Pass.{is_done}
 use Rattle.kerning.specs.Additions.{Addition, add_all}
 use Rattle.kerning.specs.Lists.{Walk}

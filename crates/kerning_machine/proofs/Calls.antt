@@ -8,7 +8,6 @@ use lib.ListN.{length}
 use Rattle.answers.specs.declared.Refusal.TheVariants as Refusal'
 use Rattle.answers.specs.declared.Answer.{Answer}
 use Rattle.answers.specs.declared.Answer.TheVariants as Answer'
-use Rattle.answers.specs.declared.Check.TheVariants.{Refused}
 use Rattle.kerning.specs.Additions.{add_all, Kerned}
 use Rattle.indexes.proofs.Laws.{no_index}
 use Rattle.kerning_machine.specs.declared.Kerning.{Kerning}

@@ -1,6 +1,6 @@
 -- The loops of the two passes: the steps at a place are a loop of their own, which ends when the place is left.
-use Prim.Native.Nat.{ℕ, ◌+◌, ◌*◌, ◌<◌, ◌≤◌}
-use mathlib.Core.Path.{◌≡◌, refl, sym, ◌∙◌, ap, subst, subst⁻¹}
+use Prim.Native.Nat.{ℕ, ◌+◌, ◌*◌, ◌<◌}
+use mathlib.Core.Path.{◌≡◌, refl, ◌∙◌, subst, subst⁻¹}
 use mathlib.Core.Bool.{Bool, true, false, cond}
 use mathlib.Core.List.{List}
 use native.Mathlib.Omega.{arith}
@@ -21,7 +21,7 @@ use Rattle.kerning_machine.specs.declared.KerningStep.{KerningStep}
 use Rattle.kerning_machine.specs.declared.Orders.{Orders}
 use Rattle.kerning_machine.specs.Machine.{payload_of, orders_of, settled, behind, acted, next, rest}
 use Rattle.kerning_machine.specs.Work.{standing}
-use Rattle.kerning_machine.proofs.Acting.{Does, behind-ended, behind-settled, settled-done, next-ended, next-acts}
+use Rattle.kerning_machine.proofs.Acting.{Does, behind-ended, behind-settled, next-ended, next-acts}
 use Rattle.kerning_machine.proofs.Passes.{Going, Over, going_stop, going_less, going_step}
 
 -- the place of the next step: this one, where a step stays here, or the one behind it

@@ -1,25 +1,23 @@
 -- What every step keeps: the stack's depth, few and small additions, the stall rule; and so what a pass adds is bounded.
-use Prim.Native.Nat.{ℕ, zero, suc, ◌+◌, ◌-◌, ◌*◌, ◌<◌, ◌≤◌, ◌^◌}
-use mathlib.Core.Path.{◌≡◌, refl, sym, ◌∙◌, ap, subst⁻¹}
+use Prim.Native.Nat.{ℕ, zero, suc, ◌+◌, ◌*◌, ◌≤◌, ◌^◌}
+use mathlib.Core.Path.{◌≡◌, refl, sym, subst⁻¹}
 use mathlib.Core.Bool.{Bool, true, false, cond}
-use mathlib.Core.List.{List, [], ◌++◌}
+use mathlib.Core.List.{List, []}
 use native.Mathlib.Omega.{arith}
 use lib.Dec.{ltb}
 use lib.IntN.{ℤ}
 use lib.ListN.{length, get_or, length-append}
 use Rattle.answers.specs.Limits.{room_limit}
-use Rattle.answers.specs.declared.Answer.{Answer}
 use Rattle.answers.specs.declared.Answer.TheVariants as Answer'
 use Rattle.line.proofs.Room.{room_small}
-use Rattle.state_tables.specs.declared.entries.Entry.{Entry}
 use Rattle.state_tables.specs.declared.entries.Entered.{Entered}
 use Rattle.state_tables.specs.declared.entries.Entered.TheVariants as Entered'
 use Rattle.state_tables.specs.Entries.{entry_of}
 use Rattle.machine.specs.Stall.{stalled}
 use Rattle.machine.specs.Pass.{is_done}
-use Rattle.kerning.specs.Additions.{Addition, add_all, Kerned, after}
+use Rattle.kerning.specs.Additions.{add_all, Kerned, after}
 use Rattle.kerning.specs.Bounds.{Within}
-use Rattle.kerning.specs.Lists.{Walk, walk}
+use Rattle.kerning.specs.Lists.{Walk}
 use Rattle.kerning.proofs.Adding.{Small, small-none, small-append, within_more, within-add_all}
 use Rattle.kerning.proofs.Walking.{Bounded, walk_bounded}
 use Rattle.kerning_machine.specs.declared.Reading.{Reading}
@@ -30,7 +28,7 @@ use Rattle.kerning_machine.specs.declared.Kerning.{Kerning}
 use Rattle.kerning_machine.specs.declared.Opened.{Opened}
 use Rattle.kerning_machine.specs.declared.Opened.TheVariants as Opened'
 use Rattle.kerning_machine.specs.declared.KerningState.{KerningState}
-use Rattle.kerning_machine.specs.Machine.{fresh, rule_of, stride_of, is_full, popped, stacked, settled, walked_from, Stepped, behind, listed, entered, acted, payload_of, orders_of, next, step_at, pass_from, rest, passed_by, passed, own_classes, worked_by}
+use Rattle.kerning_machine.specs.Machine.{fresh, rule_of, stride_of, is_full, stacked, settled, walked_from, Stepped, behind, listed, entered, acted, payload_of, orders_of, next, step_at, pass_from, rest, passed_by, passed, own_classes, worked_by}
 use Rattle.kerning_machine.proofs.Acting.{stacked-deep}
 
 -- a step from a state that took so many cycles

@@ -1,33 +1,32 @@
 -- The tests of a lone step, once TABLE has passed; and what a step that they pass has.
 use Prim.Native.Nat.{ℕ, ◌≤◌, ◌^◌}
-use mathlib.Core.Path.{◌≡◌, refl, sym, ◌∙◌, ap, ap₂}
+use mathlib.Core.Path.{◌≡◌, refl, sym, ◌∙◌, ap₂}
 use mathlib.Core.Bool.{Bool, true, false, not, cond}
 use mathlib.Core.List.{List, [], ◌∷◌}
 use native.Mathlib.Omega.{arith}
 use lib.Dec.{ltb}
 use lib.IntN.{ℤ}
 use lib.ListN.{length}
-use borrow.Author.Tests.{not-false, ltb-false, lt-ltb, le-ltb}
+use borrow.Author.Tests.{not-false, ltb-false}
 use Rattle.answers.proofs.Refusals.{alone_refused, alone-passed, passed_here, passed_later}
 use Rattle.answers.specs.Limits.{room_limit}
 use Rattle.answers.specs.Refuse.{refuse, table_test}
 use Rattle.answers.specs.declared.Refusal.{Refusal}
 use Rattle.answers.specs.declared.Refusal.TheVariants as Refusal'
-use Rattle.answers.specs.declared.Answer.{Answer}
 use Rattle.answers.specs.declared.Answer.TheVariants as Answer'
 use Rattle.answers.specs.declared.Check.{Check}
 use Rattle.answers.specs.declared.Check.TheVariants.{Passed, Refused}
 use Rattle.kerning.specs.Additions.{add_all}
 use Rattle.kerning.specs.Bounds.{Within}
-use Rattle.kerning.specs.Line.{bound, is_modest}
-use Rattle.kerning.proofs.Adding.{add_all-none, within_more}
+use Rattle.kerning.specs.Line.{is_modest}
+use Rattle.kerning.proofs.Adding.{within_more}
 use Rattle.kerning.proofs.Scans.{modest-within}
 use Rattle.kerning_machine.specs.declared.KerningState.{KerningState}
 use Rattle.kerning_machine.specs.declared.KerningStep.{KerningStep}
 use Rattle.kerning_machine.specs.declared.Kerning.{Kerning}
 use Rattle.kerning_machine.specs.declared.Opened.{Opened}
 use Rattle.kerning_machine.specs.declared.Opened.TheVariants as Opened'
-use Rattle.kerning_machine.specs.Machine.{Stepped, stopped, next, own_classes, is_short, is_tupled, are_within, is_roomy, later_tests, step_tests, step_call}
+use Rattle.kerning_machine.specs.Machine.{stopped, next, own_classes, is_short, is_tupled, are_within, is_roomy, later_tests, step_tests, step_call}
 use Rattle.kerning_machine.proofs.Acting.{Does}
 
 module _ (n used index : ℕ) (s : KerningState) (along : List ℤ) (headless tupled : Bool) {r : Check} (e : r ≡ refuse (table_test n ∷ [])) where

@@ -13,7 +13,7 @@ use Rattle.machine.proofs.Stalls.{stall_falls}
 use Rattle.kerning_machine.specs.Machine.{fresh, Stepped, step_at, pass_from, rest, passed_by}
 use Rattle.kerning_machine.specs.declared.Kerning.{Kerning}
 use Rattle.kerning_machine.specs.declared.KerningState.{KerningState}
-use Rattle.kerning_machine.proofs.Sound.{Sound, next-sound}
+use Rattle.kerning_machine.proofs.Sound.{next-sound}
 use Rattle.kerning_machine.proofs.Passes.{turn_goes, turn_stops, turn_ends}
 
 module _ (classes : ℕ → ℕ) (bytes : List ℕ) (kerning : Kerning) (glyphs : List ℕ) (used more : ℕ) where

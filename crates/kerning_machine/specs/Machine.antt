@@ -14,7 +14,6 @@ use Rattle.state_tables.specs.declared.entries.Entry.{Entry}
 use Rattle.state_tables.specs.Classes.{class_of}
 use Rattle.indexes.specs.Index.{classes_by}
 use Rattle.state_tables.specs.Entries.{entry_of, on_entry}
-use Rattle.line.specs.Line.{Line}
 use Rattle.laws.specs.Bits.{is_set}
 use Rattle.machine.specs.Stall.{stalled}
 use Rattle.machine.specs.Pass.{is_done}

@@ -1,5 +1,5 @@
 -- Anchored passes, steps and runs, from what the code has done.
-use Prim.Native.Nat.{ℕ, ◌-◌}
+use Prim.Native.Nat.{ℕ}
 use mathlib.Core.Path.{◌≡◌, refl, sym, ◌∙◌, ap, ap₂, subst}
 use mathlib.Core.Bool.{Bool, true, false}
 use mathlib.Core.List.{List, []}
@@ -10,7 +10,6 @@ use borrow.Author.Tests.{eq-eqb, ne_eqb, eqb-true}
 use Rattle.answers.specs.declared.Answer.{Answer}
 use Rattle.answers.specs.declared.Answer.TheVariants as Answer'
 use Rattle.answers.specs.declared.Refusal.TheVariants as Refusal'
-use Rattle.answers.specs.declared.Check.TheVariants.{Refused}
 use Rattle.tables.specs.declared.units.Reading.{Reading}
 use Rattle.kerning.specs.Additions.{Addition, add_all}
 use Rattle.kerning.specs.declared.choices.Choices.{Choices}

@@ -3,7 +3,7 @@ use Prim.Native.Nat.{ℕ, ◌%◌}
 use mathlib.Core.Path.{◌≡◌}
 use mathlib.Core.List.{List}
 use native.Mathlib.Omega.{arith}
-use lib.ListN.{length, drop, length-drop}
+use lib.ListN.{drop, length-drop}
 use borrow.Author.Tests.{eq-eqb}
 use Rattle.parse.specs.Reads.{u32_at}
 use Rattle.tables.specs.declared.units.Reading.TheVariants.{Crate}

@@ -1,7 +1,7 @@
 -- Anchors change nothing else: an anchored run answers, counts and adjusts as a run without them does, whatever the ankr table, and an anchored pass by
 -- a subtable of another format is the pass without them.
 use Prim.Native.Nat.{ℕ, ◌≤◌}
-use mathlib.Core.Path.{◌≡◌, refl, sym, ◌∙◌, ap}
+use mathlib.Core.Path.{◌≡◌, refl}
 use mathlib.Core.Bool.{Bool, true, false}
 use mathlib.Core.List.{List}
 use lib.IntN.{ℤ}

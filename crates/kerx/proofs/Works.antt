@@ -28,7 +28,6 @@ use Rattle.kerx_machine.specs.Machine as Machine'
 use Rattle.kerx_machine.specs.Machine.{is_tupled}
 use Rattle.kerx_machine.proofs.Bounds as Bounds'
 use Rattle.kerning_lists.specs.Run.{turned_back}
-use Rattle.kerning_lists.specs.declared.Head.{Head}
 use Rattle.kerning_lists.proofs.Turns.{backward_twice, within-backward, turned_and_back}
 use Rattle.laws.proofs.Backward.{length-backward}
 use Rattle.laws.specs.Backward.{backward}

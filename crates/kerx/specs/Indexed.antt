@@ -16,13 +16,11 @@ use Rattle.pairs.specs.declared.Opened as Pairs'
 use Rattle.pairs.specs.declared.Opened.TheVariants as Pairs
 use Rattle.kerning_machine.specs.Machine as Kerning'
 use Rattle.kerning_machine.specs.declared.Opened as KerningOpened
-use Rattle.kerning_machine.specs.declared.Opened.TheVariants as Kerning
 use Rattle.kerx_machine.specs.Machine as Machine'
 use Rattle.kerx_machine.specs.Machine.{body_of, is_tupled}
 use Rattle.anchor_machine.specs.Writes.{Anchored, nothing_written}
 use Rattle.anchor_machine.specs.Machine as Anchor'
 use Rattle.anchor_machine.specs.declared.Opened as AnchorOpened
-use Rattle.anchor_machine.specs.declared.Opened.TheVariants as Anchor
 use Rattle.kerning_lists.specs.Walk.{on_head}
 use Rattle.kerx.specs.Anchored.{Marked, adding, writing, neither, marked_by, anchors_of, takes_pass, pass_tests}
 use Rattle.kerx.specs.Heads.{head_in}

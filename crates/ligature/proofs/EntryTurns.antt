@@ -20,7 +20,7 @@ use Rattle.ligature.specs.Actions.{action_of}
 use Rattle.ligature.specs.Ligature.{Ligation, Stack, ligations_of, stored_in, turn_of, Acts, acts, Work, overflows, pushed, performed, entered, Ran, over, ran}
 use Rattle.ligature.specs.declared.Turn.{Turn}
 use Rattle.ligature.specs.declared.Turn.TheVariants as Turn'
-use Rattle.ligature.proofs.Acting.{none_left, turn_ends, turn_stops, turn_goes}
+use Rattle.ligature.proofs.Acting.{turn_ends, turn_stops, turn_goes}
 
 -- the cycle count never falls: over a list of actions
 acts_since : (bytes places : List ℕ) (depth turns number at sum cycles : ℕ) (glyphs : List ℕ) (made : List Ligation)

@@ -1,6 +1,6 @@
 -- An action of a ligature subtable, as the crate reads it. The bytes are those from the state table on: the numbers at 16, 20 and 24 are
 -- where its actions, its components and its ligatures begin.
-use Rattle.std.specs.Prelude.{ℕ, ◌+◌, ◌-◌, ◌*◌, ◌%◌, Bool, cond, List, ℤ, pos, negsuc, ◌+ℤ◌, ◌-ℤ◌}
+use Rattle.std.specs.Prelude.{ℕ, ◌+◌, ◌*◌, ◌%◌, Bool, cond, List, ℤ, pos, negsuc, ◌+ℤ◌, ◌-ℤ◌}
 use Rattle.laws.specs.Choose.{if_lt, if_eq}
 use Rattle.laws.specs.Lists.{either}
 use Rattle.parse.specs.Reads.{read_u16, read_u32}

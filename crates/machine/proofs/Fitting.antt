@@ -1,12 +1,11 @@
 -- Machines whose every step fits the room: on every valid line their calls are legal.
-use Prim.Native.Nat.{◌+◌, ◌≤◌}
+use Prim.Native.Nat.{◌+◌}
 use mathlib.Core.Path.{◌≡◌, ◌∙◌, ap}
 use mathlib.Core.List.{List, [], ◌++◌}
 use native.Mathlib.Omega.{arith}
-use lib.ListN.{length}
-use Rattle.line.specs.Line.{Line, Valid}
+use Rattle.line.specs.Line.{Valid}
 use Rattle.line.specs.Edits.{inserted}
-use Rattle.line.specs.Changes.{Change, history_of, apply_all}
+use Rattle.line.specs.Changes.{Change, history_of}
 use Rattle.line.specs.History.{Fits}
 use Rattle.line.proofs.Histories.{inserted-append, history_append, by_changes}
 use Rattle.machine.proofs.Having.{Closed}

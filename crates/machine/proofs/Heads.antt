@@ -1,12 +1,12 @@
 -- The kind of a subtable, from what the code has read.
 use Prim.Native.Nat.{ℕ, ◌%◌, ◌≤◌}
-use mathlib.Core.Path.{◌≡◌, refl, sym, ◌∙◌, ap}
-use mathlib.Core.Bool.{Bool, true, false}
+use mathlib.Core.Path.{◌≡◌}
+use mathlib.Core.Bool.{false}
 use mathlib.Core.List.{List}
 use native.Mathlib.Omega.{arith}
 use lib.Dec.{eqb}
 use lib.ListN.{length}
-use Rattle.parse.specs.Reads.{inside, u32_at, read_u32}
+use Rattle.parse.specs.Reads.{u32_at, read_u32}
 use Rattle.parse.specs.Parts.{read_part}
 use Rattle.parse.specs.declared.ReadPart.{ReadPart}
 use Rattle.parse.specs.declared.ReadPart.TheVariants as Part

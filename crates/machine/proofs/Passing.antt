@@ -1,16 +1,15 @@
 -- The loop of a pass, for any machine: what is left to do, after the changes made, gives what the whole pass gives.
 use Prim.Native.Nat.{ℕ, zero, suc, ◌+◌, ◌<◌, ◌≤◌}
 use mathlib.Core.Path.{◌≡◌, refl, sym, ◌∙◌, ap}
-use mathlib.Core.Bool.{Bool, true, false}
-use mathlib.Core.List.{List, [], ◌∷◌, ◌++◌, append_assoc}
+use mathlib.Core.Bool.{true, false}
+use mathlib.Core.List.{List, [], ◌++◌, append_assoc}
 use native.Mathlib.Omega.{arith}
-use lib.Dec.{ltb}
 use borrow.Author.Tests.{lt-ltb, le-ltb}
 use Rattle.answers.specs.declared.Answer.{Answer}
 use Rattle.line.specs.Line.{Line}
 use Rattle.line.specs.Changes.{Change, apply_all}
 use Rattle.line.proofs.Histories.{apply_all-append}
-use Rattle.machine.specs.Pass.{Stepped, Step, Passed, after, is_done, step_at, end_call, pass_from}
+use Rattle.machine.specs.Pass.{Step, Passed, after, is_done, step_at, end_call, pass_from}
 
 module _ {S : Type 0} (machine : Step S) where
   -- one turn, by the answer of its step

@@ -9,7 +9,7 @@ use Rattle.laws.proofs.Numbers.{lt-or-ge}
 use Rattle.line.specs.Line.{Line}
 use Rattle.line.specs.Changes.{apply_all}
 use Rattle.state_tables.specs.declared.States.{States}
-use Rattle.machine.specs.Pass.{Step, Passed, after, is_done, step_at, pass_from}
+use Rattle.machine.specs.Pass.{Step, after, is_done, step_at, pass_from}
 use Rattle.machine.specs.Machine.{Machine, passed_by, Bounded}
 use Rattle.machine.proofs.Passing.{turn_goes, turn_stops, turn_ends}
 

@@ -2,7 +2,6 @@
 use Rattle.std.specs.Prelude.{ℕ, zero, suc, ◌+◌, Bool, true, false, cond, List, [], ◌++◌, ltb, get_or}
 use Rattle.answers.specs.declared.Answer.{Answer}
 use Rattle.answers.specs.declared.Answer.TheVariants as Answer'
-use Rattle.answers.specs.declared.Refusal.{Refusal}
 use Rattle.line.specs.Line.{Line}
 use Rattle.line.specs.Changes.{Change, apply_all}
 

@@ -3,7 +3,6 @@ use Prim.Native.Nat.{ℕ, ◌<◌, ◌≤◌}
 use mathlib.Core.Path.{◌≡◌, refl, sym, ◌∙◌, ap, subst⁻¹}
 use mathlib.Core.Bool.{Bool, true, false, not}
 use mathlib.Core.List.{List, [], ◌∷◌}
-use native.Mathlib.Omega.{arith}
 use lib.ListN.{length, drop}
 use borrow.Author.Tests.{lt-ltb, le-ltb, ltb-false}
 use Rattle.answers.specs.Refuse.{Test, refuse, table_test}
@@ -13,7 +12,7 @@ use Rattle.answers.specs.declared.Refusal.TheVariants as Refusal'
 use Rattle.answers.specs.declared.Check.{Check}
 use Rattle.answers.specs.declared.Check.TheVariants.{Passed, Refused}
 use Rattle.answers.proofs.Refusals.{refuse-none, refuse-here, refuse-later, passed_here, passed_later, alone_refused, alone-passed}
-use Rattle.line.specs.Line.{Line, Valid}
+use Rattle.line.specs.Line.{Line}
 use Rattle.line.specs.Test.{is_valid, line_test}
 use Rattle.line.specs.Changes.{apply_all}
 use Rattle.line.proofs.Refusals.{refuse-line, refuse_past_line, passed-line}

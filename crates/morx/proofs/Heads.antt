@@ -1,25 +1,24 @@
 -- A run counts the heads of the walk: all of them, 65,535 of more, or those up to and with the one that ran full.
-use Prim.Native.Nat.{ℕ, zero, suc, ◌+◌, ◌<◌, ◌≤◌}
-use mathlib.Core.Path.{◌≡◌, refl, sym, ◌∙◌, ap, subst⁻¹}
+use Prim.Native.Nat.{ℕ, zero, suc, ◌<◌}
+use mathlib.Core.Path.{◌≡◌, refl, ◌∙◌, ap, subst⁻¹}
 use mathlib.Core.Bool.{Bool, true, false}
 use mathlib.Core.Logic.{◌⊎◌, inl, inr, ⊎_elim}
-use mathlib.Core.List.{List, [], ◌∷◌, ◌++◌}
+use mathlib.Core.List.{List, [], ◌∷◌}
 use native.Mathlib.Omega.{arith}
 use lib.ListN.{length, drop, take}
 use Rattle.answers.specs.Limits.{head_limit}
 use Rattle.answers.specs.declared.Answer.{Answer}
 use Rattle.answers.specs.declared.Answer.TheVariants as Answer'
 use Rattle.line.specs.Line.{Line}
-use Rattle.line.specs.Changes.{Change}
-use Rattle.machine.specs.Pass.{Passed, is_done}
+use Rattle.machine.specs.Pass.{is_done}
 use Rattle.chains.specs.Orders.{is_reversed}
-use Rattle.chains.specs.Walk.{next_head, heads_of, walk_from, walk_of}
+use Rattle.chains.specs.Walk.{walk_of}
 use Rattle.chains.specs.declared.Subtable.{Subtable}
 use Rattle.chains.specs.declared.Head.{Head}
 use Rattle.chains.specs.declared.Head.TheVariants as Head'
 use Rattle.morx.specs.Kinds.{kind_of}
-use Rattle.morx.specs.Run.{is_passed_over, idle, settled_answer, settled, turned_work, visit_subtable, visit, visit_leaves, flags_after, Ran, behind, run_over, ran}
-use Rattle.morx.specs.Heads.{RunsFull, Counted}
+use Rattle.morx.specs.Run.{is_passed_over, settled_answer, turned_work, visit_subtable, visit, visit_leaves, flags_after, Ran, behind, run_over, ran}
+use Rattle.morx.specs.Heads.{Counted}
 use Rattle.morx.specs.declared.Choices.{Choices}
 use Rattle.morx.proofs.Runs.{run_none, run-limit, run_stops, run-goes}
 

@@ -6,7 +6,7 @@ use mathlib.Core.List.{List, [], ◌∷◌}
 use lib.ListN.{length}
 use Rattle.answers.specs.Refuse.{refuse}
 use Rattle.line.specs.Line.{Line, Valid}
-use Rattle.line.specs.Changes.{Change, apply_all}
+use Rattle.line.specs.Changes.{apply_all}
 use Rattle.line.specs.History.{Fits}
 use Rattle.machine.specs.Pass.{is_done}
 use Rattle.machine.proofs.Having.{if_passed_lem}

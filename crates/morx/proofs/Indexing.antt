@@ -26,7 +26,7 @@ use Rattle.machine.proofs.Quiet.{quiet_none, quiet_fits}
 use Rattle.indexes.specs.Index.{index_test, is_another}
 use Rattle.chains.specs.declared.Edition.TheVariants.{Morx}
 use Rattle.morx.specs.Kinds.{kind_at, subtable_of_kind, any_subtable}
-use Rattle.morx.specs.Indexed.{indexed_of_kind, has_classes, indexed_tests, indexed_call, indexed_leaves}
+use Rattle.morx.specs.Indexed.{indexed_of_kind, has_classes, indexed_tests, indexed_call}
 use Rattle.morx.specs.declared.Kind.{Kind}
 use Rattle.morx.specs.declared.PassReply.{PassReply}
 use Rattle.morx.proofs.Leaves.{Leaves}

@@ -1,12 +1,9 @@
 -- Document 01's table for the shaper, computed by the definitions: its walk has two heads, and the run looks up 5 and 6.
 use Prim.Native.Nat.{ℕ}
 use mathlib.Core.Path.{◌≡◌, refl}
-use mathlib.Core.Bool.{true, false}
 use mathlib.Core.List.{List, [], ◌∷◌}
 use lib.ListN.{length}
-use Rattle.answers.specs.declared.Answer.TheVariants as Answer'
 use Rattle.answers.specs.Limits.{head_limit}
-use Rattle.line.specs.Line.{Line, line_of}
 use Rattle.chains.specs.Walk.{walk_of, heads_of, next_head, walk_from}
 use Rattle.chains.specs.Lists.{width, number_at, chains_from, chain_count, next_chain, chain_at, next_subtable, subtable_at}
 use Rattle.chains.specs.Orders.{kind_number}

@@ -1,6 +1,6 @@
 -- What a pass answers and leaves, as one line; and lines that stay valid.
 use Prim.Native.Nat.{ℕ, ◌+◌, ◌≤◌}
-use mathlib.Core.Path.{◌≡◌, refl, sym, ◌∙◌, ap, subst, subst⁻¹}
+use mathlib.Core.Path.{◌≡◌, refl, ◌∙◌, ap, subst⁻¹}
 use mathlib.Core.Bool.{true}
 use mathlib.Core.List.{List, [], ◌∷◌, ◌++◌}
 use native.Mathlib.Omega.{arith}
@@ -14,7 +14,7 @@ use Rattle.line.specs.History.{Fits}
 use Rattle.line.proofs.Exact.{valid_of, of_valid}
 use Rattle.line.proofs.Histories.{by_changes, inserted-append, history_append}
 use Rattle.machine.specs.Pass.{Passed}
-use Rattle.machine.proofs.Quiet.{Quiet, quiet_fits}
+use Rattle.machine.proofs.Quiet.{quiet_fits}
 use Rattle.morx.specs.Work.{pass_reply_of}
 use Rattle.morx.specs.declared.PassReply.{PassReply}
 

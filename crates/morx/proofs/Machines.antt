@@ -1,10 +1,10 @@
 -- The pass by kind: each kind's own pass leaves the line that it says, and its changes fit.
 use Prim.Native.Nat.{ℕ, zero, suc, ◌%◌, ◌≤◌}
-use mathlib.Core.Path.{◌≡◌, refl, sym, ◌∙◌, ap, subst⁻¹}
-use mathlib.Core.Bool.{Bool, true, false, not, cond}
+use mathlib.Core.Path.{◌≡◌, refl, sym, ap, subst⁻¹}
+use mathlib.Core.Bool.{Bool, true, false, cond}
 use mathlib.Core.List.{List, [], ◌∷◌}
 use native.Mathlib.Omega.{arith}
-use lib.ListN.{length, get_or, drop}
+use lib.ListN.{length, get_or}
 use Rattle.answers.specs.declared.Answer.{Answer}
 use Rattle.answers.specs.declared.Answer.TheVariants as Answer'
 use Rattle.answers.specs.declared.Refusal.TheVariants as Refusal'
@@ -26,7 +26,7 @@ use Rattle.machine.specs.Head.{has_kind, body_of}
 use Rattle.machine.specs.Pass.{Passed}
 use Rattle.machine.specs.Machine.{Subtable, refused_pass, subtable_of, step_leaves, StepCall}
 use Rattle.machine.specs.Work.{work_leaves}
-use Rattle.machine.proofs.Quiet.{Quiet, quiet_none, quiet_fits}
+use Rattle.machine.proofs.Quiet.{quiet_none, quiet_fits}
 use Rattle.machine.proofs.Having.{worked-has}
 use Rattle.machine.proofs.Fitting.{fitting}
 use Rattle.rearrangement.specs.Rearrangement as R
@@ -73,7 +73,7 @@ use Rattle.morx.specs.declared.Kind.{Kind}
 use Rattle.morx.specs.declared.Kind.TheVariants.{Rearrangement, Contextual, Ligature, NonContextual, Insertion, OldRearrangement, OldNonContextual, LeftOut}
 use Rattle.morx.specs.declared.PassReply.{PassReply}
 use Rattle.morx.proofs.Kept.{Kept, Has, kept-none, kept-one, kept_more, kept_append, pass_keeps, lent_keeps, step_keeps}
-use Rattle.morx.proofs.Leaves.{Leaves, valid-line}
+use Rattle.morx.proofs.Leaves.{Leaves}
 
 -- what a machine leaves, field by field, is the line that its changes make
 by_fields : (p : Passed) (l : Line) {answer : Answer} {glyphs tags homes : List ℕ} {used : ℕ} → answer ≡ p.answer → glyphs ≡ (apply_all p.changes l).glyphs

@@ -23,7 +23,7 @@ use Rattle.morx.specs.Sequence.{Call, leaves}
 use Rattle.morx.specs.Memory.{written_by, in_memory}
 use Rattle.morx.specs.declared.Kind.{Kind}
 use Rattle.morx.specs.declared.Kind.TheVariants.{Rearrangement, Contextual, Ligature, NonContextual, Insertion, OldRearrangement, OldNonContextual, LeftOut}
-use Rattle.morx.proofs.Kept.{Kept, Has, kept-none, kept-one, call_keeps}
+use Rattle.morx.proofs.Kept.{Kept, kept-none, kept-one, call_keeps}
 use Rattle.morx.proofs.Machines.{window-homes, window-used, write-tags, write-homes, write-used, ligature-tags, ligature-used, insertion-homes, kept-rearrangement, kept-contextual, kept-contextual-step, kept-noncontextual, kept-old-rearrangement, kept-old-noncontextual, kept-ligature, kept-ligature-step, kept-inserted, kept-insertion}
 
 abbrev homes : Line → List ℕ

@@ -1,6 +1,6 @@
 -- Passes by a mort subtable and runs over a mort table leave homes and the used length.
 use Prim.Native.Nat.{ℕ, zero, suc}
-use mathlib.Core.Path.{◌≡◌, refl, sym, ◌∙◌, ap, subst⁻¹}
+use mathlib.Core.Path.{◌≡◌, refl, ◌∙◌, ap, subst⁻¹}
 use mathlib.Core.Bool.{Bool, true, false, cond}
 use mathlib.Core.List.{List, [], ◌∷◌}
 use lib.Dec.{eqb}
@@ -17,14 +17,12 @@ use Rattle.mort.specs.Mort.{has_kind}
 use Rattle.chains.specs.Orders.{is_reversed}
 use Rattle.chains.specs.Walk.{walk_of}
 use Rattle.chains.specs.declared.Edition.TheVariants.{Mort}
-use Rattle.chains.specs.declared.Subtable.{Subtable}
 use Rattle.chains.specs.declared.Head.{Head}
 use Rattle.chains.specs.declared.Head.TheVariants as Head'
 use Rattle.morx.specs.Kinds.{kind_of, kind_at, subtable_of_kind, any_subtable}
 use Rattle.morx.specs.Run.{is_passed_over, turned_work, visit_subtable, visit, visit_leaves, flags_after, Ran, run_over, ran}
 use Rattle.morx.specs.Calls.{run_tests, run_call, run_leaves}
 use Rattle.morx.specs.declared.Choices.{Choices}
-use Rattle.morx.specs.declared.Kind.{Kind}
 use Rattle.morx.specs.declared.Kind.TheVariants.{OldRearrangement, OldNonContextual, LeftOut}
 use Rattle.morx.proofs.Kept.{Has, kept-none, call_keeps}
 use Rattle.morx.proofs.Machines.{window-homes, window-used, write-homes, write-used, kept-old-rearrangement, kept-old-noncontextual}

@@ -9,7 +9,6 @@ use borrow.Author.Tests.{le-ltb}
 use Rattle.answers.specs.Limits.{head_limit}
 use Rattle.answers.specs.Refuse.{Test, refuse, table_test}
 use Rattle.answers.specs.declared.Answer.TheVariants as Answer'
-use Rattle.answers.specs.declared.Check.{Check}
 use Rattle.answers.proofs.Refusals.{refuse-here, refuse-later}
 use Rattle.line.specs.Line.{Line}
 use Rattle.line.specs.Test.{line_test}
@@ -20,12 +19,11 @@ use Rattle.chains.specs.Features.{is_asked}
 use Rattle.chains.specs.Manual.{feature_total, feature_place, manual_chain, manual_flags, EndsAt}
 use Rattle.chains.specs.Walk.{walk_of}
 use Rattle.chains.specs.declared.Edition.{Edition}
-use Rattle.chains.specs.declared.Chain.{Chain}
 use Rattle.chains.specs.declared.Head.{Head}
 use Rattle.chains.specs.declared.Head.TheVariants as Head'
 use Rattle.chains.proofs.Switching.{flags_unasked, flags_alike}
 use Rattle.chains.proofs.ManualFlags.{flags-behind_as_manual}
-use Rattle.morx.specs.Run.{choosing, visit, visit_leaves, flags_after, Ran, behind, run_over, ran}
+use Rattle.morx.specs.Run.{choosing, visit, visit_leaves, flags_after, behind, run_over, ran}
 use Rattle.morx.specs.Calls.{request_limit, request_test, run_tests, run_call}
 use Rattle.morx.specs.Defaults.{defaults_after, over_by_defaults, default_tests, call_by_defaults}
 use Rattle.morx.specs.declared.Choices.{Choices}

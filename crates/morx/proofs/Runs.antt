@@ -1,7 +1,7 @@
 -- The run's loop: what is left of the walk gives what the whole does.
 use Prim.Native.Nat.{ℕ, zero, suc, ◌+◌, ◌<◌, ◌≤◌}
-use mathlib.Core.Path.{◌≡◌, refl, sym, ◌∙◌, ap, subst, subst⁻¹}
-use mathlib.Core.Bool.{Bool, true, false}
+use mathlib.Core.Path.{◌≡◌, refl, sym, ◌∙◌, ap, subst⁻¹}
+use mathlib.Core.Bool.{true, false}
 use mathlib.Core.List.{List, [], ◌∷◌, ◌++◌, append_assoc, append-nil}
 use native.Mathlib.Nat.{zero-add}
 use native.Mathlib.Omega.{arith}
@@ -13,7 +13,7 @@ use Rattle.line.specs.Line.{Line, line_of, Valid}
 use Rattle.line.specs.Test.{is_valid}
 use Rattle.line.specs.Changes.{Change, apply_all}
 use Rattle.line.proofs.Histories.{apply_all-append}
-use Rattle.machine.specs.Pass.{Passed, is_done}
+use Rattle.machine.specs.Pass.{is_done}
 use Rattle.chains.specs.Features.{flags_behind}
 use Rattle.chains.specs.Walk.{walk_from, next_head, heads_of, walk_of}
 use Rattle.chains.specs.declared.Edition.{Edition}
@@ -21,7 +21,6 @@ use Rattle.chains.specs.declared.Chain.{Chain}
 use Rattle.chains.specs.declared.Head.{Head}
 use Rattle.chains.specs.declared.Head.TheVariants as Head'
 use Rattle.chains.specs.declared.Walk.{Walk}
-use Rattle.chains.specs.declared.NextHead.{NextHead}
 use Rattle.chains.specs.declared.NextHead.TheVariants as Next'
 use Rattle.morx.specs.Run.{choosing, visit, visit_leaves, flags_after, Ran, behind, run_over, ran}
 use Rattle.morx.specs.Work.{run_reply_of}

@@ -1,7 +1,7 @@
 -- A pass by an index is the plain pass wherever each entry is that glyph's class; a filled index is such a one; and so filling and passing is passing.
 use Prim.Native.Nat.{ℕ, ◌+◌, ◌<◌, ◌≤◌}
 use mathlib.Core.Path.{◌≡◌, refl, sym, ◌∙◌, ap, ap₂, subst⁻¹}
-use mathlib.Core.Bool.{Bool, true, false, not, cond}
+use mathlib.Core.Bool.{Bool, true, false, cond}
 use mathlib.Core.List.{List, [], ◌∷◌, ◌++◌}
 use native.Mathlib.Omega.{arith}
 use lib.ListN.{length, get_or, drop}
@@ -9,12 +9,11 @@ use lib.Seq.{drop-drop}
 use borrow.Author.Tests.{le-ltb, eq-eqb}
 use Rattle.laws.proofs.Lists.{length-tab}
 use Rattle.answers.specs.Refuse.{Test, refuse, table_test}
-use Rattle.answers.specs.declared.Answer.{Answer}
 use Rattle.answers.specs.declared.Answer.TheVariants as Answer'
 use Rattle.answers.specs.declared.Refusal.TheVariants as Refusal'
 use Rattle.answers.specs.declared.Check.{Check}
 use Rattle.answers.specs.declared.Check.TheVariants.{Passed, Refused}
-use Rattle.answers.proofs.Refusals.{refuse-none, refuse-here, refuse-later}
+use Rattle.answers.proofs.Refusals.{refuse-here, refuse-later}
 use Rattle.parse.specs.Reads.{read_u32}
 use Rattle.parse.specs.Use.{on_u32}
 use Rattle.parse.specs.declared.ReadU32.{ReadU32}
@@ -33,7 +32,7 @@ use Rattle.machine.specs.Pass as Pass
 use Rattle.machine.specs.Call as Call'
 use Rattle.machine.specs.Call.{head_test, pass_tests, if_passed, on_made}
 use Rattle.machine.specs.Machine.{Machine, refused_pass, passed, subtable_of, pass_call}
-use Rattle.indexes.specs.Index.{classes_by, indexed, index_limit, index_test, is_another, classes_below, Filled, filled_by, fill_tests, fill_call, unless_refused}
+use Rattle.indexes.specs.Index.{indexed, index_limit, index_test, is_another, classes_below, Filled, filled_by, fill_tests, fill_call}
 use Rattle.indexes.proofs.Laws.{right_index}
 use Rattle.indexes.proofs.Filling.{passed_entries}
 use Rattle.indexes.proofs.Same.{same-pass, filled_right}

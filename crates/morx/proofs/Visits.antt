@@ -1,10 +1,9 @@
 -- A pass on the turned line, and the visit of a head.
-use Prim.Native.Nat.{ℕ, ◌≤◌}
+use Prim.Native.Nat.{ℕ}
 use mathlib.Core.Path.{◌≡◌, refl, sym, ◌∙◌, ap, subst⁻¹}
 use mathlib.Core.Bool.{Bool, true, false}
-use mathlib.Core.List.{List, [], ◌∷◌, ◌++◌}
-use native.Mathlib.Omega.{arith}
-use lib.ListN.{length, drop}
+use mathlib.Core.List.{List, [], ◌∷◌}
+use lib.ListN.{drop}
 use Rattle.answers.specs.declared.Answer.{Answer}
 use Rattle.answers.specs.declared.Answer.TheVariants as Answer'
 use Rattle.laws.specs.Backward.{backward}
@@ -21,12 +20,11 @@ use Rattle.chains.specs.declared.Subtable.{Subtable}
 use Rattle.chains.specs.declared.Head.{Head}
 use Rattle.chains.specs.declared.Head.TheVariants as Head'
 use Rattle.morx.specs.Kinds.{kind_of, subtable_of_kind}
-use Rattle.morx.specs.Run.{is_passed_over, idle, turned_work, settled_answer, settled, visit_subtable, visit, visit_leaves}
-use Rattle.morx.specs.Work.{subtable_leaves, turned_leaves}
+use Rattle.morx.specs.Run.{is_passed_over, idle, turned_work, settled_answer, settled, visit_subtable, visit}
 use Rattle.morx.specs.declared.Kind.{Kind}
 use Rattle.morx.specs.declared.Choices.{Choices}
 use Rattle.morx.specs.declared.PassReply.{PassReply}
-use Rattle.morx.proofs.Leaves.{Leaves, Post, to_post, of_post, valid-after, fits_then, valid-line, line-valid, turning_fits, valid-turned}
+use Rattle.morx.proofs.Leaves.{Leaves, valid-after, fits_then, valid-line, line-valid, turning_fits, valid-turned}
 use Rattle.morx.proofs.Machines.{worked-fits}
 
 -- the line that was turned

@@ -4,7 +4,7 @@ use Rattle.answers.specs.Limits.{head_limit}
 use Rattle.answers.specs.declared.Answer.TheVariants as Answer'
 use Rattle.line.specs.Line.{Line}
 use Rattle.chains.specs.Walk.{walk_of}
-use Rattle.morx.specs.Run.{Ran, run_over, ran}
+use Rattle.morx.specs.Run.{Ran, run_over}
 use Rattle.morx.specs.declared.Choices.{Choices}
 
 module _ (table : List ℕ) (start : ℕ) (choices : Choices) (l : Line) (requests : List ℕ) where

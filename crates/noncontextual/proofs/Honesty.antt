@@ -2,7 +2,7 @@
 use Prim.Native.Nat.{ℕ, zero, suc}
 use mathlib.Core.Path.{refl}
 use mathlib.Core.Bool.{Bool, true, false, cond}
-use mathlib.Core.List.{List, []}
+use mathlib.Core.List.{List}
 use lib.ListN.{get_or}
 use Rattle.answers.specs.declared.Refusal.TheVariants as Refusal'
 use Rattle.tables.specs.Lookup.{lookup_at}

@@ -29,7 +29,7 @@ use Rattle.tables.proofs.Finding.{search_finds_pair}
 use Rattle.tables.proofs.ManualLookup.{lookup_as_manual}
 use Rattle.pairs.specs.Pairs.{key_of, number_at, number_in, ordered_number, number_in_row, class_number, pair_number}
 use Rattle.pairs.specs.Reply.{number_reply, reply_of}
-use Rattle.pairs.specs.Manual.{pair_key, IsPair, pair_value, Rising, OrderedValue, ClassPair, ClassValue, Legible, Covered, AsManual}
+use Rattle.pairs.specs.Manual.{pair_key, IsPair, pair_value, Rising, OrderedValue, ClassValue, Legible, Covered, AsManual}
 use Rattle.pairs.specs.declared.PairTable.TheVariants.{Ordered, Classes}
 use Rattle.pairs.specs.declared.Opened.TheVariants.{Ready}
 use Rattle.pairs.specs.declared.PairReply.TheVariants as Reply'

@@ -1,6 +1,6 @@
 -- Where the two readings of kerx agree.
 use Prim.Native.Nat.{ℕ}
-use mathlib.Core.Path.{◌≡◌, refl, sym, ◌∙◌, ap, ap₂, subst}
+use mathlib.Core.Path.{◌≡◌, refl, sym, ap, ap₂, subst}
 use mathlib.Core.Bool.{Bool, true, false, cond}
 use mathlib.Core.List.{List}
 use lib.Dec.{eqb}
@@ -9,26 +9,22 @@ use borrow.Author.Tests.{ne_eqb}
 use Rattle.laws.specs.Lists.{both}
 use Rattle.answers.specs.declared.Answer.TheVariants as Answer'
 use Rattle.answers.specs.declared.Refusal.TheVariants as Refusal'
-use Rattle.parse.specs.Reads.{u32_at, read_u16, read_u32}
-use Rattle.parse.specs.Use.{on_u32}
+use Rattle.parse.specs.Reads.{read_u16, read_u32}
 use Rattle.parse.specs.declared.ReadU16.TheVariants.{Got}
 use Rattle.parse.specs.declared.ReadU32.{ReadU32}
 use Rattle.parse.specs.declared.ReadU32.TheVariants as U32
 use Rattle.parse.proofs.Laws.{u32_value}
-use Rattle.tables.specs.Units.{units_by}
 use Rattle.tables.specs.declared.units.Reading.TheVariants.{Crate, Manual}
 use Rattle.tables.specs.declared.units.Units.{Units}
-use Rattle.tables.specs.declared.units.Units.TheVariants as Units'
 use Rattle.tables.proofs.Sizes.{other-units}
-use Rattle.kerning.specs.Additions.{Kerned, nothing_added}
+use Rattle.kerning.specs.Additions.{nothing_added}
 use Rattle.kerning.specs.declared.choices.PairRule.{PairRule}
-use Rattle.pairs.specs.Pairs.{ordered_kerx, classes_kerx, barred, pair_number}
+use Rattle.pairs.specs.Pairs.{ordered_kerx, classes_kerx, barred}
 use Rattle.pairs.specs.Pass.{counts, pairs_below, worked_by}
 use Rattle.pairs.specs.Work.{are_words, in_words}
 use Rattle.pairs.specs.declared.PairTable.TheVariants.{Classes}
 use Rattle.pairs.specs.declared.Number.{Number}
-use Rattle.pairs.specs.declared.Opened.{Opened}
-use Rattle.pairs.specs.declared.Opened.TheVariants.{Ready, Short}
+use Rattle.pairs.specs.declared.Opened.TheVariants.{Ready}
 use Rattle.pairs.proofs.Passes.{words-number}
 use Rattle.kerx_machine.specs.Machine.{has_tuples, is_tupled}
 use Rattle.kerx.specs.Kerx.{worked}

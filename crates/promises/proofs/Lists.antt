@@ -1,11 +1,11 @@
 -- The three instances of the one statement about walks.
-use Prim.Native.Nat.{ℕ, ◌+◌, ◌*◌, ◌%◌, ◌<◌, ◌^◌}
-use mathlib.Core.Path.{◌≡◌, sym, ap, subst}
+use Prim.Native.Nat.{ℕ, ◌+◌, ◌*◌, ◌%◌, ◌^◌}
+use mathlib.Core.Path.{◌≡◌, sym, subst}
 use mathlib.Core.Bool.{Bool}
 use mathlib.Core.List.{List}
 use native.Mathlib.Omega.{arith}
 use borrow.Author.Tests.{lt-ltb, eq-eqb, ne_eqb}
-use Rattle.kerning.specs.Lists.{Walk, ruled}
+use Rattle.kerning.specs.Lists.{ruled}
 use Rattle.kerning.specs.Walks.{Walks}
 use Rattle.kerning.specs.declared.lists.Rule.TheVariants.{Odd, Never, Marked}
 use Rattle.kerning.proofs.Walks.{walks}

@@ -28,7 +28,6 @@ use Rattle.tables.specs.declared.records.Spot.TheVariants as Spot
 use Rattle.tables.specs.declared.lookup.Why.{Why}
 use Rattle.tables.specs.declared.lookup.Why.TheVariants.{NotCovered, CutShort}
 use Rattle.tables.specs.declared.lookup.Found.{Found}
-use Rattle.tables.specs.declared.lookup.Found.TheVariants as Found
 use Rattle.tables.specs.declared.survey.Surveyed.{Surveyed}
 use Rattle.tables.specs.declared.survey.Surveyed.TheVariants.{Sorted, Bad}
 use Rattle.mend.specs.Table.{exponent_of}
@@ -88,9 +87,7 @@ use Rattle.pairs.specs.Joined.{JoinedPair, AddedBy}
 use Rattle.pairs.specs.declared.PairTable.{PairTable}
 use Rattle.pairs.specs.declared.PairTable.TheVariants.{Ordered, Classes}
 use Rattle.pairs.specs.declared.Opened.{Opened}
-use Rattle.pairs.specs.declared.Opened.TheVariants as Opened
 use Rattle.pairs.specs.declared.Number.{Number}
-use Rattle.pairs.specs.declared.Number.TheVariants as Number
 use Rattle.pairs.specs.Manual.{Rising, OrderedValue, ClassValue, Legible, Covered}
 use Rattle.pairs.specs.Manual as Pair
 use Rattle.line.specs.Line.{Line}

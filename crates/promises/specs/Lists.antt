@@ -1,8 +1,8 @@
 -- The lists of numbers of kern and kerx: three instances of the one statement about walks, each by where number k lies and what its end rule makes of a number.
-use Rattle.std.specs.Prelude.{ℕ, ◌+◌, ◌*◌, ◌%◌, ◌<◌, ◌^◌, ◌≡◌, Bool, true, false, List, [], drop}
+use Rattle.std.specs.Prelude.{ℕ, ◌+◌, ◌*◌, ◌%◌, ◌<◌, ◌^◌, ◌≡◌, Bool, false, List, [], drop}
 use Rattle.parse.specs.Reads.{u32_at, read_u16}
 use Rattle.parse.specs.declared.ReadU16.TheVariants.{Got}
-use Rattle.kerning.specs.Lists.{Walk, leaves, ruled}
+use Rattle.kerning.specs.Lists.{leaves, ruled}
 use Rattle.kerning.specs.Walks.{Walks}
 use Rattle.kerning.specs.declared.lists.Rule.TheVariants.{Odd, Never, Marked}
 use Rattle.kerning_machine.specs.Machine.{tuple_size, kern_start, kerx_start, manual_start, walked_from}

@@ -1,6 +1,6 @@
 -- The machine's steps add their windows to the history, and these insert nothing.
 use Prim.Native.Nat.{ℕ}
-use mathlib.Core.Path.{◌≡◌, refl}
+use mathlib.Core.Path.{refl}
 use mathlib.Core.Bool.{Bool}
 use mathlib.Core.List.{List}
 use Rattle.state_tables.specs.declared.States.{States}

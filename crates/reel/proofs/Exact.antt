@@ -7,7 +7,6 @@ use native.Mathlib.Omega.{arith}
 use lib.Dec.{leb, eqb}
 use lib.ListN.{length}
 use borrow.Author.Tests.{le-leb, leb-true, eq-eqb, eqb-true}
-use Rattle.laws.specs.Lists.{both}
 use Rattle.laws.proofs.Lists.{both_left, both_right}
 use Rattle.line.specs.Test.{Decides}
 use Rattle.reel.specs.Parts.{total, adds_up}

@@ -15,7 +15,7 @@ use Rattle.morx.specs.declared.RunReply.{RunReply}
 use Rattle.reel.specs.Parts.{place_of, part_of, with_part}
 use Rattle.reel.specs.Reel.{Reel, reel_of, Lent, line_limit, lines_of, parts_of, heads_behind, ran_part, reel_leaves}
 use Rattle.reel.specs.Runs.{with_line, run_line, run_lines}
-use Rattle.reel.specs.Morx.{run_by, table_leaves}
+use Rattle.reel.specs.Morx.{run_by}
 use Rattle.reel.specs.Work.{Inside, span_line, over, Keeps}
 use Rattle.reel.specs.declared.Span.{Span}
 use Rattle.reel.proofs.Parts.{place-first, place-next}

@@ -17,7 +17,7 @@ use Rattle.line.proofs.Histories.{by_changes}
 use Rattle.line.proofs.Refusals.{passed-line}
 use Rattle.machine.specs.Call.{if_passed}
 use Rattle.chains.specs.Entries.{start_test}
-use Rattle.morx.specs.Run.{Ran, ran}
+use Rattle.morx.specs.Run.{ran}
 use Rattle.morx.specs.Calls.{request_test, run_tests, run_call}
 use Rattle.morx.specs.declared.Choices.{Choices}
 use Rattle.morx.proofs.Honesty.{run_fits}

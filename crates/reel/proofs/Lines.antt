@@ -1,18 +1,16 @@
 -- A reel by its lines: one put in is there, the others stay as they were, and all of them joined are the reel.
 use Prim.Native.Nat.{ℕ, ◌+◌, ◌<◌, ◌≤◌}
-use mathlib.Core.Path.{◌≡◌, refl, ◌∙◌, sym, ap}
+use mathlib.Core.Path.{◌≡◌, ◌∙◌, sym, ap}
 use mathlib.Core.List.{List}
 use native.Mathlib.Omega.{arith}
-use lib.ListN.{length, get_or, set, length-set}
+use lib.ListN.{length, get_or, length-set}
 use lib.Seq.{get_or-set_same, get_or-set_other}
-use Rattle.laws.specs.Lists.{tab}
 use Rattle.line.specs.Line.{Line, line_of}
-use Rattle.line.specs.Changes.{apply_all}
 use Rattle.morx.specs.Run.{Ran}
-use Rattle.reel.specs.Parts.{place_of, total, part_of, with_part, laid}
+use Rattle.reel.specs.Parts.{place_of, part_of, laid}
 use Rattle.reel.specs.Reel.{Reel, reel_of, Lent, lines_of, Part, parts_of, joined, ran_part}
 use Rattle.reel.specs.Runs.{Fills, with_line}
-use Rattle.reel.specs.Work.{SameRoom, Keeps}
+use Rattle.reel.specs.Work.{Keeps}
 use Rattle.reel.proofs.Parts.{part_inside, length_part, length_with, part_same, part_other, laid-whole, laid_alike, tab-whole, tab_alike}
 
 -- a line and its numbers, by their parts

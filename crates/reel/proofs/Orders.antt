@@ -1,7 +1,7 @@
 -- A reel is its lines' runs by themselves, in any order.
 use Prim.Native.Nat.{ℕ, zero, suc, ◌<◌, ◌≤◌}
 use mathlib.Core.Path.{◌≡◌, refl, ◌∙◌, sym, ap, subst}
-use mathlib.Core.Bool.{Bool, true, false, cond}
+use mathlib.Core.Bool.{Bool, cond}
 use mathlib.Core.List.{List}
 use mathlib.Core.Logic.{⊎_elim}
 use native.Mathlib.Omega.{arith}
@@ -11,7 +11,7 @@ use borrow.Author.Tests.{lt-ltb, le-ltb}
 use Rattle.laws.proofs.Numbers.{eq-or-ne, lt-or-ge}
 use Rattle.line.specs.Line.{Line, OnceEach}
 use Rattle.morx.specs.Run.{Ran}
-use Rattle.reel.specs.Reel.{Reel, Lent, is_lent, lines_of, Part, parts_of, joined, ran_part, reel_leaves}
+use Rattle.reel.specs.Reel.{Reel, Lent, lines_of, Part, parts_of, joined, ran_part, reel_leaves}
 use Rattle.reel.specs.Runs.{Fills, with_line, run_line, run_lines}
 use Rattle.reel.specs.Work.{Keeps}
 use Rattle.reel.proofs.Exact.{of_lent}

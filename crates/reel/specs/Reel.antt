@@ -1,5 +1,5 @@
 -- A reel: what is lent for it, taken apart into lines; the REEL test; what a call leaves.
-use Rattle.std.specs.Prelude.{ℕ, ◌≤◌, ◌≡◌, Bool, cond, List, [], ◌∷◌, leb, eqb, length, get_or}
+use Rattle.std.specs.Prelude.{ℕ, ◌≤◌, ◌≡◌, Bool, cond, List, leb, eqb, length, get_or}
 use Rattle.laws.specs.Lists.{tab, both}
 use Rattle.answers.specs.Numbers.{number_of}
 use Rattle.answers.specs.declared.Answer.{Answer}

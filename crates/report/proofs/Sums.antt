@@ -1,5 +1,5 @@
 -- Sums and the largest and smallest of numbers: what fits 64 bits, and the loops over them.
-use Prim.Native.Nat.{ℕ, zero, suc, ◌+◌, ◌*◌, ◌-◌, ◌<◌, ◌≤◌, ◌^◌}
+use Prim.Native.Nat.{ℕ, zero, suc, ◌+◌, ◌*◌, ◌<◌, ◌≤◌, ◌^◌}
 use mathlib.Core.Path.{◌≡◌, refl, ◌∙◌, sym, ap, ap₂, subst}
 use mathlib.Core.Bool.{Bool, true, false, not, cond}
 use mathlib.Core.List.{List}
@@ -14,7 +14,6 @@ use mir.Syntax.{w64}
 use mir.Val.{SFits, to_z, of_z}
 use mir.Facts.{to_z-of_z}
 use borrow.Author.Tests.{leb-true, eq-eqb, ne_eqb, not-true, not-false}
-use Rattle.laws.specs.Lists.{every}
 use Rattle.laws.proofs.Lists.{every-at}
 use Rattle.kerning.specs.Line.{bound, is_modest}
 use Rattle.kerning.proofs.Signs.{size-sum, fits_64}

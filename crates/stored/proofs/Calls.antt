@@ -11,7 +11,6 @@ use Rattle.answers.proofs.Refusals.{refuse-here, refuse-later, refuse-none, pass
 use Rattle.answers.specs.Limits.{room_limit}
 use Rattle.answers.specs.Refuse.{refuse, table_test}
 use Rattle.answers.specs.declared.Refusal.{Refusal}
-use Rattle.answers.specs.declared.Refusal.TheVariants as Refusal
 use Rattle.answers.specs.declared.Check.{Check}
 use Rattle.answers.specs.declared.Check.TheVariants.{Passed, Refused}
 use Rattle.laws.proofs.Lists.{both_left}

@@ -1,6 +1,4 @@
 use Rattle.anchor_machine.proofs.Calls.{barred_not, barred_ready, barred-short, barred_tupled}
-use borrow.Author.Tests.{not-true, not-false}
-use borrow.Author.Rules.{rules}
 use Rattle.anchor_machine.proofs.barred.Goals as goal
 
 pub returns-then-not-tupled : goal.returns-then-not-tupled

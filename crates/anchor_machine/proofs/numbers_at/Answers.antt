@@ -2,7 +2,6 @@ use native.Mathlib.Omega.{arith}
 use mathlib.Core.Path.{sym, ◌∙◌}
 use Rattle.parse.proofs.Laws.{u16_inside}
 use Rattle.anchor_machine.specs.Machine.{numbers_at}
-use borrow.Author.Rules.{rules}
 use Rattle.anchor_machine.proofs.numbers_at.Goals as goal
 
 pub returns-in_default : goal.returns-in_default

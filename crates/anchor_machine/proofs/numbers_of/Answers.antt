@@ -1,6 +1,5 @@
 use borrow.Author.Tests.{eq-eqb, ne_eqb}
 use Rattle.anchor_machine.specs.Machine.{numbers_of}
-use borrow.Author.Rules.{rules}
 use Rattle.anchor_machine.proofs.numbers_of.Goals as goal
 
 pub returns-then-index-eq-NO_ACTION : goal.returns-then-index-eq-NO_ACTION

@@ -1,7 +1,6 @@
 use borrow.Author.Tests.{le-ltb}
 use Rattle.anchor_machine.specs.Machine.{offset}
 use Rattle.anchor_machine.proofs.Acting.{offset_is}
-use borrow.Author.Rules.{rules}
 use Rattle.anchor_machine.proofs.offset.Goals as goal
 
 pub returns-in_default : goal.returns-in_default

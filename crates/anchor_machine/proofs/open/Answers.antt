@@ -1,6 +1,5 @@
 use mathlib.Core.Path.{sym, ◌∙◌}
 use Rattle.anchor_machine.specs.Machine.{opened}
-use borrow.Author.Rules.{rules}
 use Rattle.anchor_machine.proofs.open.Goals as goal
 
 pub returns-in_default : goal.returns-in_default

@@ -1,6 +1,5 @@
 use Rattle.anchor_machine.proofs.Writing.{put_none, put_past, put_here}
 use Rattle.anchor_machine.proofs.Acting.{written-fits}
-use borrow.Author.Rules.{rules}
 use Rattle.anchor_machine.proofs.put.Goals as goal
 
 pub returns-in_default : goal.returns-in_default

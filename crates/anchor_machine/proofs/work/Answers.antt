@@ -1,6 +1,5 @@
 use mathlib.Core.Path.{refl}
 use Rattle.anchor_machine.proofs.Calls.{plain_works}
-use borrow.Author.Rules.{rules}
 use Rattle.anchor_machine.proofs.work.Goals as goal
 
 pub returns : goal.returns

@@ -1,6 +1,5 @@
 use native.Mathlib.Omega.{arith}
 use Rattle.anchors.proofs.Lying.{point_short, point_read}
-use borrow.Author.Rules.{rules}
 use Rattle.anchors.proofs.point_at.Goals as goal
 
 pub returns-then-ankr-lt-STRIDE : goal.returns-then-ankr-lt-STRIDE

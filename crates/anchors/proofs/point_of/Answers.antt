@@ -2,7 +2,6 @@ use mathlib.Core.Path.{sym, ◌∙◌}
 use Rattle.anchors.specs.Anchors.{point_of}
 use native.Mathlib.Omega.{arith}
 use Rattle.anchors.proofs.Lying.{points-lie}
-use borrow.Author.Rules.{rules}
 use Rattle.anchors.proofs.point_of.Goals as goal
 
 pub returns-in_default : goal.returns-in_default

@@ -1,6 +1,5 @@
 use mathlib.Core.Path.{sym, ◌∙◌}
 use Rattle.anchors.specs.Anchors.{points_of}
-use borrow.Author.Rules.{rules}
 use Rattle.anchors.proofs.points_of.Goals as goal
 
 pub returns-in_default : goal.returns-in_default

@@ -1,4 +1,3 @@
-use borrow.Author.Rules.{rules}
 use Rattle.contextual.proofs.Classes.{class-end, class-found, class_in_array, memory_kept}
 use Rattle.contextual.proofs.class_now.Goals as goal
 

@@ -1,6 +1,5 @@
 use mathlib.Core.Path.{sym, ◌∙◌}
 use Rattle.contextual.specs.Calls.{opened}
-use borrow.Author.Rules.{rules}
 use Rattle.contextual.proofs.open.Goals as goal
 
 pub returns-in_default : goal.returns-in_default

@@ -6,7 +6,6 @@ use Rattle.machine.specs.Machine.{subtable_of, call_leaves}
 use Rattle.machine.specs.Work.{work_leaves}
 use Rattle.machine.proofs.Calls.{call_refused, call_works, taken-line, same_answer, same_left}
 use Rattle.contextual.specs.Calls.{contextual}
-use borrow.Author.Rules.{rules}
 use Rattle.contextual.proofs.pass.Goals as goal
 
 pub returns-in-Refused : goal.returns-in-Refused

@@ -1,4 +1,3 @@
-use borrow.Author.Rules.{rules}
 use Rattle.contextual.proofs.Passes.{pass-ends}
 use Rattle.contextual.proofs.pass_line.Goals as goal
 

@@ -1,5 +1,4 @@
 use Rattle.contextual.specs.Work.{written_all}
-use borrow.Author.Rules.{rules}
 use Rattle.contextual.proofs.replace.Goals as goal
 
 pub returns-in_default : goal.returns-in_default

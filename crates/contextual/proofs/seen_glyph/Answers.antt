@@ -1,5 +1,3 @@
-use borrow.Author.Tests.{not-true, not-false}
-use borrow.Author.Rules.{rules}
 use Rattle.contextual.proofs.seen_glyph.Goals as goal
 
 pub returns-then-not-here : goal.returns-then-not-here

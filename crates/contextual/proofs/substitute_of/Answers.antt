@@ -1,7 +1,6 @@
 use mathlib.Core.Path.{sym, ◌∙◌}
 use borrow.Author.Tests.{eq-eqb, ne_eqb}
 use Rattle.contextual.specs.Substitutes.{substitute_of}
-use borrow.Author.Rules.{rules}
 use Rattle.contextual.proofs.substitute_of.Goals as goal
 
 pub returns-then-number-eq-NO_ACTION : goal.returns-then-number-eq-NO_ACTION

@@ -1,5 +1,4 @@
 use mathlib.Core.Path.{sym}
-use borrow.Author.Rules.{rules}
 use Rattle.firmware.proofs.aat_class_classic.Goals as goal
 
 pub returns : goal.returns

@@ -1,5 +1,4 @@
-use mathlib.Core.Path.{refl, sym, ◌∙◌}
-use borrow.Author.Rules.{rules}
+use mathlib.Core.Path.{sym, ◌∙◌}
 use Rattle.firmware.proofs.aat_survey.Goals as goal
 
 pub returns-in-NoRecords : goal.returns-in-NoRecords

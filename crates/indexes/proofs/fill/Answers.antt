@@ -1,9 +1,5 @@
-use Prim.Native.Nat.{◌-◌}
 use native.Mathlib.Omega.{arith}
-use lib.ListN.{length}
-use borrow.Author.Rules.{rules}
-use Rattle.state_tables.specs.Opened.{class_by}
-use Rattle.indexes.proofs.Filling.{Filling, filling_start, filling_next, fill_lies, fill_done}
+use Rattle.indexes.proofs.Filling.{filling_start, filling_next, fill_lies, fill_done}
 use Rattle.indexes.proofs.fill.Goals as goal
 
 pub loop-glyph-init : goal.loop-glyph-init

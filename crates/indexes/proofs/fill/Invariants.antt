@@ -1,9 +1,7 @@
 use Prim.Native.Nat.{◌-◌}
-use native.Mathlib.Omega.{arith}
 use lib.ListN.{length}
-use borrow.Author.Rules.{rules}
 use Rattle.state_tables.specs.Opened.{class_by}
-use Rattle.indexes.proofs.Filling.{Filling, filling_start, filling_next, fill_lies, fill_done}
+use Rattle.indexes.proofs.Filling.{Filling}
 use Rattle.indexes.proofs.fill.Given as goal
 
 abbrev pub invariant-loop-glyph : goal.invariant-loop-glyph

@@ -1,6 +1,5 @@
 use native.Mathlib.Omega.{arith}
 use Rattle.indexes.proofs.Filling.{passed_start, passed_entries, is_refused_lem, is_short_lem, is_unread, is_done_lem}
-use borrow.Author.Rules.{rules}
 use Rattle.indexes.proofs.fill_index.Goals as goal
 
 pub returns-in-Refused : goal.returns-in-Refused

@@ -1,5 +1,4 @@
 use Rattle.indexes.proofs.Laws.{another-none, another_unread, another-below, another-told}
-use borrow.Author.Rules.{rules}
 use Rattle.indexes.proofs.is_another.Goals as goal
 
 pub returns-then-not-has_classes : goal.returns-then-not-has_classes

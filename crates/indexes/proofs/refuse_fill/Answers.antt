@@ -1,6 +1,5 @@
 use Rattle.indexes.specs.Index.{index_limit}
 use Rattle.indexes.proofs.Filling.{fill_table, fill_past, fill_short, fill_many, fill_all}
-use borrow.Author.Rules.{rules}
 use Rattle.indexes.proofs.refuse_fill.Goals as goal
 
 pub returns-in-Refused : goal.returns-in-Refused

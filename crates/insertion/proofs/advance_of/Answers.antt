@@ -1,5 +1,4 @@
 use borrow.Author.Tests.{eq-eqb, ne_eqb}
-use borrow.Author.Rules.{rules}
 use Rattle.insertion.proofs.advance_of.Goals as goal
 
 pub returns-then-one-eq0 : goal.returns-then-one-eq0

@@ -14,8 +14,11 @@ returns-then-place-used c = record { class = rw (eq-eqb _ _ c.if-place-used.true
 pub returns-in_default : goal.returns-in_default
 unfolding class_here
 returns-in_default c =
-    record { class = rw (ne_eqb _ _ c.if-place-used.false, class_here) c.remembered.ensures.class; memo = subst⁻¹ (Remembers (class_by _ _)) c.remembered.ensures.memo
-          (still_remembers c.requires.1 _ (omega (arith, c.remembered.type_inv, c.remembered.ensures.class))) }
+    record {
+      class = rw (ne_eqb _ _ c.if-place-used.false, class_here) c.remembered.ensures.class;
+      memo = subst⁻¹ (Remembers (class_by _ _)) c.remembered.ensures.memo
+          (still_remembers c.requires.1 _ (omega (arith, c.remembered.type_inv, c.remembered.ensures.class)));
+    }
 
 pub class_in_words-requires : goal.class_in_words-requires
 class_in_words-requires c =

@@ -1,7 +1,6 @@
 use Rattle.line.specs.Line.{line_of}
 use native.Mathlib.Omega.{arith}
 use Rattle.insertion.proofs.Edits.{used_grows, put_both}
-use borrow.Author.Rules.{rules}
 use Rattle.insertion.proofs.edit.Goals as goal
 
 pub put-requires : goal.put-requires

@@ -2,7 +2,6 @@ use native.Mathlib.Omega.{arith}
 use borrow.Author.Tests.{lt-ltb, le-ltb}
 use Rattle.line.proofs.Room.{room_small}
 use Rattle.insertion.specs.Lists.{entered_by}
-use borrow.Author.Rules.{rules}
 use Rattle.insertion.proofs.enter.Goals as goal
 
 pub overflow_add-used : goal.overflow_add-used

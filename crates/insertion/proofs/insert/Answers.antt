@@ -1,6 +1,5 @@
 use Rattle.insertion.specs.Lone.{insert_leaves}
 use Rattle.insertion.proofs.Lone.{insert_refused, insert-valid, insert-fits, insert-over, insert-made}
-use borrow.Author.Rules.{rules}
 use Rattle.insertion.proofs.insert.Goals as goal
 
 pub returns-in-Refused : goal.returns-in-Refused

@@ -1,5 +1,4 @@
 use mathlib.Core.Path.{sym}
-use borrow.Author.Rules.{rules}
 use Rattle.insertion.proofs.insertion_of.Goals as goal
 
 pub returns : goal.returns

@@ -1,5 +1,4 @@
 use mathlib.Core.Path.{sym, ◌∙◌}
-use borrow.Author.Rules.{rules}
 use borrow.Author.Tests.{eq-eqb, ne_eqb}
 use Rattle.insertion.specs.Work.{is_quiet}
 use Rattle.insertion.proofs.is_quiet.Goals as goal

@@ -1,6 +1,5 @@
 use Prim.Native.Nat.{◌*◌}
 use Rattle.insertion.proofs.Lists.{part_until}
-use borrow.Author.Rules.{rules}
 use Rattle.insertion.proofs.list_at.Goals as goal
 
 pub returns : goal.returns

@@ -1,5 +1,4 @@
 use Rattle.parse.proofs.Laws.{part_short, part_inside}
-use borrow.Author.Rules.{rules}
 use Rattle.insertion.proofs.list_from.Goals as goal
 
 pub returns-in_default : goal.returns-in_default

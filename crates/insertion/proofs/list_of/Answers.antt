@@ -1,7 +1,6 @@
 use mathlib.Core.Path.{sym, ◌∙◌}
 use borrow.Author.Tests.{eq-eqb, ne_eqb}
 use Rattle.insertion.specs.Lists.{glyph_list}
-use borrow.Author.Rules.{rules}
 use Rattle.insertion.proofs.list_of.Goals as goal
 
 pub returns-then-number-eq-NO_ACTION : goal.returns-then-number-eq-NO_ACTION

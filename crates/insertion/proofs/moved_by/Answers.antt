@@ -1,7 +1,6 @@
 use mathlib.Core.Path.{ap}
 use native.Mathlib.Omega.{arith}
 use Rattle.insertion.specs.Work.{end_of}
-use borrow.Author.Rules.{rules}
 use Rattle.insertion.proofs.moved_by.Goals as goal
 
 pub overflow_add-result : goal.overflow_add-result

@@ -1,6 +1,5 @@
 use mathlib.Core.Path.{sym, ◌∙◌}
 use Rattle.insertion.specs.Calls.{opened}
-use borrow.Author.Rules.{rules}
 use Rattle.insertion.proofs.open.Goals as goal
 
 pub returns-in_default : goal.returns-in_default

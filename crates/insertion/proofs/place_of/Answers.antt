@@ -1,5 +1,4 @@
 use Rattle.insertion.proofs.Lists.{place-past, place-before, place-behind}
-use borrow.Author.Rules.{rules}
 use Rattle.insertion.proofs.place_of.Goals as goal
 
 pub returns-then-used-at : goal.returns-then-used-at

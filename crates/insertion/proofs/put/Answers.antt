@@ -1,9 +1,8 @@
-use mathlib.Core.Path.{refl, ap}
+use mathlib.Core.Path.{ap}
 use native.Mathlib.Omega.{arith}
 use Rattle.line.specs.Changes.{apply_all}
 use Rattle.insertion.specs.Lists.{count_of}
 use Rattle.insertion.specs.Work.{end_of}
-use borrow.Author.Rules.{rules}
 use Rattle.insertion.proofs.put.Goals as goal
 
 pub returns-in_default : goal.returns-in_default

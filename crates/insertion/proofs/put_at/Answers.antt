@@ -1,6 +1,5 @@
 use native.Mathlib.Omega.{arith}
 use Rattle.insertion.proofs.Edits.{part_half, put_part}
-use borrow.Author.Rules.{rules}
 use Rattle.insertion.proofs.put_at.Goals as goal
 
 pub insert-requires : goal.insert-requires

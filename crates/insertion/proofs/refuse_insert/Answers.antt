@@ -1,5 +1,4 @@
 use Rattle.insertion.proofs.Lone.{insert-table, insert-line, insert-place, insert-taken}
-use borrow.Author.Rules.{rules}
 use Rattle.insertion.proofs.refuse_insert.Goals as goal
 
 pub returns-in-Refused : goal.returns-in-Refused

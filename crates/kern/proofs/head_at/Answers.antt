@@ -1,5 +1,4 @@
 use Rattle.kern.proofs.Heads.{head-none, head-there}
-use borrow.Author.Rules.{rules}
 use Rattle.kern.proofs.head_at.Goals as goal
 
 pub returns-then-bytes-at : goal.returns-then-bytes-at

@@ -1,7 +1,6 @@
 use Rattle.kern.specs.Heads.{head_in}
 use mathlib.Core.Path.{sym, ◌∙◌}
 use borrow.Author.Tests.{eq-eqb, ne_eqb}
-use borrow.Author.Rules.{rules}
 use Rattle.kern.proofs.head_in.Goals as goal
 
 pub returns-in_default : goal.returns-in_default

@@ -2,7 +2,6 @@ use native.Mathlib.Omega.{arith}
 use Rattle.kern.specs.Kern.{kern}
 use Rattle.kerning_lists.proofs.Families.{list_from_lem}
 use Rattle.kern.proofs.Cursors.{first_is_near}
-use borrow.Author.Rules.{rules}
 use Rattle.kern.proofs.list_from.Goals as goal
 
 pub overflow_add-result : goal.overflow_add-result

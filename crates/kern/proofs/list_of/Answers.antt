@@ -1,5 +1,4 @@
 use Rattle.kern.proofs.Heads.{list-old, list-new}
-use borrow.Author.Rules.{rules}
 use Rattle.kern.proofs.list_of.Goals as goal
 
 pub returns-then-version-eq0 : goal.returns-then-version-eq0

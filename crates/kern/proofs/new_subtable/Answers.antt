@@ -1,5 +1,4 @@
 use Rattle.kern.proofs.Heads.{new_is}
-use borrow.Author.Rules.{rules}
 use Rattle.kern.proofs.new_subtable.Goals as goal
 
 pub returns : goal.returns

@@ -1,5 +1,4 @@
 use Rattle.kern.proofs.Works.{pair_ordered, pair_other}
-use borrow.Author.Rules.{rules}
 use Rattle.kern.proofs.pair_by.Goals as goal
 
 pub returns-then-format-eq0 : goal.returns-then-format-eq0

@@ -1,6 +1,5 @@
 use Rattle.kerning_lists.proofs.Families.{pair_cut, pair_by_lem}
 use Rattle.kern.specs.Kern.{kern}
-use borrow.Author.Rules.{rules}
 use Rattle.kern.proofs.pair_in.Goals as goal
 
 pub returns-in_default : goal.returns-in_default

@@ -2,7 +2,6 @@ use Rattle.line.specs.Line.{line_of}
 use Rattle.kerning_lists.proofs.Calls.{pass_ready, pass-modest}
 use Rattle.kern.specs.Kern.{kern}
 use Rattle.kerning_lists.proofs.Families.{pass_refused, pass-passed}
-use borrow.Author.Rules.{rules}
 use Rattle.kern.proofs.pass_by.Goals as goal
 
 pub returns-in-Refused : goal.returns-in-Refused

@@ -1,6 +1,5 @@
 use Rattle.kern.specs.Kern.{kern}
 use Rattle.kerning_lists.proofs.Families.{passes_cut, passes_by}
-use borrow.Author.Rules.{rules}
 use Rattle.kern.proofs.pass_in.Goals as goal
 
 pub returns-in_default : goal.returns-in_default

@@ -1,5 +1,4 @@
 use mathlib.Core.Bool.{false}
-use borrow.Author.Rules.{rules}
 use Rattle.line.specs.Line.{line_of}
 use Rattle.kerning_lists.proofs.Families.{runs_same}
 use Rattle.kern.specs.Kern.{kern}

@@ -4,7 +4,6 @@ use Rattle.line.specs.Line.{line_of}
 use Rattle.kerning_lists.proofs.Calls.{run_ready, lent_length, lent_ready}
 use Rattle.kern.specs.Kern.{kern}
 use Rattle.kerning_lists.proofs.Families.{runs_refused, runs_passed}
-use borrow.Author.Rules.{rules}
 use Rattle.kern.proofs.run_by.Goals as goal
 
 pub returns-in-Refused : goal.returns-in-Refused

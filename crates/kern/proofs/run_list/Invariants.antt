@@ -1,13 +1,8 @@
 use mathlib.Core.Bool.{false}
-use mathlib.Core.Path.{sym, ◌∙◌}
-use native.Mathlib.Omega.{arith}
-use borrow.Author.Rules.{rules}
 use Rattle.kerning_lists.specs.Walk.{heads_from as heads_of}
-use Rattle.kerning_lists.proofs.Runs.{Running, running_start, running_next, running_limit, running_cut, running_done, contribution_little, limit-small, limit-reached, limit_ahead, run_small}
+use Rattle.kerning_lists.proofs.Runs.{Running}
 use Rattle.kerning_lists.specs.Family.{head_at, adds}
 use Rattle.kern.specs.Kern.{kern}
-use Rattle.kern.proofs.Heads.{head_plain}
-use Rattle.kern.proofs.Works.{worked_little}
 use Rattle.kern.proofs.run_list.Given as goal
 
 abbrev pub invariant-loop-left : goal.invariant-loop-left

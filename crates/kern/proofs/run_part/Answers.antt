@@ -5,7 +5,6 @@ use Rattle.kerning_lists.proofs.Turns.{length-zeros}
 use Rattle.kerning_lists.proofs.Calls.{zeroed_ready}
 use Rattle.kern.specs.Kern.{kern}
 use Rattle.kerning_lists.proofs.Families.{part_is}
-use borrow.Author.Rules.{rules}
 use Rattle.kern.proofs.run_part.Goals as goal
 
 pub run_list-requires : goal.run_list-requires

@@ -1,7 +1,6 @@
 use mathlib.Core.Path.{sym, ◌∙◌}
 use Rattle.kerning_lists.proofs.Cursors.{list-start}
 use Rattle.kerning_lists.specs.Family.{list_call}
-use borrow.Author.Rules.{rules}
 use Rattle.kern.proofs.subtables.Goals as goal
 
 pub returns-in-Refused : goal.returns-in-Refused

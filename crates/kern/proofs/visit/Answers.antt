@@ -1,6 +1,5 @@
 use Rattle.kern.specs.Kern.{kern}
 use Rattle.kerning_lists.proofs.Families.{visits_none, visits}
-use borrow.Author.Rules.{rules}
 use Rattle.kern.proofs.visit.Goals as goal
 
 pub returns-then-subtable : goal.returns-then-subtable

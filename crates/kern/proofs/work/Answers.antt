@@ -1,5 +1,4 @@
 use Rattle.kern.proofs.Works.{works_pairs, works_machine, works_none}
-use borrow.Author.Rules.{rules}
 use Rattle.kern.proofs.work.Goals as goal
 
 pub returns-then-format-eq0 : goal.returns-then-format-eq0

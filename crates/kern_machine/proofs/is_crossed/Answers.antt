@@ -1,6 +1,5 @@
 use Rattle.kern_machine.specs.Machine.{is_crossed}
 use borrow.Author.Tests.{eq-eqb, ne_eqb}
-use borrow.Author.Rules.{rules}
 use Rattle.kern_machine.proofs.is_crossed.Goals as goal
 
 pub returns-then-version-eq0 : goal.returns-then-version-eq0

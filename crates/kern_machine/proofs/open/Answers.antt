@@ -1,7 +1,6 @@
 use Rattle.kern_machine.specs.Machine.{opened}
 use mathlib.Core.Path.{sym, ◌∙◌}
 use borrow.Author.Tests.{eq-eqb, ne_eqb}
-use borrow.Author.Rules.{rules}
 use Rattle.kern_machine.proofs.open.Goals as goal
 
 pub returns-in_default : goal.returns-in_default

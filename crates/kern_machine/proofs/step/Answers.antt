@@ -1,5 +1,4 @@
 use Rattle.kern_machine.specs.Machine.{step_call}
-use borrow.Author.Rules.{rules}
 use Rattle.kern_machine.proofs.step.Goals as goal
 
 pub returns : goal.returns

@@ -1,5 +1,4 @@
 use Rattle.kern_machine.specs.Machine.{worked}
-use borrow.Author.Rules.{rules}
 use Rattle.kern_machine.proofs.work.Goals as goal
 
 pub returns : goal.returns

@@ -1,7 +1,6 @@
 use lib.ListN.{get_or}
 use lib.IntN.{pos}
 use Rattle.kerning.proofs.Adding.{add-fits, add_is}
-use borrow.Author.Rules.{rules}
 use Rattle.kerning.proofs.add.Goals as goal
 
 pub sum-requires : goal.sum-requires

@@ -1,7 +1,5 @@
 use Rattle.kerning.specs.Line.{is_kernable}
-use mathlib.Core.Path.{sym, ◌∙◌}
 use borrow.Author.Tests.{eq-eqb, ne_eqb}
-use borrow.Author.Rules.{rules}
 use Rattle.kerning.proofs.kernable.Goals as goal
 
 pub returns-then-along-glyphs : goal.returns-then-along-glyphs

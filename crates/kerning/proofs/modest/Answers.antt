@@ -1,12 +1,7 @@
 use Prim.Native.Nat.{◌-◌}
 use Rattle.kerning.proofs.Scans.{small_of}
-use native.Mathlib.Omega.{arith}
-use lib.ListN.{length}
-use mathlib.Core.Path.{sym, ◌∙◌, ap}
-use borrow.Author.Rules.{rules}
-use borrow.Author.Tests.{not-true, not-false}
-use Rattle.kerning.specs.Line.{is_modest}
-use Rattle.kerning.proofs.Scans.{Scanning, small, modest-start, scanning_next, scanning_fails, scanning_done}
+use mathlib.Core.Path.{sym, ◌∙◌}
+use Rattle.kerning.proofs.Scans.{modest-start, scanning_next, scanning_fails, scanning_done}
 use Rattle.kerning.proofs.modest.Goals as goal
 
 pub loop-left-init : goal.loop-left-init

@@ -1,5 +1,4 @@
 use Rattle.kerning.proofs.Calls.{pass-table, pass-line, pass_all}
-use borrow.Author.Rules.{rules}
 use Rattle.kerning.proofs.refuse_pass.Goals as goal
 
 pub returns-in-Refused : goal.returns-in-Refused

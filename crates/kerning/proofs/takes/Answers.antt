@@ -1,7 +1,5 @@
 use Rattle.kerning.specs.Line.{is_taken}
 use mathlib.Core.Path.{sym, ◌∙◌}
-use borrow.Author.Tests.{not-true, not-false}
-use borrow.Author.Rules.{rules}
 use Rattle.kerning.proofs.takes.Goals as goal
 
 pub returns-then-not-kernable : goal.returns-then-not-kernable

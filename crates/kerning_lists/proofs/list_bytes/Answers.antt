@@ -1,5 +1,4 @@
 use Rattle.kerning_lists.proofs.Starts.{starts_nowhere, starts_there}
-use borrow.Author.Rules.{rules}
 use Rattle.kerning_lists.proofs.list_bytes.Goals as goal
 
 pub returns-then-start-eq0 : goal.returns-then-start-eq0

@@ -1,6 +1,5 @@
 use borrow.Author.Tests.{eq-eqb, ne_eqb}
 use Rattle.kerning_lists.specs.Cursors.{next_by}
-use borrow.Author.Rules.{rules}
 use Rattle.kerning_lists.proofs.next_by.Goals as goal
 
 pub returns-then-cursor-eq0 : goal.returns-then-cursor-eq0

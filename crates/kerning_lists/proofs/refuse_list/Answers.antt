@@ -1,5 +1,4 @@
 use Rattle.kerning_lists.proofs.Cursors.{list-table, list_past, list_inside}
-use borrow.Author.Rules.{rules}
 use Rattle.kerning_lists.proofs.refuse_list.Goals as goal
 
 pub returns-in-Refused : goal.returns-in-Refused

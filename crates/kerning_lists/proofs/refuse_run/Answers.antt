@@ -1,5 +1,4 @@
 use Rattle.kerning_lists.proofs.Tests.{tests_table, tests_line, tests_start, tests_passed}
-use borrow.Author.Rules.{rules}
 use Rattle.kerning_lists.proofs.refuse_run.Goals as goal
 
 pub returns-in-Refused : goal.returns-in-Refused

@@ -1,7 +1,4 @@
-use mir.Facts.{to_z-of_z}
-use native.Mathlib.Omega.{arith}
-use lib.ListN.{length-set}
-use Rattle.kerning_lists.proofs.Turns.{Turning, turning_start, turning_next, turning_done}
+use Rattle.kerning_lists.proofs.Turns.{Turning}
 use Rattle.kerning_lists.proofs.turn.Given as goal
 
 abbrev pub invariant-loop-low : goal.invariant-loop-low

@@ -1,5 +1,4 @@
 use mathlib.Core.Path.{sym, ◌∙◌}
-use borrow.Author.Rules.{rules}
 use Rattle.kerning_lists.proofs.u16_or_zero.Goals as goal
 
 pub returns-in_default : goal.returns-in_default

@@ -1,7 +1,5 @@
-use Prim.Native.Nat.{◌-◌}
 use native.Mathlib.Omega.{arith}
-use lib.ListN.{length}
-use Rattle.kerning_lists.proofs.Turns.{Zeroing, zeroing_start, zeroing_next, zeroing_done}
+use Rattle.kerning_lists.proofs.Turns.{zeroing_start, zeroing_next, zeroing_done}
 use Rattle.kerning_lists.proofs.zero.Goals as goal
 
 pub loop-place-init : goal.loop-place-init

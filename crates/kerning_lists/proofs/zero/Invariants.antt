@@ -1,7 +1,6 @@
 use Prim.Native.Nat.{◌-◌}
-use native.Mathlib.Omega.{arith}
 use lib.ListN.{length}
-use Rattle.kerning_lists.proofs.Turns.{Zeroing, zeroing_start, zeroing_next, zeroing_done}
+use Rattle.kerning_lists.proofs.Turns.{Zeroing}
 use Rattle.kerning_lists.proofs.zero.Given as goal
 
 abbrev pub invariant-loop-place : goal.invariant-loop-place

@@ -1,6 +1,5 @@
 use Rattle.kerning_machine.proofs.Acting.{act_full, act_deep, act_follows}
 use mathlib.Core.Path.{sym, ◌∙◌}
-use borrow.Author.Rules.{rules}
 use Rattle.kerning_machine.proofs.act.Goals as goal
 
 pub returns-then-is_full : goal.returns-then-is_full

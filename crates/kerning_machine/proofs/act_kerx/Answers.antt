@@ -1,7 +1,6 @@
 use Rattle.kerning_machine.proofs.Acting.{act_full, act_deep, act_follows}
 use Rattle.kerning_machine.specs.declared.Reading.TheVariants.{Kerx}
 use mathlib.Core.Path.{sym, ◌∙◌}
-use borrow.Author.Rules.{rules}
 use Rattle.kerning_machine.proofs.act_kerx.Goals as goal
 
 pub returns-then-is_full : goal.returns-then-is_full

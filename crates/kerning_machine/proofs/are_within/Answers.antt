@@ -1,10 +1,8 @@
 use native.Mathlib.Omega.{arith}
-use lib.Dec.{leb}
-use lib.ListN.{get_or}
 use mathlib.Core.Path.{refl}
 use borrow.Author.Tests.{le-leb, lt-leb}
 use Rattle.kerning_machine.specs.Machine.{are_within}
-use Rattle.kerning.proofs.Scans.{Scanning, scanning_next, scanning_fails, scanning_done}
+use Rattle.kerning.proofs.Scans.{scanning_next, scanning_fails, scanning_done}
 use Rattle.kerning_machine.proofs.are_within.Goals as goal
 
 pub loop-left-init : goal.loop-left-init

@@ -1,5 +1,4 @@
 use mathlib.Core.Path.{◌∙◌}
-use borrow.Author.Rules.{rules}
 use Rattle.indexes.proofs.Laws.{by_index, past_index}
 use Rattle.kerning_machine.proofs.class_lone.Goals as goal
 

@@ -1,7 +1,6 @@
 use mathlib.Core.Path.{◌∙◌}
 use Rattle.state_tables.proofs.Openings.{words-class}
 use Rattle.kerning_machine.proofs.Classes.{memory_kept}
-use borrow.Author.Rules.{rules}
 use Rattle.kerning_machine.proofs.class_now.Goals as goal
 
 pub returns-in_default : goal.returns-in_default

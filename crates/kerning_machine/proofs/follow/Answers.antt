@@ -1,8 +1,6 @@
 use Rattle.kerning_machine.specs.Machine.{walked_from}
 use Rattle.kerning.specs.Additions.{add_all}
-use mathlib.Core.Path.{refl}
 use native.Mathlib.Omega.{arith}
-use borrow.Author.Rules.{rules}
 use Rattle.kerning_machine.proofs.follow.Goals as goal
 
 pub returns-in-None : goal.returns-in-None

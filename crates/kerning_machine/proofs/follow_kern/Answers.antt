@@ -1,7 +1,5 @@
 use Rattle.kerning_machine.specs.Machine.{walked_from}
 use Rattle.kerning.specs.Additions.{add_all}
-use mathlib.Core.Path.{refl}
-use borrow.Author.Rules.{rules}
 use Rattle.kerning_machine.proofs.follow_kern.Goals as goal
 
 pub returns-in-None : goal.returns-in-None

@@ -1,5 +1,4 @@
 use Rattle.kerning_machine.specs.Machine.{indexed_orders}
-use borrow.Author.Rules.{rules}
 use Rattle.kerning_machine.proofs.indexed_orders.Goals as goal
 
 pub returns : goal.returns

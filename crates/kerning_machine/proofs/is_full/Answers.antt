@@ -1,4 +1,3 @@
-use borrow.Author.Tests.{not-true, not-false}
 use Rattle.kerning_machine.proofs.is_full.Goals as goal
 
 pub returns-then-not-pushes : goal.returns-then-not-pushes

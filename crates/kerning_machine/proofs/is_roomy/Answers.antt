@@ -1,7 +1,6 @@
 use mathlib.Core.Path.{sym, ◌∙◌}
 use borrow.Author.Tests.{lt-ltb, le-ltb}
 use Rattle.kerning_machine.specs.Machine.{is_roomy}
-use borrow.Author.Rules.{rules}
 use Rattle.kerning_machine.proofs.is_roomy.Goals as goal
 
 pub returns-then-above_room : goal.returns-then-above_room

@@ -1,6 +1,5 @@
 use Rattle.kerning_machine.specs.Machine.{kern_start}
 use borrow.Author.Tests.{eq-eqb, ne_eqb}
-use borrow.Author.Rules.{rules}
 use Rattle.kerning_machine.proofs.kern_start.Goals as goal
 
 pub returns-then-place-eq0 : goal.returns-then-place-eq0

@@ -1,5 +1,4 @@
 use Rattle.kerning_machine.proofs.Readings.{kerx-none, kerx-nowhere, kerx-fits, kerx-at}
-use borrow.Author.Rules.{rules}
 use Rattle.kerning_machine.proofs.kerx_start.Goals as goal
 
 pub returns-then-index-eq-NO_LIST : goal.returns-then-index-eq-NO_LIST

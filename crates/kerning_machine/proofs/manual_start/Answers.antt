@@ -1,6 +1,5 @@
 use borrow.Author.Tests.{eq-eqb, ne_eqb}
 use Rattle.kerning_machine.specs.Machine.{manual_start}
-use borrow.Author.Rules.{rules}
 use Rattle.kerning_machine.proofs.manual_start.Goals as goal
 
 pub returns-then-index-eq-NO_LIST : goal.returns-then-index-eq-NO_LIST

@@ -5,7 +5,6 @@ use Rattle.kerning_machine.specs.Work.{standing}
 use mathlib.Core.Path.{◌∙◌}
 use native.Mathlib.Omega.{arith}
 use Rattle.state_tables.proofs.Laws.{entry_payload}
-use borrow.Author.Rules.{rules}
 use Rattle.kerning_machine.proofs.next.Goals as goal
 
 pub returns-in_default : goal.returns-in_default

@@ -1,6 +1,5 @@
 use mathlib.Core.Path.{refl}
 use Rattle.kerning_machine.proofs.Readings.{kern_says, kerx_says, manual_says}
-use borrow.Author.Rules.{rules}
 use Rattle.kerning_machine.proofs.orders_of.Goals as goal
 
 pub one_number-index-requires : goal.one_number-index-requires

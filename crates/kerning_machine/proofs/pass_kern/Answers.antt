@@ -1,15 +1,8 @@
-use Rattle.kerning_machine.proofs.Loops.{place_of, place-left, place-ended, place-over, place-goes, place_falls, Rowed}
+use Rattle.kerning_machine.proofs.Loops.{place-left, place-ended, place-over, place-goes, place_falls}
 use Rattle.kerning_machine.proofs.Passes.{going_start, going_long, going_within, going_end}
 use Rattle.kerning_machine.proofs.Readings.{kern_says, kern_keeps}
-use Rattle.kerning_machine.specs.Machine.{rest}
-use Rattle.kerning_machine.specs.Work.{standing, kern_of}
-use Rattle.state_tables.specs.Opened.{byte_class_in}
 use Rattle.state_tables.proofs.Rows.{reached-end, reached-entry}
-use borrow.Author.Rules.{rules}
 use mathlib.Core.Path.{refl}
-use mathlib.Core.List.{List}
-use Prim.Native.Nat.{◌-◌}
-use lib.IntN.{ℤ}
 use native.Mathlib.Omega.{arith}
 use Rattle.kerning_machine.proofs.pass_kern.Goals as goal
 

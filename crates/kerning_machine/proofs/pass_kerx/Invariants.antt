@@ -1,18 +1,12 @@
-use Rattle.kerning_machine.proofs.Loops.{place_of, place-left, place-ended, place-over, place-goes, place_falls}
-use Rattle.kerning_machine.proofs.Passes.{Going, going_start, going_long, going_within, going_end}
-use Rattle.kerning_machine.proofs.Readings.{kerx_says}
-use Rattle.kerning_machine.proofs.Classes.{memory_start}
+use Rattle.kerning_machine.proofs.Loops.{place_of}
+use Rattle.kerning_machine.proofs.Passes.{Going}
 use Rattle.kerning_machine.specs.Machine.{rest}
 use Rattle.kerning_machine.specs.Work.{standing, kerx_of}
 use Rattle.state_tables.specs.Opened.{class_by, Remembers}
 use Rattle.indexes.specs.Index.{classes_by}
-use Rattle.state_tables.proofs.Laws.{entry_payload}
-use borrow.Author.Rules.{rules}
-use mathlib.Core.Path.{refl, sym, ◌∙◌}
 use mathlib.Core.List.{List}
 use Prim.Native.Nat.{◌-◌}
 use lib.IntN.{ℤ}
-use native.Mathlib.Omega.{arith}
 use Rattle.kerning_machine.proofs.pass_kerx.Given as goal
 
 abbrev pub invariant-loop-stays : goal.invariant-loop-stays

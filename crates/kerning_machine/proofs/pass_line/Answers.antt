@@ -1,7 +1,5 @@
 use mathlib.Core.Path.{sym, ◌∙◌}
-use borrow.Author.Tests.{not-false}
 use Rattle.kerning_machine.proofs.Classes.{own-lies, kern_passes, kerx_passes}
-use borrow.Author.Rules.{rules}
 use Rattle.kerning_machine.proofs.pass_line.Goals as goal
 
 pub pass_kern-requires : goal.pass_kern-requires

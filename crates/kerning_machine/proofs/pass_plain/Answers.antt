@@ -1,9 +1,5 @@
-use Rattle.kerning_machine.proofs.Passes.{Going, going_start, going_long, going_within, going_stop, going_less, going_step, going_end}
-use Rattle.kerning_machine.specs.Machine.{rest, passed_indexed, own_classes}
-use Rattle.indexes.specs.Index.{classes_by}
-use Rattle.kerning_machine.specs.Work.{standing}
-use borrow.Author.Tests.{not-true, not-false}
-use borrow.Author.Rules.{rules}
+use Rattle.kerning_machine.proofs.Passes.{going_start, going_long, going_within, going_stop, going_less, going_step, going_end}
+use Rattle.kerning_machine.specs.Machine.{passed_indexed}
 use mathlib.Core.Path.{sym, ◌∙◌}
 use native.Mathlib.Omega.{arith}
 use Rattle.kerning_machine.proofs.pass_plain.Goals as goal

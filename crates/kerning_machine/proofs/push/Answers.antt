@@ -1,10 +1,8 @@
 use Rattle.kerning_machine.specs.Machine.{stacked}
 use Rattle.kerning_machine.specs.Work.{standing}
 use native.Mathlib.Omega.{arith}
-use borrow.Author.Tests.{not-true, not-false}
 use Rattle.kerning_machine.proofs.Readings.{room_left}
 use Rattle.kerning_machine.proofs.Acting.{stacked_bare}
-use borrow.Author.Rules.{rules}
 use Rattle.kerning_machine.proofs.push.Goals as goal
 
 pub returns-then-not-pushes : goal.returns-then-not-pushes

@@ -1,4 +1,3 @@
-use borrow.Author.Rules.{rules}
 use Rattle.kerning_machine.proofs.rule_of.Goals as goal
 
 pub returns-in-Kern : goal.returns-in-Kern

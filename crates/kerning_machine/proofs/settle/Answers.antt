@@ -1,5 +1,4 @@
 use Rattle.kerning_machine.specs.Machine.{settled}
-use borrow.Author.Rules.{rules}
 use Rattle.kerning_machine.proofs.settle.Goals as goal
 
 pub returns : goal.returns

@@ -1,8 +1,6 @@
 use Rattle.kerning_machine.specs.Machine.{tuple_size}
 use borrow.Author.Tests.{eq-eqb, ne_eqb}
 use native.Mathlib.Omega.{arith}
-use mathlib.Core.Path.{refl}
-use borrow.Author.Rules.{rules}
 use Rattle.kerning_machine.proofs.size_of.Goals as goal
 
 pub returns-then-tuples-eq0 : goal.returns-then-tuples-eq0

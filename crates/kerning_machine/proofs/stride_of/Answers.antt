@@ -1,6 +1,3 @@
-use mathlib.Core.Path.{refl}
-use native.Mathlib.Omega.{arith}
-use borrow.Author.Rules.{rules}
 use Rattle.kerning_machine.proofs.stride_of.Goals as goal
 
 pub returns-in-Kerx : goal.returns-in-Kerx

@@ -1,6 +1,5 @@
 use mathlib.Core.Path.{refl}
 use Rattle.kerning_machine.proofs.Calls.{plain_works}
-use borrow.Author.Rules.{rules}
 use Rattle.kerning_machine.proofs.work.Goals as goal
 
 pub returns : goal.returns

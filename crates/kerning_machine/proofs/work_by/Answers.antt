@@ -1,5 +1,4 @@
 use Rattle.kerning_machine.proofs.Calls.{works_headless, works_tupled, works_passed}
-use borrow.Author.Rules.{rules}
 use Rattle.kerning_machine.proofs.work_by.Goals as goal
 
 pub returns-in-Ready : goal.returns-in-Ready

@@ -1,5 +1,4 @@
 use Rattle.kerx.proofs.Anchoring.{anchors_are}
-use borrow.Author.Rules.{rules}
 use Rattle.kerx.proofs.anchors_of.Goals as goal
 
 pub returns : goal.returns

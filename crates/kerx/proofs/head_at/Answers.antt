@@ -1,5 +1,4 @@
 use Rattle.kerx.proofs.Heads.{head-none, head-there}
-use borrow.Author.Rules.{rules}
 use Rattle.kerx.proofs.head_at.Goals as goal
 
 pub returns-then-bytes-at : goal.returns-then-bytes-at

@@ -1,7 +1,6 @@
 use Rattle.kerx.specs.Heads.{head_in}
 use mathlib.Core.Path.{sym, ◌∙◌}
 use borrow.Author.Tests.{lt-ltb, le-ltb}
-use borrow.Author.Rules.{rules}
 use Rattle.kerx.proofs.head_in.Goals as goal
 
 pub returns-in_default : goal.returns-in_default

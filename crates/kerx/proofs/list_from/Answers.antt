@@ -2,7 +2,6 @@ use native.Mathlib.Omega.{arith}
 use Rattle.kerx.specs.Kerx.{kerx}
 use Rattle.kerning_lists.proofs.Families.{list_from_lem}
 use Rattle.kerx.proofs.Heads.{first_is_near}
-use borrow.Author.Rules.{rules}
 use Rattle.kerx.proofs.list_from.Goals as goal
 
 pub overflow_add-result : goal.overflow_add-result

@@ -1,5 +1,4 @@
 use Rattle.kerx.proofs.Heads.{list_is}
-use borrow.Author.Rules.{rules}
 use Rattle.kerx.proofs.list_of.Goals as goal
 
 pub returns : goal.returns

@@ -1,5 +1,4 @@
 use Rattle.kerx.proofs.Anchoring.{machine-cut, machine-other, machine_is}
-use borrow.Author.Rules.{rules}
 use Rattle.kerx.proofs.machine_of.Goals as goal
 
 pub returns-in_default : goal.returns-in_default

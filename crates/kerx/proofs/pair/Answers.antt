@@ -1,6 +1,5 @@
 use mathlib.Core.Path.{sym, ◌∙◌}
 use Rattle.kerning_lists.specs.Family.{pair_call}
-use borrow.Author.Rules.{rules}
 use Rattle.kerx.proofs.pair.Goals as goal
 
 pub returns-in-Refused : goal.returns-in-Refused

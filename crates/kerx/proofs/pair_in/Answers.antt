@@ -1,6 +1,5 @@
 use Rattle.kerning_lists.proofs.Families.{pair_cut, pair_by_lem}
 use Rattle.kerx.specs.Kerx.{kerx}
-use borrow.Author.Rules.{rules}
 use Rattle.kerx.proofs.pair_in.Goals as goal
 
 pub returns-in_default : goal.returns-in_default

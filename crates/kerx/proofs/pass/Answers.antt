@@ -1,4 +1,3 @@
-use borrow.Author.Rules.{rules}
 use Rattle.line.specs.Line.{line_of}
 use Rattle.kerning_lists.proofs.Families.{passes_same}
 use Rattle.kerx.specs.Kerx.{kerx}

@@ -1,6 +1,5 @@
 use Rattle.line.specs.Line.{line_of}
 use Rattle.kerx.proofs.Called.{pass-lies, pass_refused, pass-passed}
-use borrow.Author.Rules.{rules}
 use Rattle.kerx.proofs.pass_anchored.Goals as goal
 
 pub returns-in-Refused : goal.returns-in-Refused

@@ -1,6 +1,5 @@
 use Rattle.kerx.specs.Kerx.{kerx}
 use Rattle.kerning_lists.proofs.Families.{passes_cut, passes_by}
-use borrow.Author.Rules.{rules}
 use Rattle.kerx.proofs.pass_in.Goals as goal
 
 pub returns-in_default : goal.returns-in_default

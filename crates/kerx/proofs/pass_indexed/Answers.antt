@@ -1,7 +1,6 @@
 use Rattle.line.specs.Line.{line_of}
 use Rattle.kerx.proofs.Called.{pass-lies}
 use Rattle.kerx.proofs.Indexing.{call_refused, call_passed}
-use borrow.Author.Rules.{rules}
 use Rattle.kerx.proofs.pass_indexed.Goals as goal
 
 pub returns-in-Refused : goal.returns-in-Refused

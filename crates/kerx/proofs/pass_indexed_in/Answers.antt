@@ -1,5 +1,4 @@
 use Rattle.kerx.proofs.Indexing.{indexed-cut, indexed_by}
-use borrow.Author.Rules.{rules}
 use Rattle.kerx.proofs.pass_indexed_in.Goals as goal
 
 pub returns-in_default : goal.returns-in_default

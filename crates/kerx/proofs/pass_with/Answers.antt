@@ -1,5 +1,4 @@
 use Rattle.kerx.proofs.Anchoring.{passes_cut, passes_by}
-use borrow.Author.Rules.{rules}
 use Rattle.kerx.proofs.pass_with.Goals as goal
 
 pub returns-in_default : goal.returns-in_default

@@ -1,5 +1,4 @@
 use Rattle.kerx.proofs.Heads.{over_vertical, over-other}
-use borrow.Author.Rules.{rules}
 use Rattle.kerx.proofs.passed_over.Goals as goal
 
 pub returns-then-is_set : goal.returns-then-is_set

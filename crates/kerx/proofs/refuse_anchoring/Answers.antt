@@ -1,5 +1,4 @@
 use Rattle.kerx.proofs.Indexing.{anchoring_short, anchoring_tupled, anchoring_index, anchoring_all}
-use borrow.Author.Rules.{rules}
 use Rattle.kerx.proofs.refuse_anchoring.Goals as goal
 
 pub returns-then-is_refused : goal.returns-then-is_refused

@@ -1,5 +1,4 @@
 use Rattle.kerx.proofs.Indexing.{kerning-short, kerning_tupled, kerning-index, kerning-all}
-use borrow.Author.Rules.{rules}
 use Rattle.kerx.proofs.refuse_kerning.Goals as goal
 
 pub returns-then-is_refused : goal.returns-then-is_refused

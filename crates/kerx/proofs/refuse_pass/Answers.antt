@@ -3,7 +3,6 @@ use Rattle.kerx.specs.Anchored.{pass_tests}
 use Rattle.answers.proofs.Refusals.{refuse-none}
 use mathlib.Core.Path.{sym, ◌∙◌}
 use Rattle.kerx.proofs.Called.{tests_table, tests_anchor, tests_line, tests_later}
-use borrow.Author.Rules.{rules}
 use mathlib.Core.Path.{ap}
 use mathlib.Core.Bool.{not}
 use Rattle.kerx.proofs.refuse_pass.Goals as goal

@@ -3,7 +3,6 @@ use mathlib.Core.Path.{◌∙◌}
 use Rattle.kerning_lists.specs.Run.{start_test}
 use Rattle.kerx.specs.Anchored.{run_tests}
 use Rattle.kerx.proofs.Called.{tests_table, tests_anchor, tests_line, tests_later, start_refused, start-passed}
-use borrow.Author.Rules.{rules}
 use mathlib.Core.Path.{ap}
 use mathlib.Core.Bool.{not}
 use Rattle.kerx.proofs.refuse_run.Goals as goal

@@ -1,5 +1,4 @@
 use Rattle.kerx.proofs.Indexing.{unindexed_ordered, unindexed_classes, unindexed_other}
-use borrow.Author.Rules.{rules}
 use Rattle.kerx.proofs.refuse_unindexed.Goals as goal
 
 pub returns-then-format-eq0 : goal.returns-then-format-eq0

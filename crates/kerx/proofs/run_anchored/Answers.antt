@@ -1,7 +1,6 @@
 use mathlib.Core.Path.{sym, refl}
 use Rattle.line.specs.Line.{line_of}
 use Rattle.kerx.proofs.Called.{run_lies, part_length, lies_lent, run_refused, run-passed}
-use borrow.Author.Rules.{rules}
 use Rattle.kerx.proofs.run_anchored.Goals as goal
 
 pub returns-in-Refused : goal.returns-in-Refused

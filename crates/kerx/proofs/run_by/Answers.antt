@@ -4,7 +4,6 @@ use Rattle.kerning_lists.proofs.Calls.{run_ready, lent_length, lent_ready_line}
 use Rattle.kerning_lists.proofs.Families.{runs_refused, runs_passed}
 use Rattle.kerx.specs.Kerx.{kerx}
 use Rattle.kerx.proofs.Marking.{lent_empty}
-use borrow.Author.Rules.{rules}
 use Rattle.kerx.proofs.run_by.Goals as goal
 
 pub returns-in-Refused : goal.returns-in-Refused

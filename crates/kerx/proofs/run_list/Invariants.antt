@@ -1,10 +1,4 @@
-use borrow.Author.Rules.{rules}
-use mathlib.Core.Path.{sym, ◌∙◌, ap}
-use native.Mathlib.Omega.{arith}
-use lib.ListN.{length}
-use Rattle.kerning_lists.proofs.Runs.{running_limit, running_cut, running_done, limit-small, limit-reached, limit_ahead}
-use Rattle.anchor_machine.proofs.Writing.{wrote_long}
-use Rattle.kerx.proofs.Marking.{GoingOn, on-start, on-next, on_ready, marking-limit, marking-cut, marking-done}
+use Rattle.kerx.proofs.Marking.{GoingOn}
 use Rattle.kerx.proofs.run_list.Given as goal
 
 abbrev pub invariant-loop-left : goal.invariant-loop-left

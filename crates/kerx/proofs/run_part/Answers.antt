@@ -5,7 +5,6 @@ use Rattle.kerning_lists.proofs.Calls.{zeroed_ready_line}
 use Rattle.kerning_lists.proofs.Families.{part_is}
 use Rattle.kerx.specs.Kerx.{kerx}
 use Rattle.kerx.proofs.Marking.{zeroed_lent, run-marks}
-use borrow.Author.Rules.{rules}
 use Rattle.kerx.proofs.run_part.Goals as goal
 
 pub run_list-requires : goal.run_list-requires

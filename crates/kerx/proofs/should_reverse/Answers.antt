@@ -1,5 +1,4 @@
 use mathlib.Core.Path.{sym, ◌∙◌}
-use borrow.Author.Rules.{rules}
 use Rattle.kerx.proofs.should_reverse.Goals as goal
 
 pub returns-then-is_set : goal.returns-then-is_set

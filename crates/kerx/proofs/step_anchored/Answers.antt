@@ -1,5 +1,4 @@
 use Rattle.kerx.proofs.Called.{step_is}
-use borrow.Author.Rules.{rules}
 use Rattle.kerx.proofs.step_anchored.Goals as goal
 
 pub returns : goal.returns

@@ -1,7 +1,5 @@
 use mathlib.Core.Path.{sym, ◌∙◌}
-use borrow.Author.Tests.{not-true, not-false}
 use Rattle.kerx.specs.Anchored.{takes_run}
-use borrow.Author.Rules.{rules}
 use Rattle.kerx.proofs.takes_run.Goals as goal
 
 pub returns-then-not-are_long : goal.returns-then-not-are_long

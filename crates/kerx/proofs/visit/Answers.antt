@@ -2,7 +2,6 @@ use mathlib.Core.Path.{refl}
 use Rattle.kerning_lists.proofs.Families.{visits_none, visits, visits_turned}
 use Rattle.kerx.specs.Kerx.{kerx}
 use Rattle.kerx.proofs.Marking.{marks-none, marks-plain, marks-turned}
-use borrow.Author.Rules.{rules}
 use Rattle.kerx.proofs.visit.Goals as goal
 
 pub returns-then-subtable : goal.returns-then-subtable

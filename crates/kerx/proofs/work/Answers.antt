@@ -1,5 +1,4 @@
 use Rattle.kerx.proofs.Works.{works_ordered, works_machine, works_classes, works_none}
-use borrow.Author.Rules.{rules}
 use Rattle.kerx.proofs.work.Goals as goal
 
 pub returns-then-format-eq0 : goal.returns-then-format-eq0

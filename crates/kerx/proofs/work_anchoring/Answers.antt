@@ -1,5 +1,4 @@
 use Rattle.kerx.proofs.Indexing.{anchoring_refused, anchoring_works}
-use borrow.Author.Rules.{rules}
 use Rattle.kerx.proofs.work_anchoring.Goals as goal
 
 pub returns-in-Refused : goal.returns-in-Refused

@@ -1,7 +1,6 @@
 use mathlib.Core.Path.{◌∙◌}
 use Rattle.kerx.proofs.Marking.{lent_none}
 use Rattle.kerx.proofs.Anchoring.{adds-here}
-use borrow.Author.Rules.{rules}
 use Rattle.kerx.proofs.work_in_run.Goals as goal
 
 pub returns-then-x-used : goal.returns-then-x-used

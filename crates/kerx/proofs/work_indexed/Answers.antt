@@ -1,6 +1,5 @@
 use mathlib.Core.Path.{sym}
 use Rattle.kerx.proofs.Indexing.{indexed_four, indexed-one, indexed-none}
-use borrow.Author.Rules.{rules}
 use Rattle.kerx.proofs.work_indexed.Goals as goal
 
 pub returns-then-format-eq-FORMAT : goal.returns-then-format-eq-FORMAT

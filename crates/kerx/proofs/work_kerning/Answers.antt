@@ -1,5 +1,4 @@
 use Rattle.kerx.proofs.Indexing.{kerning_refused, kerning_works}
-use borrow.Author.Rules.{rules}
 use Rattle.kerx.proofs.work_kerning.Goals as goal
 
 pub returns-in-Refused : goal.returns-in-Refused

@@ -3,7 +3,6 @@ use lib.ListN.{length}
 use Rattle.kerning.proofs.Adding.{length-add_all}
 use Rattle.kerx.proofs.Works.{back_again, added-back, turned_ready, line-fits, along-fits}
 use Rattle.kerx.proofs.Marking.{lent_turned, marked-back}
-use borrow.Author.Rules.{rules}
 use Rattle.kerx.proofs.work_turned.Goals as goal
 
 pub work_in_run-requires : goal.work_in_run-requires

@@ -1,5 +1,4 @@
 use Rattle.kerx.proofs.Anchoring.{works_anchored, works_plain}
-use borrow.Author.Rules.{rules}
 use Rattle.kerx.proofs.work_with.Goals as goal
 
 pub returns-then-format-eq-FORMAT : goal.returns-then-format-eq-FORMAT

@@ -1,4 +1,3 @@
-use borrow.Author.Rules.{rules}
 use Rattle.kerx_machine.proofs.entries_of.Goals as goal
 
 pub returns-in-Crate : goal.returns-in-Crate

@@ -1,6 +1,5 @@
 use mathlib.Core.Path.{sym, ◌∙◌}
 use Rattle.kerx_machine.specs.Machine.{has_tuples}
-use borrow.Author.Rules.{rules}
 use Rattle.kerx_machine.proofs.has_tuples.Goals as goal
 
 pub returns-in_default : goal.returns-in_default

@@ -1,5 +1,4 @@
 use Rattle.kerx_machine.specs.Machine.{is_tupled}
-use borrow.Author.Rules.{rules}
 use Rattle.kerx_machine.proofs.is_tupled.Goals as goal
 
 pub returns-in-Crate : goal.returns-in-Crate

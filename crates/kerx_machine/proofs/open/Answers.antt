@@ -1,5 +1,4 @@
 use Rattle.kerx_machine.specs.Machine.{opened}
-use borrow.Author.Rules.{rules}
 use Rattle.kerx_machine.proofs.open.Goals as goal
 
 pub returns : goal.returns

@@ -1,7 +1,6 @@
 use Rattle.kerx_machine.specs.Machine.{opened_any}
 use mathlib.Core.Path.{sym, ◌∙◌}
 use borrow.Author.Tests.{eq-eqb, ne_eqb}
-use borrow.Author.Rules.{rules}
 use Rattle.kerx_machine.proofs.open_any.Goals as goal
 
 pub returns-in_default : goal.returns-in_default

@@ -1,5 +1,4 @@
 use Rattle.kerx_machine.specs.Machine.{step_call}
-use borrow.Author.Rules.{rules}
 use Rattle.kerx_machine.proofs.step_by.Goals as goal
 
 pub returns : goal.returns

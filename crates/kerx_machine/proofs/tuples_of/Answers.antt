@@ -1,6 +1,5 @@
 use Rattle.kerx_machine.specs.Machine.{tuples_of}
 use borrow.Author.Tests.{lt-ltb, le-ltb}
-use borrow.Author.Rules.{rules}
 use Rattle.kerx_machine.proofs.tuples_of.Goals as goal
 
 pub returns-then-version-lt4 : goal.returns-then-version-lt4

@@ -1,7 +1,6 @@
 use mathlib.Core.Path.{refl}
 use Rattle.kerning_machine.proofs.Calls.{plain_works}
 use Rattle.kerx_machine.specs.Machine.{worked, worked_indexed}
-use borrow.Author.Rules.{rules}
 use Rattle.kerx_machine.proofs.work.Goals as goal
 
 pub returns : goal.returns

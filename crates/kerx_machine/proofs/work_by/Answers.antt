@@ -1,5 +1,4 @@
 use Rattle.kerx_machine.specs.Machine.{worked_indexed}
-use borrow.Author.Rules.{rules}
 use Rattle.kerx_machine.proofs.work_by.Goals as goal
 
 pub returns : goal.returns

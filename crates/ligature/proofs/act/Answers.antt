@@ -1,10 +1,5 @@
-use Rattle.ligature.proofs.Acting.{acting_since, Acting, acting_start, acting_out, acting_ended, acting_left, acting_number, acting_stops, acting_goes, stops_last, stops_spent, stops_not}
-use Prim.Native.Nat.{◌-◌}
-use mathlib.Core.List.{[]}
+use Rattle.ligature.proofs.Acting.{acting_since, acting_start, acting_out, acting_ended, acting_left, acting_number, acting_stops, acting_goes, stops_last, stops_spent, stops_not}
 use native.Mathlib.Omega.{arith}
-use borrow.Author.Rules.{rules}
-use Rattle.line.specs.Line.{line_of}
-use Rattle.ligature.specs.Ligature.{acts}
 use Rattle.ligature.proofs.act.Goals as goal
 
 pub loop-at-init : goal.loop-at-init

@@ -1,8 +1,6 @@
-use Rattle.ligature.proofs.Acting.{acting_since, Acting, acting_start, acting_out, acting_ended, acting_left, acting_number, acting_stops, acting_goes, stops_last, stops_spent, stops_not}
+use Rattle.ligature.proofs.Acting.{Acting}
 use Prim.Native.Nat.{◌-◌}
 use mathlib.Core.List.{[]}
-use native.Mathlib.Omega.{arith}
-use borrow.Author.Rules.{rules}
 use Rattle.line.specs.Line.{line_of}
 use Rattle.ligature.specs.Ligature.{acts}
 use Rattle.ligature.proofs.act.Given as goal

@@ -2,7 +2,6 @@ use mathlib.Core.Path.{◌∙◌}
 use Rattle.machine.specs.Entry.{class_here}
 use Rattle.state_tables.proofs.Openings.{words-class}
 use Rattle.ligature.proofs.Runs.{still_remembered}
-use borrow.Author.Rules.{rules}
 use Rattle.ligature.proofs.class_now.Goals as goal
 
 pub returns-then-ends : goal.returns-then-ends

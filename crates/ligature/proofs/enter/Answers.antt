@@ -2,7 +2,6 @@ use Rattle.ligature.proofs.Entering.{entered-full, entered_bare, entered-acts}
 use mathlib.Core.Path.{sym, ◌∙◌}
 use native.Mathlib.Omega.{arith}
 use Rattle.line.specs.Line.{line_of}
-use borrow.Author.Rules.{rules}
 use mathlib.Core.Path.{ap}
 use mathlib.Core.Bool.{not}
 use Rattle.ligature.proofs.enter.Goals as goal

@@ -1,6 +1,5 @@
-use Prim.Native.Nat.{◌-◌}
 use native.Mathlib.Omega.{arith}
-use Rattle.ligature.proofs.Scanning.{Scanned, scan-start, scan-next, scan_fails, scan-ends}
+use Rattle.ligature.proofs.Scanning.{scan-start, scan-next, scan_fails, scan-ends}
 use Rattle.ligature.proofs.inside.Goals as goal
 
 pub loop-slot-init : goal.loop-slot-init

@@ -1,6 +1,5 @@
 use Prim.Native.Nat.{◌-◌}
-use native.Mathlib.Omega.{arith}
-use Rattle.ligature.proofs.Scanning.{Scanned, scan-start, scan-next, scan_fails, scan-ends}
+use Rattle.ligature.proofs.Scanning.{Scanned}
 use Rattle.ligature.proofs.inside.Given as goal
 
 abbrev pub invariant-loop-slot : goal.invariant-loop-slot

@@ -1,5 +1,4 @@
 use Rattle.ligature.proofs.Ligations.{made-ended, made-adds, made-ligature}
-use borrow.Author.Rules.{rules}
 use Rattle.ligature.proofs.make.Goals as goal
 
 pub returns-in-Ended : goal.returns-in-Ended

@@ -1,11 +1,8 @@
 use Prim.Native.Nat.{◌-◌}
 use mathlib.Core.List.{[]}
-use native.Mathlib.Omega.{arith}
-use borrow.Author.Rules.{rules}
-use Rattle.state_tables.proofs.Laws.{entry_payload}
 use Rattle.line.specs.Line.{line_of}
 use Rattle.ligature.specs.Ligature.{stack_of, ran}
-use Rattle.ligature.proofs.Running.{Running, running_start, running_none, running_ended, running_stops, running_spent, running_goes, running_over}
+use Rattle.ligature.proofs.Running.{Running}
 use Rattle.ligature.proofs.next.Given as goal
 
 abbrev pub invariant-loop-cycles : goal.invariant-loop-cycles

@@ -1,4 +1,3 @@
-use borrow.Author.Tests.{not-true, not-false}
 use Rattle.ligature.proofs.overflows.Goals as goal
 
 pub returns-then-not-sets : goal.returns-then-not-sets

@@ -1,6 +1,5 @@
 use mathlib.Core.Path.{ap}
 use native.Mathlib.Omega.{arith}
-use borrow.Author.Rules.{rules}
 use Rattle.line.specs.Line.{line_of}
 use Rattle.machine.specs.Work.{passed_leaves}
 use Rattle.ligature.specs.declared.LigatureState.{LigatureState}

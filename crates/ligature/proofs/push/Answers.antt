@@ -1,6 +1,4 @@
-use mathlib.Core.Path.{refl}
 use native.Mathlib.Omega.{arith}
-use borrow.Author.Tests.{not-true, not-false}
 use Rattle.ligature.proofs.Entering.{room_for}
 use Rattle.ligature.proofs.push.Goals as goal
 

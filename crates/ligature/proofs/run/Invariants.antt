@@ -1,10 +1,8 @@
 use Prim.Native.Nat.{◌-◌}
-use native.Mathlib.Omega.{arith}
-use borrow.Author.Rules.{rules}
 use Rattle.line.specs.Line.{line_of}
 use Rattle.ligature.specs.Ligature.{stack_of}
 use Rattle.ligature.specs.Work.{run}
-use Rattle.ligature.proofs.Runs.{Going, going_start, going_last, going_inside, going_more, kept-within}
+use Rattle.ligature.proofs.Runs.{Going}
 use Rattle.ligature.proofs.run.Given as goal
 
 abbrev pub invariant-loop-states : goal.invariant-loop-states

@@ -1,4 +1,3 @@
-use borrow.Author.Rules.{rules}
 use Rattle.ligature.proofs.turn_of.Goals as goal
 
 pub returns-in-Adds : goal.returns-in-Adds

@@ -2,7 +2,6 @@ use mathlib.Core.Path.{refl, ◌∙◌}
 use Rattle.line.specs.Line.{Line}
 use Rattle.indexes.proofs.Same.{plain-answer, plain-left}
 use Rattle.ligature.specs.Calls.{ligature}
-use borrow.Author.Rules.{rules}
 use Rattle.ligature.proofs.work.Goals as goal
 
 pub returns : goal.returns

@@ -5,7 +5,6 @@ use Rattle.machine.specs.Work.{work_leaves, passed_leaves}
 use Rattle.machine.proofs.Calls.{work_headless, work-passed, same_answer, same_left}
 use Rattle.indexes.specs.Index.{indexed}
 use Rattle.ligature.specs.Calls.{ligature}
-use borrow.Author.Rules.{rules}
 use Rattle.ligature.proofs.work_by.Goals as goal
 
 pub returns-in_default : goal.returns-in_default

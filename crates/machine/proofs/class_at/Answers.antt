@@ -1,5 +1,4 @@
 use Rattle.machine.specs.Entry.{class_here}
-use borrow.Author.Rules.{rules}
 use Rattle.machine.proofs.class_at.Goals as goal
 
 pub returns-then-ends : goal.returns-then-ends

@@ -1,5 +1,4 @@
 use borrow.Author.Tests.{lt-ltb, le-ltb}
-use borrow.Author.Rules.{rules}
 use Rattle.machine.specs.Work.{glyph_at}
 use Rattle.machine.proofs.glyph_at.Goals as goal
 

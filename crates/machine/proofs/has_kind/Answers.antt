@@ -1,8 +1,4 @@
-use mathlib.Core.Path.{sym, ◌∙◌}
-use Rattle.parse.proofs.Laws.{part_short, part_inside, inside-fits, read_u32_got}
-use Rattle.machine.specs.Head.{has_kind}
 use Rattle.machine.proofs.Heads.{kind_cut, kind_is, kind_unread}
-use borrow.Author.Rules.{rules}
 use Rattle.machine.proofs.has_kind.Goals as goal
 
 pub returns-in_default : goal.returns-in_default

@@ -1,7 +1,5 @@
 use mathlib.Core.Path.{sym, ◌∙◌}
-use borrow.Author.Tests.{not-true, not-false}
 use Rattle.machine.specs.Call.{opened}
-use borrow.Author.Rules.{rules}
 use Rattle.machine.proofs.open.Goals as goal
 
 pub returns-then-not-has_kind : goal.returns-then-not-has_kind

@@ -1,5 +1,4 @@
 use Rattle.machine.proofs.Calls.{pass-table, pass-line, pass-head, pass_all}
-use borrow.Author.Rules.{rules}
 use Rattle.machine.proofs.refuse_pass.Goals as goal
 
 pub returns-in-Refused : goal.returns-in-Refused

@@ -1,6 +1,5 @@
-use borrow.Author.Tests.{lt-ltb, le-ltb, not-true, not-false}
+use borrow.Author.Tests.{lt-ltb, le-ltb}
 use Rattle.machine.specs.Stall.{stalled}
-use borrow.Author.Rules.{rules}
 use Rattle.machine.proofs.stall.Goals as goal
 
 pub returns-then-not-stays : goal.returns-then-not-stays

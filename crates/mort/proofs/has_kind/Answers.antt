@@ -1,8 +1,4 @@
-use mathlib.Core.Path.{sym, ◌∙◌}
-use Rattle.parse.proofs.Laws.{part_short, part_inside, inside-fits, read_u16_got}
-use Rattle.mort.specs.Mort.{has_kind}
 use Rattle.mort.proofs.Heads.{kind_cut, kind_is, kind_unread}
-use borrow.Author.Rules.{rules}
 use Rattle.mort.proofs.has_kind.Goals as goal
 
 pub returns-in_default : goal.returns-in_default

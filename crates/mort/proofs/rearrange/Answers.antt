@@ -4,7 +4,6 @@ use Rattle.machine.proofs.Calls.{same_answer, same_left}
 use Rattle.machine.specs.Work.{work_leaves, passed_leaves}
 use Rattle.line.specs.Changes.{apply_all}
 use Rattle.line.specs.Line.{Line, line_of}
-use borrow.Author.Rules.{rules}
 use mathlib.Core.Path.{ap}
 use mathlib.Core.Bool.{not}
 use Rattle.mort.proofs.rearrange.Goals as goal

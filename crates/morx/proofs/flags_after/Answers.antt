@@ -1,4 +1,3 @@
-use borrow.Author.Rules.{rules}
 use Rattle.morx.proofs.Runs.{flags_chain}
 use Rattle.morx.proofs.flags_after.Goals as goal
 

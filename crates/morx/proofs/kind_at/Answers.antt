@@ -1,4 +1,3 @@
-use borrow.Author.Rules.{rules}
 use Rattle.morx.proofs.kind_at.Goals as goal
 
 pub returns-in-Morx : goal.returns-in-Morx

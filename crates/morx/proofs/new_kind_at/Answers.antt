@@ -1,9 +1,4 @@
-use mathlib.Core.Path.{sym, ◌∙◌}
-use native.Mathlib.Omega.{arith}
-use Rattle.parse.proofs.Laws.{part_short, part_inside, inside-fits, read_u32_got}
 use Rattle.morx.proofs.Machines.{kind_cut, kind_unread, kind_is}
-use Rattle.morx.specs.Kinds.{kind_at}
-use borrow.Author.Rules.{rules}
 use Rattle.morx.proofs.new_kind_at.Goals as goal
 
 pub returns-in_default : goal.returns-in_default

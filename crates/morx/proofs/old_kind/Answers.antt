@@ -1,6 +1,5 @@
 use borrow.Author.Tests.{eq-eqb, ne_eqb}
 use Rattle.morx.specs.Kinds.{kind_of}
-use borrow.Author.Rules.{rules}
 use Rattle.morx.proofs.old_kind.Goals as goal
 
 pub returns-then-number : goal.returns-then-number

@@ -1,6 +1,5 @@
 use mathlib.Core.Path.{sym, ◌∙◌}
 use Rattle.morx.specs.Kinds.{kind_at}
-use borrow.Author.Rules.{rules}
 use Rattle.morx.proofs.old_kind_at.Goals as goal
 
 pub returns-then-has_kind : goal.returns-then-has_kind

@@ -1,5 +1,4 @@
 use Rattle.morx.specs.Kinds.{subtable_of_kind}
-use borrow.Author.Rules.{rules}
 use Rattle.morx.proofs.opens.Goals as goal
 
 pub returns-in-Rearrangement : goal.returns-in-Rearrangement

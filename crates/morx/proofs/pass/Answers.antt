@@ -5,7 +5,6 @@ use Rattle.machine.specs.Machine.{pass_call, call_leaves}
 use Rattle.morx.specs.Kinds.{any_subtable}
 use Rattle.morx.proofs.Leaves.{to_post, of_post}
 use Rattle.morx.proofs.Calls.{taken-valid, pass_refused, pass-worked}
-use borrow.Author.Rules.{rules}
 use Rattle.morx.proofs.pass.Goals as goal
 
 pub returns-in-Refused : goal.returns-in-Refused

@@ -3,7 +3,6 @@ use Rattle.machine.specs.Work.{work_leaves}
 use Rattle.morx.specs.Indexed.{indexed_of_kind, indexed_call, indexed_leaves}
 use Rattle.morx.proofs.Leaves.{to_post, of_post}
 use Rattle.morx.proofs.Indexing.{index_refused, index-valid, index-worked}
-use borrow.Author.Rules.{rules}
 use Rattle.morx.proofs.pass_indexed.Goals as goal
 
 pub returns-in-Refused : goal.returns-in-Refused

@@ -1,7 +1,5 @@
-use mathlib.Core.Path.{sym, ◌∙◌, ap}
-use borrow.Author.Tests.{not-true, not-false}
+use mathlib.Core.Path.{sym, ◌∙◌}
 use Rattle.morx.specs.Run.{is_passed_over}
-use borrow.Author.Rules.{rules}
 use Rattle.morx.proofs.passes_over.Goals as goal
 
 pub returns-then-not-share_bit : goal.returns-then-not-share_bit

@@ -1,5 +1,4 @@
 use Rattle.morx.proofs.Indexing.{tested_before, tested_index, tested_all}
-use borrow.Author.Rules.{rules}
 use Rattle.morx.proofs.refuse_indexed.Goals as goal
 
 pub returns-in-Refused : goal.returns-in-Refused

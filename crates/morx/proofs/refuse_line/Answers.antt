@@ -1,5 +1,4 @@
 use Rattle.morx.proofs.Calls.{line-table, line_not, line_taken}
-use borrow.Author.Rules.{rules}
 use Rattle.morx.proofs.refuse_line.Goals as goal
 
 pub returns-in-Refused : goal.returns-in-Refused

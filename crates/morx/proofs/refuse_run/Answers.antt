@@ -1,6 +1,5 @@
 use Rattle.morx.specs.Calls.{request_limit}
 use Rattle.morx.proofs.Calls.{run-table, run_many, run_not, run_past, run-passed}
-use borrow.Author.Rules.{rules}
 use Rattle.morx.proofs.refuse_run.Goals as goal
 
 pub returns-in-Refused : goal.returns-in-Refused

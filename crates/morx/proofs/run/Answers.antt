@@ -4,7 +4,6 @@ use Rattle.morx.specs.Work.{ran_leaves}
 use Rattle.morx.specs.Calls.{run_call, run_leaves}
 use Rattle.morx.proofs.Runs.{run_to_post, run_of_post}
 use Rattle.morx.proofs.Calls.{run-taken, run_refused, run-worked}
-use borrow.Author.Rules.{rules}
 use Rattle.morx.proofs.run.Goals as goal
 
 pub returns-in-Refused : goal.returns-in-Refused

@@ -1,15 +1,11 @@
-use Prim.Native.Nat.{◌-◌}
 use mathlib.Core.Path.{sym, ◌∙◌}
-use native.Mathlib.Omega.{arith}
-use borrow.Author.Rules.{rules}
-use borrow.Author.Tests.{not-true, not-false}
 use Rattle.answers.specs.Limits.{head_limit}
 use Rattle.line.specs.Line.{line_of}
 use Rattle.line.proofs.Exact.{of_valid}
 use Rattle.morx.specs.Run.{ran, visit, visit_leaves}
 use Rattle.morx.specs.Work.{ran_leaves}
 use Rattle.morx.proofs.Leaves.{of_post}
-use Rattle.morx.proofs.Runs.{Going, going_start, going_step, going_stop, going_end, going_limit, run_to_post}
+use Rattle.morx.proofs.Runs.{going_start, going_step, going_stop, going_end, going_limit, run_to_post}
 use Rattle.morx.proofs.run_line.Goals as goal
 
 pub walk_from-walk-requires : goal.walk_from-walk-requires

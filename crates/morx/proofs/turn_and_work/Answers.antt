@@ -1,5 +1,4 @@
 use mathlib.Core.Bool.{true}
-use borrow.Author.Tests.{not-true, not-false}
 use Rattle.line.specs.Line.{line_of}
 use Rattle.morx.specs.Kinds.{subtable_of_kind}
 use Rattle.morx.specs.Run.{turned_work}
@@ -7,7 +6,6 @@ use Rattle.machine.specs.Work.{work_leaves}
 use Rattle.morx.specs.Work.{turned_leaves}
 use Rattle.morx.proofs.Leaves.{to_post, of_post, valid-line, fits-tags}
 use Rattle.morx.proofs.Visits.{straight, turned-valid, worked-valid, turned-back}
-use borrow.Author.Rules.{rules}
 use Rattle.morx.proofs.turn_and_work.Goals as goal
 
 pub returns-then-not-turned : goal.returns-then-not-turned

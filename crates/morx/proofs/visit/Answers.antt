@@ -3,7 +3,6 @@ use Rattle.morx.specs.Run.{visit, visit_leaves, visit_subtable}
 use Rattle.morx.specs.Work.{subtable_leaves}
 use Rattle.morx.proofs.Leaves.{to_post, of_post}
 use Rattle.morx.proofs.Visits.{visit_chain, visit_sub}
-use borrow.Author.Rules.{rules}
 use Rattle.morx.proofs.visit.Goals as goal
 
 pub returns-in_default : goal.returns-in_default

@@ -3,7 +3,6 @@ use Rattle.morx.specs.Run.{turned_work, visit_subtable}
 use Rattle.morx.specs.Work.{subtable_leaves, turned_leaves}
 use Rattle.morx.proofs.Leaves.{to_post, of_post}
 use Rattle.morx.proofs.Visits.{visit-over, visit-worked}
-use borrow.Author.Rules.{rules}
 use Rattle.morx.proofs.visit_subtable.Goals as goal
 
 pub returns-then-passes_over : goal.returns-then-passes_over

@@ -1,7 +1,6 @@
 use mathlib.Core.Path.{refl, ◌∙◌}
 use Rattle.line.specs.Line.{Line, line_of}
 use Rattle.morx.proofs.Machines.{plain-reply, plain_part}
-use borrow.Author.Rules.{rules}
 use Rattle.morx.proofs.work.Goals as goal
 
 pub returns : goal.returns

@@ -4,7 +4,6 @@ use Rattle.morx.specs.Indexed.{indexed_of_kind}
 use Rattle.machine.specs.Work.{work_leaves}
 use Rattle.morx.proofs.Leaves.{to_post, valid-line, fits-tags}
 use Rattle.morx.proofs.Machines.{by_rearrangement, by_contextual, by_ligature, by_noncontextual, by_insertion, by_old_rearrangement, by_old_noncontextual, by_none}
-use borrow.Author.Rules.{rules}
 use Rattle.morx.proofs.work_by.Goals as goal
 
 pub work_by-answer-requires : goal.work_by-answer-requires

@@ -1,8 +1,6 @@
-use borrow.Author.Rules.{rules}
 use Prim.Native.Nat.{◌-◌}
-use native.Mathlib.Omega.{arith}
 use Rattle.tables.specs.Lookup.{lookup_at}
-use Rattle.noncontextual.proofs.Passes.{Going, going_start, going_found, going_done, opened_inside}
+use Rattle.noncontextual.proofs.Passes.{Going}
 use Rattle.noncontextual.proofs.by_lookup.Given as goal
 
 abbrev pub invariant-loop-place : goal.invariant-loop-place

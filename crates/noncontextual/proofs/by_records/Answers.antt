@@ -1,10 +1,6 @@
-use borrow.Author.Rules.{rules}
-use Prim.Native.Nat.{◌-◌}
 use native.Mathlib.Omega.{arith}
-use Rattle.tables.specs.Lookup.{lookup_at}
-use Rattle.noncontextual.specs.Work.{becomes_by, Remembers}
 use Rattle.noncontextual.proofs.Memos.{nothing_remembered, still_remembers}
-use Rattle.noncontextual.proofs.Passes.{Going, going_start, going_becomes, going_done}
+use Rattle.noncontextual.proofs.Passes.{going_start, going_becomes, going_done}
 use Rattle.noncontextual.proofs.by_records.Goals as goal
 
 pub loop-place-init : goal.loop-place-init

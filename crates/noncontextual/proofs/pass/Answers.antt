@@ -1,4 +1,3 @@
-use borrow.Author.Rules.{rules}
 use mathlib.Core.Path.{sym, ◌∙◌}
 use Rattle.line.specs.Line.{Line, line_of}
 use Rattle.line.specs.Changes.{apply_all}

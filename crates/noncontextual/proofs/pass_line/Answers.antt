@@ -1,5 +1,4 @@
 use mathlib.Core.Path.{sym, ◌∙◌}
-use borrow.Author.Rules.{rules}
 use Rattle.noncontextual.proofs.pass_line.Goals as goal
 
 pub by_records-requires : goal.by_records-requires

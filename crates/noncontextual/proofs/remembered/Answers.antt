@@ -1,7 +1,6 @@
-use mathlib.Core.Path.{sym, ◌∙◌}
+use mathlib.Core.Path.{sym}
 use borrow.Author.Tests.{eq-eqb, ne_eqb}
 use Rattle.noncontextual.specs.Work.{becomes_by, noted}
-use borrow.Author.Rules.{rules}
 use Rattle.noncontextual.proofs.remembered.Goals as goal
 
 pub returns-then-held-which : goal.returns-then-held-which

@@ -3,7 +3,6 @@ use Rattle.line.specs.Changes.{apply_all}
 use Rattle.machine.specs.Work.{work_leaves}
 use Rattle.machine.proofs.Calls.{same_answer, same_left}
 use Rattle.line.specs.Line.{Line, line_of}
-use borrow.Author.Rules.{rules}
 use mathlib.Core.Path.{ap}
 use mathlib.Core.Bool.{not}
 use Rattle.noncontextual.proofs.work.Goals as goal

@@ -1,13 +1,10 @@
-use Prim.Native.Nat.{◌-◌, ◌^◌}
 use mathlib.Core.Path.{ap, subst⁻¹}
 use native.Mathlib.Omega.{arith}
-use borrow.Author.Rules.{rules}
 use Rattle.pairs.specs.Work.{Sized}
 use Rattle.pairs.specs.Pass.{addition_of}
-use Rattle.pairs.specs.Pairs.{pair_number}
 use Rattle.kerning.proofs.Adding.{within_more}
 use Rattle.line.proofs.Room.{room_small}
-use Rattle.pairs.proofs.Passes.{sized, Stretching, stretching_start, stretching_next, stretching_done}
+use Rattle.pairs.proofs.Passes.{sized, stretching_start, stretching_next, stretching_done}
 use Rattle.pairs.proofs.add_each.Goals as goal
 
 pub loop-place-init : goal.loop-place-init

@@ -1,14 +1,7 @@
 use Prim.Native.Nat.{◌-◌, ◌^◌}
-use mathlib.Core.Path.{ap, subst⁻¹}
-use native.Mathlib.Omega.{arith}
-use borrow.Author.Rules.{rules}
-use Rattle.kerning.proofs.Adding.{within_more}
-use Rattle.line.proofs.Room.{room_small}
-use Rattle.pairs.specs.Work.{Sized}
-use Rattle.pairs.specs.Pass.{addition_of}
 use Rattle.pairs.specs.Pairs.{pair_number}
 use Rattle.pairs.specs.declared.PairTable.TheVariants.{Ordered}
-use Rattle.pairs.proofs.Passes.{sized, sized-ordered, Stretching, stretching_start, stretching_next, stretching_done}
+use Rattle.pairs.proofs.Passes.{sized, Stretching}
 use Rattle.pairs.proofs.add_inside.Given as goal
 
 abbrev pub invariant-loop-place : goal.invariant-loop-place

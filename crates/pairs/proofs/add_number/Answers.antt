@@ -1,7 +1,6 @@
 use native.Mathlib.Omega.{arith}
 use Rattle.pairs.proofs.Passes.{added_by}
 use Rattle.kerning.specs.Additions.{add_all}
-use borrow.Author.Rules.{rules}
 use Rattle.pairs.proofs.add_number.Goals as goal
 
 pub returns-in_default : goal.returns-in_default

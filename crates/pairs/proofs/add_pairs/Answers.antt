@@ -1,12 +1,5 @@
-use Prim.Native.Nat.{◌-◌}
-use mathlib.Core.Path.{◌∙◌, ap}
 use native.Mathlib.Omega.{arith}
-use lib.ListN.{length}
-use borrow.Author.Rules.{rules}
-use Rattle.kerning.proofs.Adding.{length-add_all}
-use Rattle.pairs.specs.Pass.{counts}
-use Rattle.pairs.specs.Pairs.{pair_number}
-use Rattle.pairs.proofs.Passes.{sized, Joining, joining_start, joining_next, joining_less, joining_done, joining_small, joining_long, joining_longer}
+use Rattle.pairs.proofs.Passes.{sized, joining_start, joining_next, joining_less, joining_done, joining_small, joining_long, joining_longer}
 use Rattle.pairs.proofs.add_pairs.Goals as goal
 
 pub overflow_add-before : goal.overflow_add-before

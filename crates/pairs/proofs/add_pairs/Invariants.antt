@@ -1,12 +1,7 @@
 use Prim.Native.Nat.{◌-◌}
-use mathlib.Core.Path.{◌∙◌, ap}
-use native.Mathlib.Omega.{arith}
-use lib.ListN.{length}
-use borrow.Author.Rules.{rules}
-use Rattle.kerning.proofs.Adding.{length-add_all}
 use Rattle.pairs.specs.Pass.{counts}
 use Rattle.pairs.specs.Pairs.{pair_number}
-use Rattle.pairs.proofs.Passes.{sized, Joining, joining_start, joining_next, joining_less, joining_done, joining_small, joining_long, joining_longer}
+use Rattle.pairs.proofs.Passes.{Joining}
 use Rattle.pairs.proofs.add_pairs.Given as goal
 
 abbrev pub invariant-loop-from : goal.invariant-loop-from

@@ -1,6 +1,4 @@
-use borrow.Author.Rules.{rules}
 use mathlib.Core.Path.{sym, ◌∙◌}
-use borrow.Author.Tests.{not-true, not-false}
 use Rattle.pairs.proofs.Passes.{plain-ordered, plain-classes}
 use Rattle.pairs.proofs.add_stretch.Goals as goal
 

@@ -1,6 +1,4 @@
-use borrow.Author.Tests.{not-true, not-false}
 use Rattle.pairs.proofs.Passes.{barred_not, barred_ready, barred-short, barred_tupled}
-use borrow.Author.Rules.{rules}
 use Rattle.pairs.proofs.barred.Goals as goal
 
 pub returns-then-not-tupled : goal.returns-then-not-tupled

@@ -1,5 +1,4 @@
 use Rattle.pairs.proofs.Laws.{class-at, class-nothing}
-use borrow.Author.Rules.{rules}
 use Rattle.pairs.proofs.class_number.Goals as goal
 
 pub returns-in-At : goal.returns-in-At

@@ -1,6 +1,5 @@
 use Rattle.pairs.specs.Pairs.{classes_kerx}
 use mathlib.Core.Path.{sym, ◌∙◌}
-use borrow.Author.Rules.{rules}
 use Rattle.pairs.proofs.classes_kerx.Goals as goal
 
 pub returns-in_default : goal.returns-in_default

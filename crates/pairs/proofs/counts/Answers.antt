@@ -1,4 +1,3 @@
-use borrow.Author.Rules.{rules}
 use Rattle.pairs.proofs.counts.Goals as goal
 
 pub returns-in-Joined : goal.returns-in-Joined

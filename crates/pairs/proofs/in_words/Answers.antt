@@ -1,6 +1,5 @@
 use mathlib.Core.Path.{sym, ◌∙◌}
 use Rattle.pairs.specs.Work.{in_words}
-use borrow.Author.Rules.{rules}
 use Rattle.pairs.proofs.in_words.Goals as goal
 
 pub returns-in-Bytes : goal.returns-in-Bytes

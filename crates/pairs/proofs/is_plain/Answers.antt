@@ -1,5 +1,4 @@
 use Rattle.pairs.specs.Work.{is_plain}
-use borrow.Author.Rules.{rules}
 use Rattle.pairs.proofs.is_plain.Goals as goal
 
 pub returns-in-Ordered : goal.returns-in-Ordered

@@ -1,10 +1,5 @@
-use Prim.Native.Nat.{◌-◌}
 use mathlib.Core.Path.{sym, ◌∙◌}
-use mathlib.Core.Bool.{true}
-use native.Mathlib.Omega.{arith}
-use borrow.Author.Rules.{rules}
-use Rattle.pairs.specs.Pass.{counts}
-use Rattle.pairs.proofs.Scans.{Scanning, scanning_start, scanning_next, scanning_here, scanning_done}
+use Rattle.pairs.proofs.Scans.{scanning_start, scanning_next, scanning_here, scanning_done}
 use Rattle.pairs.proofs.next_counted.Goals as goal
 
 pub loop-place-init : goal.loop-place-init

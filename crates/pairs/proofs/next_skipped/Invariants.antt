@@ -1,12 +1,8 @@
 use Prim.Native.Nat.{◌-◌}
-use mathlib.Core.Path.{sym, ◌∙◌}
 use mathlib.Core.Bool.{false}
-use native.Mathlib.Omega.{arith}
-use borrow.Author.Rules.{rules}
-use borrow.Author.Tests.{not-true, not-false}
 use Rattle.kerning.specs.declared.choices.PairRule.TheVariants.{Joined}
 use Rattle.pairs.specs.Pass.{counts}
-use Rattle.pairs.proofs.Scans.{Scanning, scanning_start, scanning_next, scanning_here, scanning_done, none-skipped, by_rule}
+use Rattle.pairs.proofs.Scans.{Scanning}
 use Rattle.pairs.proofs.next_skipped.Given as goal
 
 abbrev pub invariant-loop-place : goal.invariant-loop-place

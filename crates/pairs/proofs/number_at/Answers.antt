@@ -1,5 +1,4 @@
 use Rattle.pairs.proofs.Laws.{number_short, number_got}
-use borrow.Author.Rules.{rules}
 use Rattle.pairs.proofs.number_at.Goals as goal
 
 pub returns-in_default : goal.returns-in_default

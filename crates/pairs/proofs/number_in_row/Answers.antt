@@ -1,5 +1,4 @@
 use Rattle.pairs.proofs.Laws.{row_at, row-nothing}
-use borrow.Author.Rules.{rules}
 use Rattle.pairs.proofs.number_in_row.Goals as goal
 
 pub returns-in-At : goal.returns-in-At

@@ -1,5 +1,4 @@
 use Rattle.pairs.specs.Pairs.{pair_number}
-use borrow.Author.Rules.{rules}
 use Rattle.pairs.proofs.number_of.Goals as goal
 
 pub returns-in-Ordered : goal.returns-in-Ordered

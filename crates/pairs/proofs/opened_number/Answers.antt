@@ -1,6 +1,5 @@
 use mathlib.Core.Path.{sym, ◌∙◌}
 use Rattle.pairs.specs.Work.{opened_number}
-use borrow.Author.Rules.{rules}
 use Rattle.pairs.proofs.opened_number.Goals as goal
 
 pub returns-in_default : goal.returns-in_default

@@ -1,6 +1,5 @@
 use Rattle.pairs.specs.Pairs.{ordered_kerx}
 use mathlib.Core.Path.{sym, ◌∙◌}
-use borrow.Author.Rules.{rules}
 use Rattle.pairs.proofs.ordered_kerx.Goals as goal
 
 pub returns-in_default : goal.returns-in_default

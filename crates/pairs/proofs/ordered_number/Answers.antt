@@ -1,5 +1,4 @@
 use Rattle.pairs.proofs.Laws.{ordered_at, ordered-absent, ordered-cut}
-use borrow.Author.Rules.{rules}
 use Rattle.pairs.proofs.ordered_number.Goals as goal
 
 pub returns-in-At : goal.returns-in-At

@@ -1,6 +1,5 @@
 use Rattle.pairs.specs.Reply.{reply_of}
 use Rattle.pairs.proofs.Passes.{reply-number, reply-nothing}
-use borrow.Author.Rules.{rules}
 use Rattle.pairs.proofs.reply.Goals as goal
 
 pub returns-in-By : goal.returns-in-By

@@ -1,4 +1,3 @@
-use borrow.Author.Rules.{rules}
 use Rattle.pairs.specs.Pass.{worked_by}
 use Rattle.kerning.specs.Additions.{add_all}
 use Rattle.pairs.proofs.work.Goals as goal

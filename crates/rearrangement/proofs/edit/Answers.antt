@@ -1,6 +1,4 @@
-use mathlib.Core.Path.{refl}
 use Rattle.line.specs.Changes.{apply, apply_all}
-use borrow.Author.Rules.{rules}
 use Rattle.rearrangement.proofs.edit.Goals as goal
 
 pub returns-in_default : goal.returns-in_default

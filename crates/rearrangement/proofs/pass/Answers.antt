@@ -7,7 +7,6 @@ use Rattle.machine.specs.Work.{work_leaves}
 use Rattle.machine.proofs.Calls.{call_refused, call_works, taken-line, same_answer, same_left}
 use Rattle.rearrangement.specs.Calls.{rearrangement}
 use native.Mathlib.Omega.{arith}
-use borrow.Author.Rules.{rules}
 use Rattle.rearrangement.proofs.pass.Goals as goal
 
 pub returns-in-Refused : goal.returns-in-Refused

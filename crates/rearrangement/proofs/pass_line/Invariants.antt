@@ -1,8 +1,6 @@
 use Prim.Native.Nat.{◌+◌, ◌*◌, ◌-◌}
-use native.Mathlib.Omega.{arith}
-use borrow.Author.Rules.{rules}
 use Rattle.line.specs.Line.{line_of}
-use Rattle.rearrangement.proofs.Passes.{place_after, Going, Staying, still_here, moved_on, going_start, going_lies, going_ended, going_less, going_goes, going_end}
+use Rattle.rearrangement.proofs.Passes.{place_after, Going, Staying}
 use Rattle.rearrangement.proofs.pass_line.Given as goal
 
 abbrev pub invariant-loop-stays : goal.invariant-loop-stays

@@ -1,7 +1,4 @@
-use Prim.Native.Nat.{◌-◌}
-use native.Mathlib.Omega.{arith}
-use lib.ListN.{length}
-use Rattle.reel.proofs.Adding.{Taking, taking_start, taking_next, taking_short, taking_done}
+use Rattle.reel.proofs.Adding.{taking_start, taking_next, taking_short, taking_done}
 use Rattle.reel.proofs.adds_up.Goals as goal
 
 pub loop-i-init : goal.loop-i-init

@@ -1,7 +1,6 @@
 use Prim.Native.Nat.{◌-◌}
-use native.Mathlib.Omega.{arith}
 use lib.ListN.{length}
-use Rattle.reel.proofs.Adding.{Taking, taking_start, taking_next, taking_short, taking_done}
+use Rattle.reel.proofs.Adding.{Taking}
 use Rattle.reel.proofs.adds_up.Given as goal
 
 abbrev pub invariant-loop-i : goal.invariant-loop-i

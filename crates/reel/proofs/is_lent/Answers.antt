@@ -1,4 +1,3 @@
-use borrow.Author.Rules.{rules}
 use Rattle.reel.proofs.Testing.{many_lines, other-characters, other-used, other-answers, other-heads, other-glyphs, other-tags, homes_tell}
 use Rattle.reel.proofs.is_lent.Goals as goal
 

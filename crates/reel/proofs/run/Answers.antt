@@ -1,4 +1,3 @@
-use borrow.Author.Rules.{rules}
 use Rattle.reel.proofs.Calls.{no_reel, is_reel, reel-ran}
 use mathlib.Core.Path.{ap}
 use mathlib.Core.Bool.{not}

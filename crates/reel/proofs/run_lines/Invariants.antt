@@ -1,13 +1,8 @@
-use mathlib.Core.Path.{◌≡◌, refl, sym, ◌∙◌}
 use Prim.Native.Nat.{◌-◌}
-use native.Mathlib.Omega.{arith}
 use lib.ListN.{length}
-use borrow.Author.Rules.{rules}
 use Rattle.reel.specs.Reel.{reel_of}
 use Rattle.reel.specs.Morx.{run_by}
-use Rattle.reel.proofs.Exact.{lent_of}
-use Rattle.reel.proofs.Going.{Going, going_start, going_next, inside, at-fits, from_fits}
-use Rattle.reel.proofs.Calls.{all-ran}
+use Rattle.reel.proofs.Going.{Going}
 use Rattle.reel.proofs.run_lines.Given as goal
 
 abbrev pub invariant-loop-i : goal.invariant-loop-i

@@ -1,5 +1,4 @@
 use Rattle.reel.proofs.Calls.{part_ran}
-use borrow.Author.Rules.{rules}
 use Rattle.reel.proofs.run_part.Goals as goal
 
 pub returns : goal.returns

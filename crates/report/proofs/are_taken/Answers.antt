@@ -1,9 +1,6 @@
-use Prim.Native.Nat.{◌-◌}
 use native.Mathlib.Omega.{arith}
-use lib.ListN.{length}
 use borrow.Author.Rules.{rules}
-use Rattle.report.specs.Report.{lines_of}
-use Rattle.report.proofs.Scanning.{Scanned, scanned-start, glyphs-inside, along-inside, scanned_fails, scanned-next, scanned-done}
+use Rattle.report.proofs.Scanning.{scanned-start, glyphs-inside, along-inside, scanned_fails, scanned-next, scanned-done}
 use mathlib.Core.Path.{ap}
 use mathlib.Core.Bool.{not}
 use Rattle.report.proofs.are_taken.Goals as goal

@@ -1,5 +1,4 @@
 use Rattle.report.proofs.Testing.{many_lines, other-characters, other-used, other-sums, other-largest, other-smallest, other-glyphs, other-tags, other-along, homes_tell}
-use borrow.Author.Rules.{rules}
 use Rattle.report.proofs.is_lent.Goals as goal
 
 pub returns-then-lines-gt-LINES : goal.returns-then-lines-gt-LINES

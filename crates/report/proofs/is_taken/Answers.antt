@@ -1,5 +1,4 @@
 use Rattle.report.proofs.Scanning.{taken-there}
-use borrow.Author.Rules.{rules}
 use Rattle.report.proofs.is_taken.Goals as goal
 
 pub returns : goal.returns

@@ -1,5 +1,4 @@
 use Rattle.report.proofs.Sums.{back, larger-back, none_beside, first_beside, more_beside}
-use borrow.Author.Rules.{rules}
 use mathlib.Core.Path.{ap}
 use mathlib.Core.Bool.{not}
 use Rattle.report.proofs.largest_beside.Goals as goal

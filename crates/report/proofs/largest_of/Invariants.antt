@@ -1,10 +1,6 @@
 use Prim.Native.Nat.{◌-◌}
-use native.Mathlib.Omega.{arith}
-use borrow.Author.Rules.{rules}
-use mir.Syntax.{w64}
-use mir.Val.{to_z}
 use Rattle.report.specs.Numbers.{larger}
-use Rattle.report.proofs.Sums.{Choosing, choosing-start, choosing-goes, larger-one, largest-none, largest-done}
+use Rattle.report.proofs.Sums.{Choosing}
 use Rattle.report.proofs.largest_of.Given as goal
 
 abbrev pub invariant-loop-place : goal.invariant-loop-place

@@ -1,5 +1,4 @@
 use Rattle.report.proofs.Calls.{no_reel, is_cut, no_line, all_pass}
-use borrow.Author.Rules.{rules}
 use mathlib.Core.Path.{ap}
 use mathlib.Core.Bool.{not}
 use Rattle.report.proofs.refuse_report.Goals as goal

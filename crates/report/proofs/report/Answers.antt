@@ -1,6 +1,5 @@
 use mathlib.Core.Path.{sym, ◌∙◌}
 use Rattle.report.proofs.Calls.{refused_leaves, is_ready_lem, passed-leaves}
-use borrow.Author.Rules.{rules}
 use Rattle.report.proofs.report.Goals as goal
 
 pub returns-in-Refused : goal.returns-in-Refused

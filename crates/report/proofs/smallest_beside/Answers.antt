@@ -1,5 +1,4 @@
 use Rattle.report.proofs.Sums.{back, smaller-back, none_beside, first_beside, more_beside}
-use borrow.Author.Rules.{rules}
 use mathlib.Core.Path.{ap}
 use mathlib.Core.Bool.{not}
 use Rattle.report.proofs.smallest_beside.Goals as goal

@@ -1,10 +1,5 @@
-use Prim.Native.Nat.{◌-◌}
-use native.Mathlib.Omega.{arith}
-use borrow.Author.Rules.{rules}
-use mir.Syntax.{w64}
-use mir.Val.{to_z}
 use Rattle.report.specs.Numbers.{smaller}
-use Rattle.report.proofs.Sums.{Choosing, choosing-start, choosing-goes, smaller-one, smallest-none, smallest-done}
+use Rattle.report.proofs.Sums.{choosing-start, choosing-goes, smaller-one, smallest-none, smallest-done}
 use Rattle.report.proofs.smallest_of.Goals as goal
 
 pub returns-then-used-eq0 : goal.returns-then-used-eq0

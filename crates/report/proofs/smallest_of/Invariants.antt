@@ -1,10 +1,6 @@
 use Prim.Native.Nat.{◌-◌}
-use native.Mathlib.Omega.{arith}
-use borrow.Author.Rules.{rules}
-use mir.Syntax.{w64}
-use mir.Val.{to_z}
 use Rattle.report.specs.Numbers.{smaller}
-use Rattle.report.proofs.Sums.{Choosing, choosing-start, choosing-goes, smaller-one, smallest-none, smallest-done}
+use Rattle.report.proofs.Sums.{Choosing}
 use Rattle.report.proofs.smallest_of.Given as goal
 
 abbrev pub invariant-loop-place : goal.invariant-loop-place

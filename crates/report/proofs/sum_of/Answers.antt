@@ -1,8 +1,4 @@
-use mir.Syntax.{w64}
-use mir.Val.{to_z}
-use Prim.Native.Nat.{◌-◌}
-use native.Mathlib.Omega.{arith}
-use Rattle.report.proofs.Sums.{Adding, adding-start, adding-fits, adding-next, adding-done}
+use Rattle.report.proofs.Sums.{adding-start, adding-fits, adding-next, adding-done}
 use Rattle.report.proofs.sum_of.Goals as goal
 
 pub loop-place-init : goal.loop-place-init

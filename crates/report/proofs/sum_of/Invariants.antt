@@ -1,8 +1,5 @@
-use mir.Syntax.{w64}
-use mir.Val.{to_z}
 use Prim.Native.Nat.{◌-◌}
-use native.Mathlib.Omega.{arith}
-use Rattle.report.proofs.Sums.{Adding, adding-start, adding-fits, adding-next, adding-done}
+use Rattle.report.proofs.Sums.{Adding}
 use Rattle.report.proofs.sum_of.Given as goal
 
 abbrev pub invariant-loop-place : goal.invariant-loop-place

@@ -1,10 +1,5 @@
-use Prim.Native.Nat.{◌-◌}
 use native.Mathlib.Omega.{arith}
-use mir.Syntax.{w64}
-use mir.Val.{to_z}
-use lib.ListN.{length}
-use borrow.Author.Rules.{rules}
-use Rattle.report.proofs.Writing.{Filled, filled_start, here-fits, sum_may, choose_may, whole-fits, filled_next, filled_all}
+use Rattle.report.proofs.Writing.{filled_start, here-fits, sum_may, choose_may, whole-fits, filled_next, filled_all}
 use Rattle.report.proofs.write_page.Goals as goal
 
 pub loop-line-init : goal.loop-line-init

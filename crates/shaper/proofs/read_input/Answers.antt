@@ -1,7 +1,6 @@
 use mathlib.Core.Path.{sym, ◌∙◌}
 use borrow.Author.Tests.{lt-ltb, le-ltb, eq-eqb, ne_eqb}
 use Rattle.shaper.specs.Shaper.{shaper_table, shaper_room, input_of}
-use borrow.Author.Rules.{rules}
 use Rattle.shaper.proofs.read_input.Goals as goal
 
 pub returns-in_default : goal.returns-in_default

@@ -1,7 +1,6 @@
 use native.Mathlib.Omega.{arith}
 use mathlib.Core.Path.{sym}
 use Rattle.shaper.proofs.Shaping.{taken, lent_fits, lent_homes, lent_limited, shapes}
-use borrow.Author.Rules.{rules}
 use Rattle.shaper.proofs.shape_input.Goals as goal
 
 pub slice_bounds-table-count : goal.slice_bounds-table-count

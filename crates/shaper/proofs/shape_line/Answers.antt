@@ -1,7 +1,6 @@
 use native.Mathlib.Omega.{arith}
 use Rattle.line.proofs.Room.{room_small}
 use Rattle.shaper.proofs.Shaping.{started}
-use borrow.Author.Rules.{rules}
 use Rattle.shaper.proofs.shape_line.Goals as goal
 
 -- LOST slice-aggregate-run

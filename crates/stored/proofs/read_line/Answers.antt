@@ -1,5 +1,4 @@
 use Rattle.stored.proofs.Calls.{read-refused, length-inside, characters-inside, places-inside, glyphs_fit, tags_fit, homes-inside, homes_fit, read_done}
-use borrow.Author.Rules.{rules}
 use Rattle.stored.proofs.read_line.Goals as goal
 
 pub returns-in-Refused : goal.returns-in-Refused

@@ -2,7 +2,6 @@ use Rattle.std.proofs.Common.{ap}
 use mathlib.Core.Bool.{not}
 use Rattle.stored.proofs.Calls.{length-there, characters-there, read_long, read_other, read_none, read_unpaired, read_unlimited, read_over, read_crowded, read_passed}
 use Rattle.answers.specs.Limits.{room_limit}
-use borrow.Author.Rules.{rules}
 use Rattle.stored.proofs.refuse_read.Goals as goal
 
 pub returns-in-Refused : goal.returns-in-Refused

@@ -1,5 +1,4 @@
 use Rattle.stored.proofs.Calls.{store_invalid, store_used, store_characters, store_small, store_passed}
-use borrow.Author.Rules.{rules}
 use Rattle.stored.proofs.refuse_store.Goals as goal
 
 pub returns-then-not-takes : goal.returns-then-not-takes

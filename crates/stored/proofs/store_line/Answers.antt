@@ -1,5 +1,4 @@
 use Rattle.stored.proofs.Calls.{store_refused, store_fits, store_done}
-use borrow.Author.Rules.{rules}
 use Rattle.stored.proofs.store_line.Goals as goal
 
 pub returns-in-Refused : goal.returns-in-Refused

@@ -1,5 +1,4 @@
 use Rattle.anchor_machine.specs.Machine.{acted}
-use borrow.Author.Rules.{rules}
 use Rattle.anchor_machine.proofs.AnchorState.act.Goals as goal
 
 pub returns : goal.returns

@@ -2,7 +2,6 @@ use mathlib.Core.Path.{subst⁻¹}
 use Rattle.anchor_machine.specs.Small.{IsOffset}
 use Rattle.anchor_machine.specs.declared.AnchorStep.{AnchorStep}
 use Rattle.anchor_machine.proofs.Acting.{next-sound}
-use borrow.Author.Rules.{rules}
 use Rattle.anchor_machine.proofs.AnchorState.go.Goals as goal
 
 pub put-requires : goal.put-requires

@@ -1,6 +1,5 @@
 use mathlib.Core.Path.{sym, ◌∙◌}
 use Rattle.anchor_machine.specs.Machine.{marked}
-use borrow.Author.Rules.{rules}
 use Rattle.anchor_machine.proofs.AnchorState.marked.Goals as goal
 
 pub returns-then-is_set : goal.returns-then-is_set

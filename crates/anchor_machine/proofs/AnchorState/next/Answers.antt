@@ -3,7 +3,6 @@ use mathlib.Core.Path.{◌∙◌}
 use Rattle.state_tables.specs.Classes.{class_of}
 use Rattle.state_tables.proofs.Laws.{entry_payload}
 use Rattle.anchor_machine.proofs.Acting.{next-ended, next-acts}
-use borrow.Author.Rules.{rules}
 use Rattle.anchor_machine.proofs.AnchorState.next.Goals as goal
 
 pub returns-in_default : goal.returns-in_default

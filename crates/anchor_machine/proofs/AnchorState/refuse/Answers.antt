@@ -1,7 +1,6 @@
 use Rattle.anchor_machine.proofs.Steps.{step-table, step_anchor, past_anchor}
-use borrow.Author.Tests.{lt-ltb, le-ltb, not-true, not-false}
+use borrow.Author.Tests.{lt-ltb, le-ltb}
 use mathlib.Core.Path.{sym, ◌∙◌}
-use borrow.Author.Rules.{rules}
 use Rattle.anchor_machine.proofs.AnchorState.refuse.Goals as goal
 
 pub returns-in-Refused : goal.returns-in-Refused

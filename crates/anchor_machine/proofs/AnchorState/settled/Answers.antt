@@ -1,5 +1,4 @@
 use Rattle.anchor_machine.specs.Machine.{settled}
-use borrow.Author.Rules.{rules}
 use Rattle.anchor_machine.proofs.AnchorState.settled.Goals as goal
 
 pub returns : goal.returns

@@ -1,6 +1,5 @@
 use mathlib.Core.Path.{sym, ◌∙◌}
 use Rattle.anchor_machine.specs.Machine.{settled_by}
-use borrow.Author.Rules.{rules}
 use Rattle.anchor_machine.proofs.AnchorState.settled_by.Goals as goal
 
 pub returns-then-are_short : goal.returns-then-are_short

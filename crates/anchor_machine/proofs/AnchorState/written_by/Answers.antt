@@ -2,7 +2,6 @@ use mathlib.Core.Path.{subst⁻¹}
 use Rattle.anchor_machine.specs.Machine.{written_by}
 use Rattle.anchor_machine.specs.Small.{IsPoint}
 use Rattle.anchor_machine.proofs.Acting.{point_is}
-use borrow.Author.Rules.{rules}
 use Rattle.anchor_machine.proofs.AnchorState.written_by.Goals as goal
 
 pub offset-requires : goal.offset-requires

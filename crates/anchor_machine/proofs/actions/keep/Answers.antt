@@ -1,5 +1,4 @@
 use Rattle.anchor_machine.proofs.Acting.{placed_for}
-use borrow.Author.Rules.{rules}
 use Rattle.anchor_machine.proofs.actions.keep.Goals as goal
 
 pub returns-then-kept-glyph : goal.returns-then-kept-glyph

@@ -1,14 +1,9 @@
 use Rattle.line.proofs.Room.{room_small}
-use Prim.Native.Nat.{◌-◌}
 use mathlib.Core.Path.{sym, ◌∙◌}
 use native.Mathlib.Omega.{arith}
-use borrow.Author.Tests.{not-true, not-false}
-use borrow.Author.Rules.{rules}
 use Rattle.state_tables.proofs.Laws.{entry_payload}
-use Rattle.anchors.specs.Opened.{Placed}
-use Rattle.anchor_machine.specs.Machine.{rest}
 use Rattle.anchor_machine.proofs.Writing.{wrote_long}
-use Rattle.anchor_machine.proofs.Passes.{place_after, Going, Staying, still_here, moved_on, going_start, going_lies, going_ended, going_small, going_stops, going_less, going_goes, going_end}
+use Rattle.anchor_machine.proofs.Passes.{still_here, moved_on, going_start, going_lies, going_ended, going_small, going_stops, going_less, going_goes, going_end}
 use Rattle.anchor_machine.proofs.actions.pass_line.Goals as goal
 
 pub loop-place-init : goal.loop-place-init

@@ -1,6 +1,5 @@
 use native.Mathlib.Omega.{arith}
 use Rattle.anchors.proofs.Openings.{placed}
-use borrow.Author.Rules.{rules}
 use Rattle.anchor_machine.proofs.actions.place_of.Goals as goal
 
 pub returns : goal.returns

@@ -1,6 +1,5 @@
 use mathlib.Core.Path.{refl, ◌∙◌}
 use Rattle.anchor_machine.proofs.Acting.{points_are, points-write}
-use borrow.Author.Rules.{rules}
 use Rattle.anchor_machine.proofs.actions.search.Goals as goal
 
 pub offset-requires : goal.offset-requires

@@ -1,7 +1,6 @@
 use mathlib.Core.Path.{refl, ◌∙◌}
 use Rattle.anchors.proofs.Openings.{words-lie, words_point}
 use Rattle.anchor_machine.proofs.Acting.{points_are, points-write}
-use borrow.Author.Rules.{rules}
 use Rattle.anchor_machine.proofs.actions.write.Goals as goal
 
 pub point_in-marked-requires : goal.point_in-marked-requires

@@ -1,5 +1,4 @@
 use Rattle.anchor_machine.specs.Machine.{written_by}
-use borrow.Author.Rules.{rules}
 use Rattle.anchor_machine.proofs.actions.write_by.Goals as goal
 
 pub returns-in-None : goal.returns-in-None

@@ -1,5 +1,4 @@
 use Rattle.anchors.specs.Opened.{anchors_in}
-use borrow.Author.Rules.{rules}
 use Rattle.anchors.proofs.opened.open_units.Goals as goal
 
 pub returns-in-Words : goal.returns-in-Words

@@ -1,5 +1,4 @@
 use mathlib.Core.Path.{sym}
-use borrow.Author.Rules.{rules}
 use Rattle.anchors.proofs.opened.open_words.Goals as goal
 
 pub returns-in-Array : goal.returns-in-Array

@@ -1,7 +1,6 @@
 use mathlib.Core.Path.{sym, ◌∙◌}
 use native.Mathlib.Omega.{arith}
 use Rattle.parse.proofs.Laws.{u32_value}
-use borrow.Author.Rules.{rules}
 use Rattle.anchors.proofs.opened.place_at.Goals as goal
 
 pub returns-in_default : goal.returns-in_default

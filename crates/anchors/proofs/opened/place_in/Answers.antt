@@ -2,7 +2,6 @@ use mathlib.Core.Path.{◌∙◌, ap}
 use Rattle.anchors.specs.Opened.{place_of}
 use Rattle.anchors.specs.declared.Points.{Points}
 use Rattle.anchors.proofs.Openings.{searched-points}
-use borrow.Author.Rules.{rules}
 use Rattle.anchors.proofs.opened.place_in.Goals as goal
 
 pub returns-in-Searched : goal.returns-in-Searched

@@ -1,5 +1,4 @@
 use Rattle.contextual.specs.Contextual.{acted}
-use borrow.Author.Rules.{rules}
 use Rattle.contextual.proofs.ContextualState.act.Goals as goal
 
 pub returns : goal.returns

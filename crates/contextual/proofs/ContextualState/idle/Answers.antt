@@ -1,4 +1,3 @@
-use borrow.Author.Tests.{not-true, not-false}
 use Rattle.contextual.proofs.ContextualState.idle.Goals as goal
 
 pub returns-then-not-ends : goal.returns-then-not-ends

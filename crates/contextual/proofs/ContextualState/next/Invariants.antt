@@ -1,12 +1,9 @@
 use mathlib.Core.List.{[]}
-use native.Mathlib.Omega.{arith}
-use borrow.Author.Rules.{rules}
 use Rattle.state_tables.specs.Opened.{class_by}
-use Rattle.state_tables.proofs.Laws.{entry_payload}
 use Rattle.machine.specs.Entry.{class_here}
 use Rattle.indexes.specs.Index.{classes_by}
 use Rattle.contextual.specs.Contextual.{ran}
-use Rattle.contextual.proofs.Runs.{Running, running_start, running_out, running_ended, running_stops, running_goes, next-idle, next-over}
+use Rattle.contextual.proofs.Runs.{Running}
 use Rattle.contextual.proofs.ContextualState.next.Given as goal
 
 abbrev pub invariant-loop-left : goal.invariant-loop-left

@@ -1,5 +1,4 @@
 use Rattle.contextual.proofs.Calls.{step-table, step_line, step-place, step-state, step-head, step-passed}
-use borrow.Author.Rules.{rules}
 use Rattle.contextual.proofs.ContextualState.refuse_step.Goals as goal
 
 pub returns-in-Refused : goal.returns-in-Refused

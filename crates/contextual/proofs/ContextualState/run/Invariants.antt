@@ -1,12 +1,7 @@
-use mathlib.Core.Path.{sym, ◌∙◌}
-use native.Mathlib.Omega.{arith}
-use borrow.Author.Tests.{not-true, not-false}
-use borrow.Author.Rules.{rules}
 use Rattle.state_tables.specs.Opened.{class_by}
 use Rattle.indexes.specs.Index.{classes_by}
 use Rattle.contextual.specs.Work.{ran_all}
-use Rattle.contextual.proofs.Classes.{own-lies, memory_start}
-use Rattle.contextual.proofs.Passes.{Going, going_start, going_out, going_stops, going_goes, own-ends}
+use Rattle.contextual.proofs.Passes.{Going}
 use Rattle.contextual.proofs.ContextualState.run.Given as goal
 
 abbrev pub invariant-loop-left : goal.invariant-loop-left

@@ -1,5 +1,4 @@
 use native.Mathlib.Omega.{arith}
-use borrow.Author.Rules.{rules}
 use mathlib.Core.Path.{refl, sym, ◌∙◌}
 use Rattle.machine.proofs.Calls.{stepped_line, stepped-inside}
 use Rattle.contextual.proofs.Calls.{step_refused, step_headless, step-worked}

@@ -2,7 +2,6 @@ use mathlib.Core.Path.{refl, ap}
 use Rattle.kerning.specs.declared.choices.Choices.{Choices}
 use Rattle.anchor_machine.specs.Writes.{write_x, write_y, write_back}
 use Rattle.firmware.proofs.Anchoring.{step_is, step-writes, answer_is, state_is, advance_is}
-use borrow.Author.Rules.{rules}
 use Rattle.firmware.proofs.anchored.aat_anchor_step.Goals as goal
 
 pub returns : goal.returns

@@ -3,7 +3,6 @@ use Rattle.answers.specs.Numbers.{number_of}
 use Rattle.line.specs.Line.{line_of}
 use Rattle.anchor_machine.specs.Writes.{write_x, write_y, write_back}
 use Rattle.firmware.proofs.Anchoring.{pass-answers, pass-adds, pass-writes}
-use borrow.Author.Rules.{rules}
 use Rattle.firmware.proofs.anchored.aat_kerx_pass_anchored.Goals as goal
 
 pub returns : goal.returns

@@ -4,7 +4,6 @@ use Rattle.kerning_lists.specs.declared.Run.{Run}
 use Rattle.kerx.specs.Anchored.{AnchoredRan}
 use Rattle.firmware.proofs.Stepping.{numbered, kept, put, run_is}
 use Rattle.firmware.proofs.Anchoring.{run-known}
-use borrow.Author.Rules.{rules}
 use Rattle.firmware.proofs.anchored.aat_kerx_run_anchored.Goals as goal
 
 pub returns-then-is_refused : goal.returns-then-is_refused

@@ -1,6 +1,5 @@
 use borrow.Author.Tests.{lt-ltb, le-ltb}
 use Rattle.firmware.specs.Anchored.{anchor_from}
-use borrow.Author.Rules.{rules}
 use Rattle.firmware.proofs.anchored.anchor_from.Goals as goal
 
 pub returns-then-state-gt-WIDEST : goal.returns-then-state-gt-WIDEST

@@ -2,7 +2,6 @@ use mathlib.Core.Path.{◌≡◌, refl}
 use Rattle.anchor_machine.specs.declared.AnchorStep.{AnchorStep}
 use Rattle.firmware.specs.Anchored.{anchor_slots}
 use Rattle.firmware.proofs.Stepping.{kept, put}
-use borrow.Author.Rules.{rules}
 use Rattle.firmware.proofs.anchored.put_step.Goals as goal
 
 pub returns-then-is_refused : goal.returns-then-is_refused

@@ -1,5 +1,4 @@
 use mathlib.Core.Path.{ap, ◌∙◌}
-use borrow.Author.Rules.{rules}
 use Rattle.answers.specs.Numbers.{number_of}
 use Rattle.line.specs.Line.{line_of}
 use Rattle.kerning_lists.proofs.Families.{passes_same}

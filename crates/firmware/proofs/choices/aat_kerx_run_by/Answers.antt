@@ -1,7 +1,6 @@
 use Rattle.firmware.proofs.Stepping.{numbered, kept, put, run_is}
 use Rattle.kerning_lists.specs.declared.Run.{Run}
 use mathlib.Core.Path.{refl}
-use borrow.Author.Rules.{rules}
 use Rattle.line.specs.Line.{line_of}
 use Rattle.kerning_lists.proofs.Families.{runs_same}
 use Rattle.kerx.specs.Kerx.{kerx}

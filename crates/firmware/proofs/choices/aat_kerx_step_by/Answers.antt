@@ -1,8 +1,6 @@
 use mathlib.Core.Path.{ap}
-use Rattle.kerning.specs.Choices.{choices_of}
 use Rattle.kerning.specs.declared.choices.Choices.{Choices}
 use Rattle.firmware.proofs.KernSteps.{answer_is, state_is, advance_is, kerx_is, kerx-added}
-use borrow.Author.Rules.{rules}
 use Rattle.firmware.proofs.choices.aat_kerx_step_by.Goals as goal
 
 pub returns : goal.returns

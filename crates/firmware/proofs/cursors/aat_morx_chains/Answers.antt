@@ -1,5 +1,4 @@
-use mathlib.Core.Path.{refl, sym, ◌∙◌}
-use borrow.Author.Rules.{rules}
+use mathlib.Core.Path.{sym, ◌∙◌}
 use Rattle.firmware.proofs.cursors.aat_morx_chains.Goals as goal
 
 pub returns-in-From : goal.returns-in-From

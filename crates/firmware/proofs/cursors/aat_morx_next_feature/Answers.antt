@@ -3,7 +3,6 @@ use Rattle.firmware.proofs.Lists.{feature_after_lem, leaves}
 use Rattle.firmware.specs.Cursors.{feature_cursor, feature_fields}
 use Rattle.chains.specs.Entries.{feature_answer}
 use mathlib.Core.Path.{refl}
-use borrow.Author.Rules.{rules}
 use Rattle.firmware.proofs.cursors.aat_morx_next_feature.Goals as goal
 
 pub returns-in-Next : goal.returns-in-Next

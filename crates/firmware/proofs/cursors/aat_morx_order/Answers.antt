@@ -1,6 +1,5 @@
 use mathlib.Core.Path.{refl, ◌∙◌, ap}
 use Rattle.chains.specs.Orders.{order_number}
-use borrow.Author.Rules.{rules}
 use Rattle.firmware.proofs.cursors.aat_morx_order.Goals as goal
 
 pub returns : goal.returns

@@ -1,6 +1,5 @@
 use Rattle.firmware.proofs.Lists.{reversed_is}
 use mathlib.Core.Path.{refl}
-use borrow.Author.Rules.{rules}
 use Rattle.firmware.proofs.cursors.aat_morx_should_reverse.Goals as goal
 
 pub returns-then-should_reverse : goal.returns-then-should_reverse

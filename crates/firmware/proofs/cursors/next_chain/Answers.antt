@@ -3,7 +3,6 @@ use Rattle.firmware.proofs.Lists.{chain_after_lem, leaves}
 use Rattle.firmware.specs.Cursors.{chain_cursor, chain_fields}
 use Rattle.chains.specs.Entries.{chain_answer}
 use mathlib.Core.Path.{refl}
-use borrow.Author.Rules.{rules}
 use Rattle.firmware.proofs.cursors.next_chain.Goals as goal
 
 pub returns-in-Next : goal.returns-in-Next

@@ -3,7 +3,6 @@ use Rattle.firmware.proofs.Lists.{subtable-after, leaves}
 use Rattle.firmware.specs.Cursors.{subtable_cursor, subtable_fields}
 use Rattle.chains.specs.Entries.{subtable_answer}
 use mathlib.Core.Path.{refl}
-use borrow.Author.Rules.{rules}
 use Rattle.firmware.proofs.cursors.next_subtable.Goals as goal
 
 pub returns-in-Next : goal.returns-in-Next

@@ -1,5 +1,3 @@
-use mathlib.Core.Path.{refl}
-use borrow.Author.Rules.{rules}
 use Rattle.firmware.proofs.cursors.put_chain.Goals as goal
 
 pub returns : goal.returns

@@ -2,8 +2,7 @@ use Rattle.firmware.proofs.Stepping.{numbered, kept, put}
 use Rattle.firmware.specs.Features.{run_of, leaves_of}
 use Rattle.morx.specs.declared.RunReply.{RunReply}
 use Rattle.morx.specs.Calls.{run_leaves}
-use mathlib.Core.Path.{◌∙◌, ap, refl}
-use borrow.Author.Rules.{rules}
+use mathlib.Core.Path.{ap, refl}
 use Rattle.firmware.proofs.features.run_of.Goals as goal
 
 pub returns-then-is_refused : goal.returns-then-is_refused

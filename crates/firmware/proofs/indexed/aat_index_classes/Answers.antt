@@ -2,7 +2,6 @@ use mathlib.Core.Path.{◌∙◌, ap}
 use Rattle.answers.specs.Numbers.{number_of}
 use Rattle.indexes.specs.Index.{Filled}
 use Rattle.firmware.proofs.Indexing.{fill_known}
-use borrow.Author.Rules.{rules}
 use Rattle.firmware.proofs.indexed.aat_index_classes.Goals as goal
 
 pub returns : goal.returns

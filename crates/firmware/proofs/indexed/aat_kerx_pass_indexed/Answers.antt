@@ -3,7 +3,6 @@ use Rattle.answers.specs.Numbers.{number_of}
 use Rattle.line.specs.Line.{line_of}
 use Rattle.anchor_machine.specs.Writes.{write_x, write_y, write_back}
 use Rattle.firmware.proofs.Indexing.{indexed-answers, indexed-adds, indexed-writes}
-use borrow.Author.Rules.{rules}
 use Rattle.firmware.proofs.indexed.aat_kerx_pass_indexed.Goals as goal
 
 pub returns : goal.returns

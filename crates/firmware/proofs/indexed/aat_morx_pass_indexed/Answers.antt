@@ -2,7 +2,6 @@ use Rattle.morx.specs.declared.PassReply.{PassReply}
 use Rattle.morx.specs.Indexed.{indexed_leaves}
 use Rattle.answers.specs.Numbers.{number_of}
 use mathlib.Core.Path.{◌∙◌, ap}
-use borrow.Author.Rules.{rules}
 use Rattle.firmware.proofs.indexed.aat_morx_pass_indexed.Goals as goal
 
 pub returns : goal.returns

@@ -4,7 +4,6 @@ use Rattle.firmware.specs.KernCursors.{reply_cursor, reply_fields}
 use Rattle.kerning_lists.specs.Cursors.{reply_answer}
 use Rattle.firmware.proofs.KernLists.{next-after}
 use Rattle.kerx.specs.Kerx.{kerx}
-use borrow.Author.Rules.{rules}
 use Rattle.firmware.proofs.kern_cursors.aat_kerx_next_subtable.Goals as goal
 
 pub returns : goal.returns

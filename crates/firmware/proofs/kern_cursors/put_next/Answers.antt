@@ -1,5 +1,3 @@
-use mathlib.Core.Path.{refl}
-use borrow.Author.Rules.{rules}
 use Rattle.firmware.proofs.kern_cursors.put_next.Goals as goal
 
 pub returns-in-Next : goal.returns-in-Next

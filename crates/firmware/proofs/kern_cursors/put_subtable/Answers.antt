@@ -1,4 +1,3 @@
-use borrow.Author.Rules.{rules}
 use Rattle.firmware.proofs.kern_cursors.put_subtable.Goals as goal
 
 pub returns : goal.returns

@@ -1,6 +1,5 @@
 use borrow.Author.Tests.{lt-ltb, le-ltb}
 use Rattle.firmware.specs.KernCursors.{version_from}
-use borrow.Author.Rules.{rules}
 use Rattle.firmware.proofs.kern_cursors.version_from.Goals as goal
 
 pub returns-then-number-gt-WIDEST : goal.returns-then-number-gt-WIDEST

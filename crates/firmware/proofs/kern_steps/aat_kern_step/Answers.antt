@@ -1,5 +1,4 @@
 use Rattle.firmware.proofs.KernSteps.{answer_is, state_is, advance_is, kern_is, kern-added}
-use borrow.Author.Rules.{rules}
 use Rattle.firmware.proofs.kern_steps.aat_kern_step.Goals as goal
 
 pub returns : goal.returns

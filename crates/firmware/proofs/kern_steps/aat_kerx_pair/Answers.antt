@@ -1,7 +1,6 @@
 use Rattle.firmware.proofs.KernPairs.{kerx-small}
 use Rattle.firmware.specs.Small.{IsSmall}
 use mathlib.Core.Path.{sym, subst}
-use borrow.Author.Rules.{rules}
 use Rattle.firmware.proofs.kern_steps.aat_kerx_pair.Goals as goal
 
 pub put_pair-requires : goal.put_pair-requires

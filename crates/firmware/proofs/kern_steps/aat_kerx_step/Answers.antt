@@ -1,7 +1,6 @@
 use mathlib.Core.Path.{refl}
 use Rattle.kerning.specs.Choices.{unchosen}
 use Rattle.firmware.proofs.KernSteps.{answer_is, state_is, advance_is, kerx_is, kerx-added}
-use borrow.Author.Rules.{rules}
 use Rattle.firmware.proofs.kern_steps.aat_kerx_step.Goals as goal
 
 pub returns : goal.returns

@@ -1,7 +1,6 @@
 use Rattle.laws.specs.Lists.{tab}
 use Rattle.firmware.specs.KernSteps.{kerning_from}
 use borrow.Author.Tests.{lt-ltb, le-ltb}
-use borrow.Author.Rules.{rules}
 use Rattle.firmware.proofs.kern_steps.kerning_from.Goals as goal
 
 pub returns-then-state-gt-WIDEST : goal.returns-then-state-gt-WIDEST

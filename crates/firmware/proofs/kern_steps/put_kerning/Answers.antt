@@ -1,7 +1,6 @@
 use Rattle.laws.specs.Lists.{tab}
 use Rattle.firmware.specs.KernSteps.{kerning_slots}
 use mathlib.Core.Path.{refl}
-use borrow.Author.Rules.{rules}
 use Rattle.firmware.proofs.kern_steps.put_kerning.Goals as goal
 
 pub returns : goal.returns

@@ -1,5 +1,4 @@
 use Rattle.firmware.proofs.KernPairs.{pair_widens, pair_answered, pair_put}
-use borrow.Author.Rules.{rules}
 use Rattle.firmware.proofs.kern_steps.put_pair.Goals as goal
 
 pub overflow_cast-value : goal.overflow_cast-value

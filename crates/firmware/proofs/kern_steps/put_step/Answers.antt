@@ -1,5 +1,4 @@
 use Rattle.firmware.proofs.KernSteps.{state-kept, state_put, advance-kept, advance_put}
-use borrow.Author.Rules.{rules}
 use Rattle.firmware.proofs.kern_steps.put_step.Goals as goal
 
 pub returns-then-is_refused : goal.returns-then-is_refused

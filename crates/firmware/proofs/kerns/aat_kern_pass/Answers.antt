@@ -1,6 +1,5 @@
 use Rattle.answers.specs.Numbers.{number_of}
 use mathlib.Core.Path.{ap, ◌∙◌}
-use borrow.Author.Rules.{rules}
 use Rattle.firmware.proofs.kerns.aat_kern_pass.Goals as goal
 
 pub returns : goal.returns

@@ -1,7 +1,6 @@
 use Rattle.firmware.proofs.Stepping.{numbered, kept, put, run_is}
 use Rattle.kerning_lists.specs.declared.Run.{Run}
 use mathlib.Core.Path.{refl}
-use borrow.Author.Rules.{rules}
 use Rattle.firmware.proofs.kerns.aat_kerx_run.Goals as goal
 
 pub returns-then-is_refused : goal.returns-then-is_refused

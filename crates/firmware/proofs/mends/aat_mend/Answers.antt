@@ -1,6 +1,5 @@
 use mathlib.Core.Path.{◌∙◌, ap}
 use Rattle.answers.specs.Numbers.{number_of}
-use borrow.Author.Rules.{rules}
 use Rattle.firmware.proofs.mends.aat_mend.Goals as goal
 
 pub returns : goal.returns

@@ -1,5 +1,4 @@
 use mathlib.Core.Path.{sym, subst}
-use borrow.Author.Rules.{rules}
 use Rattle.firmware.specs.Small.{IsSmall}
 use Rattle.firmware.proofs.KernPairs.{kerx-small}
 use Rattle.firmware.proofs.reasons.aat_kerx_pair_why.Goals as goal

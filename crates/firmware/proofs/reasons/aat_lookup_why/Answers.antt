@@ -1,5 +1,4 @@
 use mathlib.Core.Path.{sym}
-use borrow.Author.Rules.{rules}
 use Rattle.firmware.proofs.reasons.aat_lookup_why.Goals as goal
 
 pub returns : goal.returns

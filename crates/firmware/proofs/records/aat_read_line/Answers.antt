@@ -1,5 +1,4 @@
 use mathlib.Core.Path.{sym, ◌∙◌}
-use borrow.Author.Rules.{rules}
 use Rattle.firmware.proofs.records.aat_read_line.Goals as goal
 
 pub returns-in-Lengths : goal.returns-in-Lengths

@@ -1,5 +1,4 @@
 use mathlib.Core.Path.{sym, ◌∙◌}
-use borrow.Author.Rules.{rules}
 use Rattle.firmware.proofs.records.aat_store_line.Goals as goal
 
 pub returns-in-Size : goal.returns-in-Size

@@ -3,7 +3,6 @@ use Rattle.firmware.specs.Reels.{mort_reel}
 use Rattle.answers.specs.Numbers.{number_of}
 use Rattle.reel.specs.Morx.{table_leaves}
 use mathlib.Core.Path.{◌∙◌, ap}
-use borrow.Author.Rules.{rules}
 use Rattle.firmware.proofs.reels.aat_mort_reel.Goals as goal
 
 pub returns : goal.returns

@@ -3,8 +3,7 @@ use Rattle.firmware.specs.Runs.{morx_run, morx_leaves}
 use Rattle.firmware.specs.Features.{run_of, leaves_of, morx_run_with, morx_leaves_with}
 use Rattle.morx.specs.declared.RunReply.{RunReply}
 use Rattle.morx.specs.Calls.{run_leaves}
-use mathlib.Core.Path.{◌∙◌, ap, refl}
-use borrow.Author.Rules.{rules}
+use mathlib.Core.Path.{ap, refl}
 use Rattle.firmware.proofs.runs.aat_morx_run.Goals as goal
 
 -- LOST slice-aggregate-run

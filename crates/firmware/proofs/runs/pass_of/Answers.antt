@@ -2,7 +2,6 @@ use Rattle.morx.specs.declared.PassReply.{PassReply}
 use Rattle.machine.specs.Machine.{call_leaves}
 use Rattle.answers.specs.Numbers.{number_of}
 use mathlib.Core.Path.{◌∙◌, ap}
-use borrow.Author.Rules.{rules}
 use Rattle.firmware.proofs.runs.pass_of.Goals as goal
 
 pub returns : goal.returns

@@ -2,10 +2,7 @@ use Rattle.firmware.proofs.Stepping.{numbered, kept, put, contextual_is, context
 use Rattle.firmware.specs.Steps.{contextual_slots}
 use Rattle.contextual.specs.declared.ContextualStep.{ContextualStep}
 use Rattle.line.specs.Line.{line_of}
-use mathlib.Core.List.{List, [], ◌∷◌}
-use Prim.Native.Nat.{ℕ}
-use mathlib.Core.Path.{refl, ap}
-use borrow.Author.Rules.{rules}
+use mathlib.Core.Path.{refl}
 use Rattle.firmware.proofs.steps.aat_contextual_step.Goals as goal
 
 pub returns-then-is_refused : goal.returns-then-is_refused

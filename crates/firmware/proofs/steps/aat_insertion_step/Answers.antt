@@ -2,7 +2,6 @@ use Rattle.firmware.proofs.Stepping.{numbered, kept, put, insertion_is}
 use Rattle.firmware.specs.Steps.{insertion_slots, edit_slots}
 use Rattle.insertion.specs.declared.InsertionStep.{InsertionStep}
 use mathlib.Core.Path.{refl}
-use borrow.Author.Rules.{rules}
 use Rattle.firmware.proofs.steps.aat_insertion_step.Goals as goal
 
 pub returns-then-is_refused : goal.returns-then-is_refused

@@ -1,12 +1,8 @@
 use Rattle.firmware.proofs.Stepping.{numbered, kept, put, ligature_is, ligature-left, kept-ligature, put_ligature}
 use Rattle.firmware.proofs.Stepping.{numbered, kept, put, ligature_is, ligature-left}
-use Rattle.firmware.specs.Steps.{ligature_slots}
 use Rattle.ligature.specs.declared.LigatureStep.{LigatureStep}
 use Rattle.line.specs.Line.{Line, line_of}
-use mathlib.Core.List.{List}
-use Prim.Native.Nat.{ℕ}
 use mathlib.Core.Path.{refl}
-use borrow.Author.Rules.{rules}
 use Rattle.firmware.proofs.steps.aat_ligature_step.Goals as goal
 
 pub returns-then-is_refused : goal.returns-then-is_refused

@@ -2,7 +2,6 @@ use Rattle.firmware.proofs.Stepping.{numbered, kept, put, rearrangement_is}
 use Rattle.firmware.specs.Steps.{rearrangement_slots, window_slots}
 use Rattle.rearrangement.specs.declared.RearrangementStep.{RearrangementStep}
 use mathlib.Core.Path.{refl}
-use borrow.Author.Rules.{rules}
 use Rattle.firmware.proofs.steps.aat_rearrangement_step.Goals as goal
 
 pub returns-then-is_refused : goal.returns-then-is_refused

@@ -1,6 +1,5 @@
-use Rattle.firmware.proofs.Slots.{Fitting, fitting_start, fitting_more, fitting_fails, fitting_done}
+use Rattle.firmware.proofs.Slots.{fitting_start, fitting_more, fitting_fails, fitting_done}
 use native.Mathlib.Omega.{arith}
-use Prim.Native.Nat.{◌-◌}
 use Rattle.firmware.proofs.steps.are_glyphs.Goals as goal
 
 pub loop-slot-init : goal.loop-slot-init

@@ -1,5 +1,4 @@
-use Rattle.firmware.proofs.Slots.{Fitting, fitting_start, fitting_more, fitting_fails, fitting_done}
-use native.Mathlib.Omega.{arith}
+use Rattle.firmware.proofs.Slots.{Fitting}
 use Prim.Native.Nat.{◌-◌}
 use Rattle.firmware.proofs.steps.are_glyphs.Given as goal
 

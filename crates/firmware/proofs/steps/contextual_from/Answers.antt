@@ -1,6 +1,5 @@
 use borrow.Author.Tests.{lt-ltb, le-ltb}
 use Rattle.firmware.specs.Steps.{contextual_from}
-use borrow.Author.Rules.{rules}
 use Rattle.firmware.proofs.steps.contextual_from.Goals as goal
 
 pub returns-then-state-gt-WIDEST : goal.returns-then-state-gt-WIDEST

@@ -1,10 +1,8 @@
 use Rattle.firmware.proofs.Slots.{glyph-fits}
 use Rattle.firmware.proofs.Slots.{copied_more, copied}
-use Rattle.firmware.specs.Steps.{slots_from}
-use Rattle.line.proofs.Loops.{Pasting, pasting_start}
+use Rattle.line.proofs.Loops.{pasting_start}
 use native.Mathlib.Omega.{arith}
 use mathlib.Core.Path.{refl}
-use Prim.Native.Nat.{◌-◌}
 use Rattle.firmware.proofs.steps.glyphs_from.Goals as goal
 
 pub loop-slot-init : goal.loop-slot-init

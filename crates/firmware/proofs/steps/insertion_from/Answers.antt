@@ -1,6 +1,5 @@
 use borrow.Author.Tests.{lt-ltb, le-ltb}
 use Rattle.firmware.specs.Steps.{insertion_from}
-use borrow.Author.Rules.{rules}
 use Rattle.firmware.proofs.steps.insertion_from.Goals as goal
 
 pub returns-then-state-gt-WIDEST : goal.returns-then-state-gt-WIDEST

@@ -1,7 +1,6 @@
-use borrow.Author.Tests.{lt-ltb, le-ltb, not-true, not-false}
+use borrow.Author.Tests.{lt-ltb, le-ltb}
 use mathlib.Core.Path.{sym, ◌∙◌}
 use Rattle.firmware.specs.Steps.{ligature_from}
-use borrow.Author.Rules.{rules}
 use Rattle.firmware.proofs.steps.ligature_from.Goals as goal
 
 pub returns-then-state-gt-WIDEST : goal.returns-then-state-gt-WIDEST

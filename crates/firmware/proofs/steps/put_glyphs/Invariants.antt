@@ -1,7 +1,4 @@
-use borrow.Author.Rules.{rules}
-use Rattle.firmware.proofs.Slots.{put_more, put_done}
-use Rattle.line.proofs.Loops.{Pasting, pasting_start}
-use native.Mathlib.Omega.{arith}
+use Rattle.line.proofs.Loops.{Pasting}
 use Prim.Native.Nat.{◌-◌}
 use Rattle.firmware.proofs.steps.put_glyphs.Given as goal
 

@@ -1,5 +1,4 @@
 use Rattle.firmware.specs.Steps.{edit_slots}
-use borrow.Author.Rules.{rules}
 use Rattle.firmware.proofs.steps.put_insertion.Goals as goal
 
 pub returns-in_default : goal.returns-in_default

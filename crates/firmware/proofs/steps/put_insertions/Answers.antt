@@ -2,7 +2,6 @@ use Rattle.firmware.specs.Steps.{edit_slots}
 use Rattle.firmware.proofs.Stepping.{marked-alone}
 use Rattle.firmware.proofs.Stepping.{one_edit}
 use mathlib.Core.Path.{◌∙◌}
-use borrow.Author.Rules.{rules}
 use Rattle.firmware.proofs.steps.put_insertions.Goals as goal
 
 pub returns-in_default : goal.returns-in_default

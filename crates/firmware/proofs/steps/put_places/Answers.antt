@@ -1,9 +1,7 @@
 use mathlib.Core.Path.{refl}
-use borrow.Author.Rules.{rules}
 use Rattle.firmware.proofs.Slots.{put_more, put_done}
-use Rattle.line.proofs.Loops.{Pasting, pasting_start}
+use Rattle.line.proofs.Loops.{pasting_start}
 use native.Mathlib.Omega.{arith}
-use Prim.Native.Nat.{◌-◌}
 use Rattle.firmware.proofs.steps.put_places.Goals as goal
 
 pub loop-slot-init : goal.loop-slot-init

@@ -1,8 +1,4 @@
-use mathlib.Core.Path.{refl}
-use borrow.Author.Rules.{rules}
-use Rattle.firmware.proofs.Slots.{put_more, put_done}
-use Rattle.line.proofs.Loops.{Pasting, pasting_start}
-use native.Mathlib.Omega.{arith}
+use Rattle.line.proofs.Loops.{Pasting}
 use Prim.Native.Nat.{◌-◌}
 use Rattle.firmware.proofs.steps.put_places.Given as goal
 

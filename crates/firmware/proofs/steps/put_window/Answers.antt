@@ -1,4 +1,3 @@
-use borrow.Author.Rules.{rules}
 use Rattle.firmware.proofs.steps.put_window.Goals as goal
 
 pub returns : goal.returns

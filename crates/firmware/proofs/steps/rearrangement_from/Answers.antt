@@ -1,7 +1,5 @@
-use mathlib.Core.Path.{sym, ◌∙◌}
 use borrow.Author.Tests.{lt-ltb, le-ltb}
 use Rattle.firmware.specs.Steps.{rearrangement_from}
-use borrow.Author.Rules.{rules}
 use Rattle.firmware.proofs.steps.rearrangement_from.Goals as goal
 
 pub returns-then-state-gt-WIDEST : goal.returns-then-state-gt-WIDEST

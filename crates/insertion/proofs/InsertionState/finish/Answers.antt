@@ -1,5 +1,4 @@
 use Rattle.insertion.specs.Insertion.{finished}
-use borrow.Author.Rules.{rules}
 use Rattle.insertion.proofs.InsertionState.finish.Goals as goal
 
 pub returns : goal.returns

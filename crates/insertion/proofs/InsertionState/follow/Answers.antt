@@ -1,6 +1,5 @@
 use mathlib.Core.Path.{sym, ◌∙◌}
 use Rattle.insertion.specs.Insertion.{after_marked}
-use borrow.Author.Rules.{rules}
 use Rattle.insertion.proofs.InsertionState.follow.Goals as goal
 
 pub returns-in-Made : goal.returns-in-Made

@@ -1,4 +1,3 @@
-use borrow.Author.Rules.{rules}
 use Rattle.insertion.proofs.InsertionState.led_by.Goals as goal
 
 pub returns : goal.returns

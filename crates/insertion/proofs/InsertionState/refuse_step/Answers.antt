@@ -2,7 +2,6 @@ use mathlib.Core.Path.{sym, ◌∙◌}
 use borrow.Author.Tests.{lt-ltb, le-ltb}
 use Rattle.machine.proofs.Calls.{table_refused}
 use Rattle.insertion.proofs.Steps.{past_table}
-use borrow.Author.Rules.{rules}
 use Rattle.insertion.proofs.InsertionState.refuse_step.Goals as goal
 
 pub returns-in-Refused : goal.returns-in-Refused

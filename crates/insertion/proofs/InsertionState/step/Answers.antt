@@ -1,6 +1,5 @@
 use Rattle.insertion.proofs.Steps.{step-told, start_fits, list-fits, step_refused, step_headless, step-worked}
 use Rattle.insertion.proofs.Shapes.{next_fits}
-use borrow.Author.Rules.{rules}
 use Rattle.insertion.proofs.InsertionState.step.Goals as goal
 
 pub returns-in-Refused : goal.returns-in-Refused

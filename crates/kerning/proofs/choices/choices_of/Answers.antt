@@ -1,4 +1,3 @@
-use borrow.Author.Rules.{rules}
 use Rattle.kerning.specs.Choices.{choices_of}
 use Rattle.kerning.proofs.choices.choices_of.Goals as goal
 

@@ -1,6 +1,5 @@
 use Rattle.kerning.proofs.Walking.{skipped, made}
 use native.Mathlib.Omega.{arith}
-use borrow.Author.Rules.{rules}
 use Rattle.kerning.proofs.lists.add_in_line.Goals as goal
 
 pub returns-then-used-place : goal.returns-then-used-place

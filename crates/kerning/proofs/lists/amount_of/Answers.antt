@@ -1,6 +1,4 @@
 use Rattle.kerning.proofs.Ruling.{amount_along, amount_back, amount_across}
-use borrow.Author.Tests.{not-true, not-false}
-use borrow.Author.Rules.{rules}
 use Rattle.kerning.proofs.lists.amount_of.Goals as goal
 
 pub returns-then-not-crossed : goal.returns-then-not-crossed

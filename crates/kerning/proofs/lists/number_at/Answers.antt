@@ -1,6 +1,5 @@
 use Rattle.kerning.specs.Lists.{number_at}
 use mathlib.Core.Path.{sym, ◌∙◌}
-use borrow.Author.Rules.{rules}
 use Rattle.kerning.proofs.lists.number_at.Goals as goal
 
 pub returns-in_default : goal.returns-in_default

@@ -1,5 +1,4 @@
 use Rattle.kerning.proofs.Ruling.{ruled_never}
-use borrow.Author.Rules.{rules}
 use Rattle.kerning.proofs.lists.ruled.Goals as goal
 
 pub returns-in-Odd : goal.returns-in-Odd

@@ -1,6 +1,5 @@
 use mathlib.Core.Path.{refl}
 use Rattle.kerning.proofs.Ruling.{marked-stop, marked_more}
-use borrow.Author.Rules.{rules}
 use Rattle.kerning.proofs.lists.ruled_marked.Goals as goal
 
 pub returns-then-number-eq-MARK : goal.returns-then-number-eq-MARK

@@ -1,6 +1,5 @@
 use mathlib.Core.Path.{refl}
 use Rattle.kerning.proofs.Ruling.{ruled-last, ruled-more}
-use borrow.Author.Rules.{rules}
 use Rattle.kerning.proofs.lists.ruled_odd.Goals as goal
 
 pub returns-then-number-eq1 : goal.returns-then-number-eq1

@@ -1,7 +1,5 @@
 use native.Mathlib.Omega.{arith}
-use borrow.Author.Rules.{rules}
-use Rattle.kerning.specs.Lists.{walk}
-use Rattle.kerning.proofs.Walking.{Walking, walking_start, walking_long, walking_within, walking_short, walking_stop, walking_last, walking_more, walking_inside, walking_done}
+use Rattle.kerning.proofs.Walking.{walking_start, walking_long, walking_within, walking_short, walking_stop, walking_last, walking_more, walking_inside, walking_done}
 use Rattle.kerning.proofs.lists.walk.Goals as goal
 
 pub loop-left-init : goal.loop-left-init

@@ -1,8 +1,6 @@
-use native.Mathlib.Omega.{arith}
-use borrow.Author.Rules.{rules}
 use Rattle.kerning.specs.Lists.{walk}
 use Rattle.kerning.specs.declared.lists.Rule.TheVariants.{Odd}
-use Rattle.kerning.proofs.Walking.{Walking, walking_start, walking_long, walking_within, walking_short, walking_stop, walking_last, walking_more, walking_inside, walking_done}
+use Rattle.kerning.proofs.Walking.{Walking}
 use Rattle.kerning.proofs.lists.walk_kern.Given as goal
 
 abbrev pub invariant-loop-left : goal.invariant-loop-left

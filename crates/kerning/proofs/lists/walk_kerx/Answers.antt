@@ -1,11 +1,8 @@
 use mathlib.Core.Path.{refl, sym, ap}
 use native.Mathlib.Omega.{arith}
-use borrow.Author.Rules.{rules}
-use Rattle.kerning.specs.Lists.{walk}
-use Rattle.kerning.specs.declared.lists.Rule.TheVariants.{Never}
 use Rattle.kerning.specs.declared.lists.Number.TheVariants.{More}
 use Rattle.kerning.proofs.Ruling.{never_short, never_more}
-use Rattle.kerning.proofs.Walking.{Walking, walking_start, walking_long, walking_within, walking_short, walking_more, walking_inside, walking_done}
+use Rattle.kerning.proofs.Walking.{walking_start, walking_long, walking_within, walking_short, walking_more, walking_inside, walking_done}
 use Rattle.kerning.proofs.lists.walk_kerx.Goals as goal
 
 pub loop-left-init : goal.loop-left-init

@@ -1,11 +1,6 @@
-use mathlib.Core.Path.{refl, sym, ap}
-use native.Mathlib.Omega.{arith}
-use borrow.Author.Rules.{rules}
 use Rattle.kerning.specs.Lists.{walk}
 use Rattle.kerning.specs.declared.lists.Rule.TheVariants.{Never}
-use Rattle.kerning.specs.declared.lists.Number.TheVariants.{More}
-use Rattle.kerning.proofs.Ruling.{never_short, never_more}
-use Rattle.kerning.proofs.Walking.{Walking, walking_start, walking_long, walking_within, walking_short, walking_more, walking_inside, walking_done}
+use Rattle.kerning.proofs.Walking.{Walking}
 use Rattle.kerning.proofs.lists.walk_kerx.Given as goal
 
 abbrev pub invariant-loop-left : goal.invariant-loop-left

@@ -1,6 +1,5 @@
 use mathlib.Core.Path.{refl}
 use Rattle.kerning_machine.proofs.Classes.{plain-goes}
-use borrow.Author.Rules.{rules}
 use Rattle.kerning_machine.proofs.KerningState.go.Goals as goal
 
 pub returns : goal.returns

@@ -1,7 +1,6 @@
 use Rattle.kerning_machine.proofs.Steps.{step-table, past_table}
 use mathlib.Core.Path.{sym, ◌∙◌}
-use borrow.Author.Tests.{lt-ltb, le-ltb, not-true, not-false}
-use borrow.Author.Rules.{rules}
+use borrow.Author.Tests.{lt-ltb, le-ltb}
 use Rattle.kerning_machine.proofs.KerningState.refuse.Goals as goal
 
 pub returns-in-Refused : goal.returns-in-Refused

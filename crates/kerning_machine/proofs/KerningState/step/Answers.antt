@@ -1,6 +1,5 @@
 use mathlib.Core.Path.{sym, ◌∙◌}
 use Rattle.kerning_machine.proofs.Steps.{step_ready, step_refused, step_headless, step_tupled, step_works}
-use borrow.Author.Rules.{rules}
 use Rattle.kerning_machine.proofs.KerningState.step.Goals as goal
 
 pub returns-in-Refused : goal.returns-in-Refused

@@ -2,7 +2,7 @@ use mir.Syntax.{w32}
 use mir.Facts.{to_z-of_z}
 use native.Mathlib.Omega.{arith}
 use lib.ListN.{length-set}
-use Rattle.kerning_lists.proofs.Turns.{Turning, turning_start, turning_next, turning_done}
+use Rattle.kerning_lists.proofs.Turns.{turning_start, turning_next, turning_done}
 use Rattle.kerx.proofs.marks.turn_offsets.Goals as goal
 
 pub loop-low-init : goal.loop-low-init

@@ -1,7 +1,6 @@
 use Prim.Native.Nat.{◌-◌}
-use native.Mathlib.Omega.{arith}
 use lib.ListN.{length}
-use Rattle.kerx.proofs.Written.{Zeroing, zeroing_start, zeroing_next, zeroing_done}
+use Rattle.kerx.proofs.Written.{Zeroing}
 use Rattle.kerx.proofs.marks.zero_distances.Given as goal
 
 abbrev pub invariant-loop-place : goal.invariant-loop-place

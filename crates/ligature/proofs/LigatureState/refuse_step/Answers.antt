@@ -1,5 +1,4 @@
 use Rattle.ligature.proofs.Calls.{step-table, step_line, step-place, step-depth, step-stack, step-head, step-passed}
-use borrow.Author.Rules.{rules}
 use Rattle.ligature.proofs.LigatureState.refuse_step.Goals as goal
 
 pub returns-in-Refused : goal.returns-in-Refused

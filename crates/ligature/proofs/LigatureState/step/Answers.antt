@@ -2,7 +2,6 @@ use mathlib.Core.Path.{refl, sym, ◌∙◌}
 use Rattle.line.specs.Line.{line_of}
 use Rattle.ligature.proofs.Calls.{step_fits, step_refused, step_headless, step-worked}
 use Rattle.ligature.proofs.Passes.{step_reaches}
-use borrow.Author.Rules.{rules}
 use Rattle.ligature.proofs.LigatureState.step.Goals as goal
 
 pub returns-in-Refused : goal.returns-in-Refused

@@ -6,7 +6,6 @@ use lib.Signed.{mag}
 use Prim.Native.Nat.{◌<◌}
 use borrow.Author.Tests.{eq-eqb, ne_eqb}
 use Rattle.ligature.specs.Actions.{action_of}
-use borrow.Author.Rules.{rules}
 use Rattle.ligature.proofs.actions.action_of.Goals as goal
 
 pub returns-then-number-eq65535 : goal.returns-then-number-eq65535

@@ -1,6 +1,5 @@
 use native.Mathlib.Omega.{arith}
 use Rattle.ligature.proofs.Offsets.{sum_fits, component_negative, component_fits, component_at}
-use borrow.Author.Rules.{rules}
 use Rattle.ligature.proofs.actions.component_of.Goals as goal
 
 pub overflow_add-number : goal.overflow_add-number

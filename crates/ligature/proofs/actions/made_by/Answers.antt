@@ -1,8 +1,6 @@
 use mathlib.Core.Path.{sym, ◌∙◌}
 use native.Mathlib.Omega.{arith}
-use borrow.Author.Tests.{not-true, not-false}
 use Rattle.ligature.specs.Actions.{made_by}
-use borrow.Author.Rules.{rules}
 use Rattle.ligature.proofs.actions.made_by.Goals as goal
 
 pub returns-then-not-stores : goal.returns-then-not-stores

@@ -1,5 +1,4 @@
 use Rattle.ligature.proofs.Offsets.{offset_high, offset-fits, offset_round, offset_low}
-use borrow.Author.Rules.{rules}
 use Rattle.ligature.proofs.actions.offset_of.Goals as goal
 
 pub overflow_sub-result : goal.overflow_sub-result

@@ -1,6 +1,5 @@
 use mathlib.Core.Path.{sym, ◌∙◌}
 use Rattle.ligature.specs.Actions.{read_action}
-use borrow.Author.Rules.{rules}
 use Rattle.ligature.proofs.actions.read_action.Goals as goal
 
 pub returns-in_default : goal.returns-in_default

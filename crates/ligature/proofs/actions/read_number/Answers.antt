@@ -1,6 +1,5 @@
 use mathlib.Core.Path.{sym, ◌∙◌}
 use Rattle.ligature.specs.Actions.{read_number}
-use borrow.Author.Rules.{rules}
 use Rattle.ligature.proofs.actions.read_number.Goals as goal
 
 pub returns-in_default : goal.returns-in_default

@@ -1,5 +1,4 @@
 use mathlib.Core.Path.{sym, ◌∙◌}
-use borrow.Author.Rules.{rules}
 use Rattle.ligature.proofs.actions.stores.Goals as goal
 
 pub returns-then-is_set : goal.returns-then-is_set

@@ -1,8 +1,4 @@
-use borrow.Author.Rules.{rules}
-use Prim.Native.Nat.{◌-◌}
-use native.Mathlib.Omega.{arith}
-use Rattle.tables.specs.Units.{lookup_by}
-use Rattle.noncontextual.proofs.Passes.{Going, going_start, going_step, going_done}
+use Rattle.noncontextual.proofs.Passes.{going_start, going_step, going_done}
 use Rattle.noncontextual.proofs.sized.pass_by.Goals as goal
 
 pub loop-place-init : goal.loop-place-init

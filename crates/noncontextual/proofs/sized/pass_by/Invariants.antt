@@ -1,8 +1,6 @@
-use borrow.Author.Rules.{rules}
 use Prim.Native.Nat.{◌-◌}
-use native.Mathlib.Omega.{arith}
 use Rattle.tables.specs.Units.{lookup_by}
-use Rattle.noncontextual.proofs.Passes.{Going, going_start, going_step, going_done}
+use Rattle.noncontextual.proofs.Passes.{Going}
 use Rattle.noncontextual.proofs.sized.pass_by.Given as goal
 
 abbrev pub invariant-loop-place : goal.invariant-loop-place

@@ -1,5 +1,4 @@
 use Rattle.rearrangement.specs.Rearrangement.{acted}
-use borrow.Author.Rules.{rules}
 use Rattle.rearrangement.proofs.RearrangementState.act.Goals as goal
 
 pub returns : goal.returns

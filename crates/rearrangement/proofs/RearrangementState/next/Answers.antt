@@ -1,6 +1,5 @@
 use mathlib.Core.Path.{sym, ◌∙◌}
 use Rattle.rearrangement.specs.Rearrangement.{next}
-use borrow.Author.Rules.{rules}
 use Rattle.rearrangement.proofs.RearrangementState.next.Goals as goal
 
 pub returns-in_default : goal.returns-in_default

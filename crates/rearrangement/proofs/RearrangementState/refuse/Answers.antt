@@ -2,7 +2,6 @@ use mathlib.Core.Path.{sym, ◌∙◌}
 use borrow.Author.Tests.{lt-ltb, le-ltb}
 use Rattle.machine.proofs.Calls.{table_refused}
 use Rattle.rearrangement.proofs.Steps.{past_table}
-use borrow.Author.Rules.{rules}
 use Rattle.rearrangement.proofs.RearrangementState.refuse.Goals as goal
 
 pub returns-in-Refused : goal.returns-in-Refused

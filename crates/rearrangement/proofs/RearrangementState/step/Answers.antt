@@ -1,7 +1,6 @@
 use mathlib.Core.Path.{sym, ◌∙◌}
 use Rattle.machine.proofs.Calls.{step_refused, step_headless, step-made}
 use Rattle.rearrangement.specs.Calls.{step_call}
-use borrow.Author.Rules.{rules}
 use Rattle.rearrangement.proofs.RearrangementState.step.Goals as goal
 
 pub returns-in-Refused : goal.returns-in-Refused

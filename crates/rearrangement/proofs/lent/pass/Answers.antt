@@ -1,11 +1,7 @@
 use mathlib.Core.Path.{refl}
 use mathlib.Core.List.{[]}
-use Rattle.state_tables.specs.Opened.{opened_classes, nothing_found}
-use Prim.Native.Nat.{◌+◌, ◌*◌, ◌-◌}
 use native.Mathlib.Omega.{arith}
-use borrow.Author.Rules.{rules}
-use Rattle.line.specs.Line.{line_of}
-use Rattle.rearrangement.proofs.Passes.{place_after, Going, Staying, still_here, moved_on, going_start, going_ended, going_less, going_goes, going_end, class_lent, lent_answers, lent_glyphs, lent_tags}
+use Rattle.rearrangement.proofs.Passes.{still_here, moved_on, going_start, going_ended, going_less, going_goes, going_end, class_lent, lent_answers, lent_glyphs, lent_tags}
 use Rattle.rearrangement.proofs.lent.pass.Goals as goal
 
 pub loop-place-init : goal.loop-place-init

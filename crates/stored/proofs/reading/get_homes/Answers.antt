@@ -1,8 +1,5 @@
 use Rattle.stored.proofs.Got.{home-next, homes-done}
-use Rattle.stored.specs.Reading.{homes_in}
-use Rattle.line.proofs.Loops.{Pasting, pasting_start}
-use Prim.Native.Nat.{◌-◌}
-use native.Mathlib.Omega.{arith}
+use Rattle.line.proofs.Loops.{pasting_start}
 use Rattle.stored.proofs.reading.get_homes.Goals as goal
 
 pub loop-c-init : goal.loop-c-init

@@ -1,8 +1,6 @@
-use Rattle.stored.proofs.Got.{home-next, homes-done}
 use Rattle.stored.specs.Reading.{homes_in}
-use Rattle.line.proofs.Loops.{Pasting, pasting_start}
+use Rattle.line.proofs.Loops.{Pasting}
 use Prim.Native.Nat.{◌-◌}
-use native.Mathlib.Omega.{arith}
 use Rattle.stored.proofs.reading.get_homes.Given as goal
 
 abbrev pub invariant-loop-c : goal.invariant-loop-c

@@ -1,8 +1,5 @@
 use Rattle.stored.proofs.Got.{glyph-next, glyphs-done, tag_next, tags-done}
-use Rattle.stored.specs.Reading.{glyphs_in, tags_in}
-use Rattle.line.proofs.Loops.{Pasting, pasting_start}
-use Prim.Native.Nat.{◌-◌}
-use native.Mathlib.Omega.{arith}
+use Rattle.line.proofs.Loops.{pasting_start}
 use Rattle.stored.proofs.reading.get_places.Goals as goal
 
 pub loop-p-init : goal.loop-p-init

@@ -1,8 +1,6 @@
-use Rattle.stored.proofs.Got.{glyph-next, glyphs-done, tag_next, tags-done}
 use Rattle.stored.specs.Reading.{glyphs_in, tags_in}
-use Rattle.line.proofs.Loops.{Pasting, pasting_start}
+use Rattle.line.proofs.Loops.{Pasting}
 use Prim.Native.Nat.{◌-◌}
-use native.Mathlib.Omega.{arith}
 use Rattle.stored.proofs.reading.get_places.Given as goal
 
 abbrev pub invariant-loop-p : goal.invariant-loop-p

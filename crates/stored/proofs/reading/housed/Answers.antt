@@ -1,7 +1,4 @@
-use Rattle.stored.proofs.Tests.{Housing, housing_start, housing_out, housing_next, housing_done}
-use borrow.Author.Rules.{rules}
-use Prim.Native.Nat.{◌-◌}
-use native.Mathlib.Omega.{arith}
+use Rattle.stored.proofs.Tests.{housing_start, housing_out, housing_next, housing_done}
 use Rattle.stored.proofs.reading.housed.Goals as goal
 
 pub loop-c-init : goal.loop-c-init

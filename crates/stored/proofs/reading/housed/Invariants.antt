@@ -1,7 +1,5 @@
-use Rattle.stored.proofs.Tests.{Housing, housing_start, housing_out, housing_next, housing_done}
-use borrow.Author.Rules.{rules}
+use Rattle.stored.proofs.Tests.{Housing}
 use Prim.Native.Nat.{◌-◌}
-use native.Mathlib.Omega.{arith}
 use Rattle.stored.proofs.reading.housed.Given as goal
 
 abbrev pub invariant-loop-c : goal.invariant-loop-c

@@ -1,6 +1,5 @@
 use Rattle.stored.specs.Reading.{is_marked}
 use borrow.Author.Tests.{eq-eqb, ne_eqb}
-use borrow.Author.Rules.{rules}
 use Rattle.stored.proofs.reading.is_marked.Goals as goal
 
 pub returns-then-bytes-ne83 : goal.returns-then-bytes-ne83

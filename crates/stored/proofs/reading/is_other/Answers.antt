@@ -1,5 +1,4 @@
 use Rattle.stored.proofs.Tests.{other-short, other-unmarked, other-rest}
-use borrow.Author.Rules.{rules}
 use Rattle.stored.proofs.reading.is_other.Goals as goal
 
 pub returns-then-bytes-lt5 : goal.returns-then-bytes-lt5

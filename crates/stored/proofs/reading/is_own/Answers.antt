@@ -2,7 +2,6 @@ use Rattle.stored.specs.Reading.{is_own}
 use Rattle.answers.specs.Limits.{room_limit}
 use mathlib.Core.Path.{◌∙◌, sym}
 use borrow.Author.Tests.{eq-eqb, ne_eqb}
-use borrow.Author.Rules.{rules}
 use Rattle.stored.proofs.reading.is_own.Goals as goal
 
 pub returns-then-version-version_of : goal.returns-then-version-version_of

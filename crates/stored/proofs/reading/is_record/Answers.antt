@@ -2,7 +2,6 @@ use Rattle.std.proofs.Common.{ap}
 use mathlib.Core.Bool.{not}
 use Rattle.stored.proofs.Tests.{own-fits, record_short, record_uneven, record_unmarked, record_alien, record_crowded, record_homeless, record_rest}
 use native.Mathlib.Omega.{arith}
-use borrow.Author.Rules.{rules}
 use Rattle.stored.proofs.reading.is_record.Goals as goal
 
 pub returns-then-bytes-lt9 : goal.returns-then-bytes-lt9

@@ -1,7 +1,6 @@
 use Rattle.stored.proofs.Written.{head_put}
 use Rattle.line.proofs.Room.{room_small}
 use native.Mathlib.Omega.{arith}
-use borrow.Author.Rules.{rules}
 use Rattle.stored.proofs.writing.put_head.Goals as goal
 
 pub overflow_cast-used : goal.overflow_cast-used

@@ -1,7 +1,4 @@
-use Rattle.stored.proofs.Written.{Filling, filling_start, home-next, filling_done}
-use Rattle.stored.specs.Record.{home_bytes}
-use lib.ListN.{length}
-use Prim.Native.Nat.{◌-◌}
+use Rattle.stored.proofs.Written.{filling_start, home-next, filling_done}
 use native.Mathlib.Omega.{arith}
 use Rattle.stored.proofs.writing.put_homes.Goals as goal
 

@@ -1,8 +1,7 @@
-use Rattle.stored.proofs.Written.{Filling, filling_start, home-next, filling_done}
+use Rattle.stored.proofs.Written.{Filling}
 use Rattle.stored.specs.Record.{home_bytes}
 use lib.ListN.{length}
 use Prim.Native.Nat.{◌-◌}
-use native.Mathlib.Omega.{arith}
 use Rattle.stored.proofs.writing.put_homes.Given as goal
 
 abbrev pub invariant-loop-c : goal.invariant-loop-c

@@ -3,7 +3,6 @@ use Rattle.stored.specs.Record.{mark}
 use lib.Seq.{sets-eq}
 use lib.ListN.{length-set}
 use native.Mathlib.Omega.{arith}
-use borrow.Author.Rules.{rules}
 use Rattle.stored.proofs.writing.put_mark.Goals as goal
 
 pub bounds-buffer-1 : goal.bounds-buffer-1

@@ -1,5 +1,4 @@
 use Rattle.stored.proofs.Written.{place_put}
-use borrow.Author.Rules.{rules}
 use Rattle.stored.proofs.writing.put_place.Goals as goal
 
 pub returns : goal.returns

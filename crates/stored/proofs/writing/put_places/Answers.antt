@@ -1,6 +1,4 @@
-use Rattle.stored.proofs.Written.{Filling, filling_start, place-next, filling_done}
-use Rattle.stored.specs.Record.{place_bytes}
-use Prim.Native.Nat.{◌-◌}
+use Rattle.stored.proofs.Written.{filling_start, place-next, filling_done}
 use native.Mathlib.Omega.{arith}
 use Rattle.stored.proofs.writing.put_places.Goals as goal
 

@@ -1,7 +1,6 @@
-use Rattle.stored.proofs.Written.{Filling, filling_start, place-next, filling_done}
+use Rattle.stored.proofs.Written.{Filling}
 use Rattle.stored.specs.Record.{place_bytes}
 use Prim.Native.Nat.{◌-◌}
-use native.Mathlib.Omega.{arith}
 use Rattle.stored.proofs.writing.put_places.Given as goal
 
 abbrev pub invariant-loop-p : goal.invariant-loop-p

@@ -1,7 +1,6 @@
 use Rattle.stored.proofs.Written.{record_put}
 use Rattle.stored.specs.Record.{size_of}
 use native.Mathlib.Omega.{arith}
-use borrow.Author.Rules.{rules}
 use Rattle.stored.proofs.writing.put_record.Goals as goal
 
 pub put_head-requires : goal.put_head-requires

@@ -4,7 +4,6 @@ use native.Mathlib.Numerals.{add-one}
 use lib.Seq.{sets-eq}
 use lib.ListN.{length-set}
 use native.Mathlib.Omega.{arith}
-use borrow.Author.Rules.{rules}
 use Rattle.stored.proofs.writing.put_word.Goals as goal
 
 pub bounds-buffer-at-2 : goal.bounds-buffer-at-2
