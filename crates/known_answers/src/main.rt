@@ -1,12 +1,13 @@
 // Runs document 01's known answers through the proved entries and prints each, of lookups that find nothing why, and its table with a feature that is
 // asked for; those it marks are proved in the crate `promises`.
+#![tactic(auto)]
+
 use answers::Reply;
 use chains::Edition;
 use morx::Choices;
 use shaper::{SHAPER_ROOM, Shaped};
+use std::io;
 use tables::lookup::{LookupReply, Why};
-
-const OUT: i32 = 1;
 
 // The lookup table of document 01: format 8, first glyph 5, elements 7 and 9.
 const TRIMMED: [u8; 10] = [0, 8, 0, 5, 0, 2, 0, 7, 0, 9];
@@ -16,162 +17,156 @@ const CLASSED: [u8; 26] = [
     0, 0, 0, 4, 0, 0, 0, 16, 0, 0, 0, 0, 0, 0, 0, 0, 0, 8, 0, 5, 0, 2, 0, 7, 0, 9,
 ];
 
-fn print_number(name: &[u8], number: u64) {
-    io::write_all(OUT, name);
-    io::print_decimal(OUT, number);
+fn print_number(rt: &impl Print, name: &str, number: u64) -> io::Result<()> {
+    print!(rt; "{name}{number}")
 }
 
 // The answer's number, and the value where there is one.
-fn print_reply(reply: Reply) {
+fn print_reply(rt: &impl Print, reply: Reply) -> io::Result<()> {
     match reply {
         Reply::Value(value) => {
-            print_number(b": answer ", 0);
-            print_number(b" value ", value as u64);
+            print_number(rt, ": answer ", 0)?;
+            print_number(rt, " value ", value as u64)?;
         }
-        Reply::Nothing => print_number(b": answer ", 1),
-        Reply::Refused(why) => print_number(b": answer ", answers::refusal_number(why) as u64),
+        Reply::Nothing => print_number(rt, ": answer ", 1)?,
+        Reply::Refused(why) => print_number(rt, ": answer ", answers::refusal_number(why) as u64)?,
     }
-    io::write_all(OUT, b"\n");
+    println!(rt)
 }
 
-fn print_why(why: Why) {
+fn print_why(rt: &impl Print, why: Why) -> io::Result<()> {
     match why {
-        Why::NotCovered => {
-            io::write_all(OUT, b" not covered");
-        }
-        Why::CutShort => {
-            io::write_all(OUT, b" cut short");
-        }
-        Why::UnknownFormat => {
-            io::write_all(OUT, b" unknown format");
-        }
+        Why::NotCovered => print!(rt; " not covered"),
+        Why::CutShort => print!(rt; " cut short"),
+        Why::UnknownFormat => print!(rt; " unknown format"),
     }
 }
 
 // The same of a lookup, and why there is no value.
-fn print_found(reply: LookupReply) {
+fn print_found(rt: &impl Print, reply: LookupReply) -> io::Result<()> {
     match reply {
         LookupReply::Element(element) => {
-            print_number(b": answer ", 0);
-            print_number(b" value ", element as u64);
+            print_number(rt, ": answer ", 0)?;
+            print_number(rt, " value ", element as u64)?;
         }
         LookupReply::Nothing(why) => {
-            print_number(b": answer ", 1);
-            print_why(why);
+            print_number(rt, ": answer ", 1)?;
+            print_why(rt, why)?;
         }
         LookupReply::Refused(why) => {
-            print_number(b": answer ", answers::refusal_number(why) as u64)
+            print_number(rt, ": answer ", answers::refusal_number(why) as u64)?
         }
     }
-    io::write_all(OUT, b"\n");
+    println!(rt)
 }
 
-fn print_lookup(glyph: u16) {
-    print_number(b"lookup of glyph ", glyph as u64);
-    print_found(tables::lookup::lookup(&TRIMMED, 0, glyph));
+fn print_lookup(rt: &impl Print, glyph: u16) -> io::Result<()> {
+    print_number(rt, "lookup of glyph ", glyph as u64)?;
+    print_found(rt, tables::lookup::lookup(&TRIMMED, 0, glyph))
 }
 
 // In the first bytes of a table; all of them are there.
-fn print_lookup_cut(table: &[u8], length: usize, glyph: u16) {
+fn print_lookup_cut(rt: &impl Print, table: &[u8], length: usize, glyph: u16) -> io::Result<()> {
     if table.len() < length {
-        return;
+        return Ok(());
     }
-    print_number(b"lookup in ", length as u64);
-    print_number(b" bytes of glyph ", glyph as u64);
-    print_found(tables::lookup::lookup(&table[..length], 0, glyph));
+    print_number(rt, "lookup in ", length as u64)?;
+    print_number(rt, " bytes of glyph ", glyph as u64)?;
+    print_found(rt, tables::lookup::lookup(&table[..length], 0, glyph))
 }
 
 // In a table of another format.
-fn print_lookup_format(format: u8, glyph: u16) {
-    print_number(b"lookup in format ", format as u64);
-    print_number(b" of glyph ", glyph as u64);
-    print_found(tables::lookup::lookup(&[0, format], 0, glyph));
+fn print_lookup_format(rt: &impl Print, format: u8, glyph: u16) -> io::Result<()> {
+    print_number(rt, "lookup in format ", format as u64)?;
+    print_number(rt, " of glyph ", glyph as u64)?;
+    print_found(rt, tables::lookup::lookup(&[0, format], 0, glyph))
 }
 
 // The class of a glyph in an extended state table whose class table is that lookup.
-fn print_class(glyph: u16) {
-    print_number(b"class of glyph ", glyph as u64);
-    print_reply(state_tables::classes::class_extended(&CLASSED, 0, glyph));
+fn print_class(rt: &impl Print, glyph: u16) -> io::Result<()> {
+    print_number(rt, "class of glyph ", glyph as u64)?;
+    print_reply(
+        rt,
+        state_tables::classes::class_extended(&CLASSED, 0, glyph),
+    )
 }
 
-fn print_glyph(glyph: u16) {
-    print_number(b" ", glyph as u64);
+fn print_glyph(rt: &impl Print, glyph: u16) -> io::Result<()> {
+    print_number(rt, " ", glyph as u64)
 }
 
-fn print_glyphs(glyphs: &[u16]) {
-    let mut place = 0;
-    while place < glyphs.len() {
-        print_glyph(glyphs[place]);
-        place += 1;
+fn print_glyphs(rt: &impl Print, glyphs: &[u16]) -> io::Result<()> {
+    for glyph in glyphs {
+        print_glyph(rt, *glyph)?;
     }
+    Ok(())
 }
 
 // The first words; all of them are there.
-fn print_first(words: &[u16], count: usize) {
+fn print_first(rt: &impl Print, words: &[u16], count: usize) -> io::Result<()> {
     if words.len() < count {
-        return;
+        return Ok(());
     }
-    print_glyphs(&words[..count]);
+    print_glyphs(rt, &words[..count])
 }
 
 // The line 10 to 14 after a verb on a window.
-fn print_verb(verb: u16, start: usize, end: usize) {
+fn print_verb(rt: &impl Print, verb: u16, start: usize, end: usize) -> io::Result<()> {
     let mut glyphs: [u16; 5] = [10, 11, 12, 13, 14];
     let mut tags: [u16; 5] = [0; 5];
     let mut homes: [u16; 5] = [0; 5];
     line::fresh(&glyphs, &mut tags, &mut homes);
     let answer = line::lone_verb(&mut glyphs, &mut tags, &homes, 5, verb, start, end);
-    print_number(b"verb ", verb as u64);
-    print_number(b" from ", start as u64);
-    print_number(b" to ", end as u64);
-    print_number(b": answer ", answers::number(answer) as u64);
-    io::write_all(OUT, b" glyphs");
-    print_glyphs(&glyphs);
-    io::write_all(OUT, b"\n");
+    print_number(rt, "verb ", verb as u64)?;
+    print_number(rt, " from ", start as u64)?;
+    print_number(rt, " to ", end as u64)?;
+    print_number(rt, ": answer ", answers::number(answer) as u64)?;
+    print!(rt; " glyphs")?;
+    print_glyphs(rt, &glyphs)?;
+    println!(rt)
 }
 
 // Whether the offset of a ligature action is the one that document 01 gives.
-fn print_offset(action: u32, offset: i32) {
-    io::write_all(OUT, b"offset of action ");
-    io::print_hex(OUT, action as u64, 8);
+fn print_offset(rt: &impl Print, action: u32, offset: i32) -> io::Result<()> {
+    print!(rt; "offset of action {action:08x}")?;
     if ligature::actions::offset_of(action) == offset {
-        io::write_all(OUT, b": as written\n");
-        return;
+        return println!(rt; ": as written");
     }
-    io::write_all(OUT, b": another\n");
+    println!(rt; ": another")
 }
 
 // A result of the shaper.
 fn print_shaped(
+    rt: &impl Print,
     shaped: Shaped,
     glyphs: &[u16; SHAPER_ROOM],
     tags: &[u16; SHAPER_ROOM],
     homes: &[u16; SHAPER_ROOM],
-) {
+) -> io::Result<()> {
     let answer = shaped.answer;
-    print_number(b"shaper: answer ", answers::number(answer) as u64);
-    print_number(b" heads ", shaped.heads as u64);
-    print_number(b" length ", shaped.used as u64);
-    io::write_all(OUT, b" glyphs");
-    print_first(glyphs, shaped.used);
-    io::write_all(OUT, b" tags");
-    print_first(tags, shaped.used);
-    io::write_all(OUT, b" homes");
-    print_first(homes, shaped.characters);
-    io::write_all(OUT, b"\n");
+    print_number(rt, "shaper: answer ", answers::number(answer) as u64)?;
+    print_number(rt, " heads ", shaped.heads as u64)?;
+    print_number(rt, " length ", shaped.used as u64)?;
+    print!(rt; " glyphs")?;
+    print_first(rt, glyphs, shaped.used)?;
+    print!(rt; " tags")?;
+    print_first(rt, tags, shaped.used)?;
+    print!(rt; " homes")?;
+    print_first(rt, homes, shaped.characters)?;
+    println!(rt)
 }
 
-fn print_shaper(input: &[u8]) {
+fn print_shaper(rt: &impl Print, input: &[u8]) -> io::Result<()> {
     let mut glyphs = [0u16; SHAPER_ROOM];
     let mut tags = [0u16; SHAPER_ROOM];
     let mut homes = [0u16; SHAPER_ROOM];
     let shaped = shaper::shape(input, &mut glyphs, &mut tags, &mut homes);
-    print_shaped(shaped, &glyphs, &tags, &homes);
+    print_shaped(rt, shaped, &glyphs, &tags, &homes)
 }
 
 // The run over the line 5, 6, 20 by that table, with one chain that has default flags 0 and one feature, type 37, setting 1, which sets the flag of its
 // subtable.
-fn print_run(table: &[u8], requests: &[u32]) {
+fn print_run(rt: &impl Print, table: &[u8], requests: &[u32]) -> io::Result<()> {
     let mut glyphs: [u16; 3] = [5, 6, 20];
     let mut tags: [u16; 3] = [0, 1, 2];
     let mut homes: [u16; 3] = [0, 1, 2];
@@ -190,39 +185,41 @@ fn print_run(table: &[u8], requests: &[u32]) {
         requests,
     );
     let answer = reply.answer;
-    print_number(b"run with requests: ", requests.len() as u64);
-    print_number(b", answer ", answers::number(answer) as u64);
-    print_number(b" heads ", reply.heads as u64);
-    io::write_all(OUT, b" glyphs");
-    print_glyphs(&glyphs);
-    io::write_all(OUT, b"\n");
+    print_number(rt, "run with requests: ", requests.len() as u64)?;
+    print_number(rt, ", answer ", answers::number(answer) as u64)?;
+    print_number(rt, " heads ", reply.heads as u64)?;
+    print!(rt; " glyphs")?;
+    print_glyphs(rt, &glyphs)?;
+    println!(rt)
 }
 
-fn print_runs(table: &[u8]) {
-    print_run(table, &[]);
-    print_run(table, &[37 * 65536 + 1]);
+fn print_runs(rt: &impl Print, table: &[u8]) -> io::Result<()> {
+    print_run(rt, table, &[])?;
+    print_run(rt, table, &[37 * 65536 + 1])
 }
 
-fn main() {
-    print_verb(1, 0, 4);
-    print_verb(13, 0, 4);
-    print_verb(12, 1, 4);
-    print_verb(12, 0, 2);
-    print_verb(2, 3, 9);
-    print_lookup(5);
-    print_lookup(6);
-    print_lookup(4);
-    print_lookup(7);
-    print_lookup_cut(&TRIMMED, 8, 6);
-    print_lookup_format(3, 6);
-    print_class(0xFFFF);
-    print_offset(0x3FFFFFFF, -1);
-    print_offset(0x20000000, -536_870_912);
-    print_offset(0x1FFFFFFF, 536_870_911);
+fn main(rt: HostRuntime) -> io::Result<()> {
+    print_verb(&rt, 1, 0, 4)?;
+    print_verb(&rt, 13, 0, 4)?;
+    print_verb(&rt, 12, 1, 4)?;
+    print_verb(&rt, 12, 0, 2)?;
+    print_verb(&rt, 2, 3, 9)?;
+    print_lookup(&rt, 5)?;
+    print_lookup(&rt, 6)?;
+    print_lookup(&rt, 4)?;
+    print_lookup(&rt, 7)?;
+    print_lookup_cut(&rt, &TRIMMED, 8, 6)?;
+    print_lookup_format(&rt, 3, 6)?;
+    print_class(&rt, 0xFFFF)?;
+    print_offset(&rt, 0x3FFFFFFF, -1)?;
+    print_offset(&rt, 0x20000000, -536_870_912)?;
+    print_offset(&rt, 0x1FFFFFFF, 536_870_911)?;
     print_shaper(
+        &rt,
         b"\x00\x00\x00\x2E\x00\x02\x00\x00\x00\x00\x00\x01\x00\x00\x00\x01\x00\x00\x00\x26\x00\x00\x00\x00\x00\x00\x00\x01\x00\x00\x00\x16\x00\x00\x00\x04\x00\x00\x00\x01\x00\x08\x00\x05\x00\x02\x00\x07\x00\x09\x00\x03\x00\x05\x00\x06\x00\x14",
-    );
+    )?;
     print_runs(
+        &rt,
         b"\x00\x02\x00\x00\x00\x00\x00\x01\x00\x00\x00\x00\x00\x00\x00\x32\x00\x00\x00\x01\x00\x00\x00\x01\x00\x25\x00\x01\x00\x00\x00\x01\xFF\xFF\xFF\xFF\x00\x00\x00\x16\x00\x00\x00\x04\x00\x00\x00\x01\x00\x08\x00\x05\x00\x02\x00\x07\x00\x09",
-    );
+    )
 }

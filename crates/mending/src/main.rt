@@ -1,11 +1,11 @@
 // The mending as a program: reads a lookup table from standard input, mends it and prints what became of its records, and the new table.
-ghost use Rattle.std.specs.Prelude.{◌≤◌};
+#![tactic(auto)]
+
+ghost use Rattle.std.specs.Prelude.{◌≤◌, length, IfOk};
 
 use answers::{Answer, Check};
-
-const IN: i32 = 0;
-
-const OUT: i32 = 1;
+use std::io;
+use std::io::Read;
 
 // The most records that a table counts.
 const MOST_RECORDS: usize = 65_535;
@@ -16,14 +16,28 @@ const MOST_BYTES: usize = 12 + 6 * MOST_RECORDS;
 // What is read at once of the rest, of which only the length counts.
 const PART: usize = 65_536;
 
-fn print_number(name: &[u8], number: u64) {
-    io::write_all(OUT, name);
-    io::print_decimal(OUT, number);
+// Reads until the room is full or the input ends, and returns how many bytes were read.
+fn read_full(input: &mut impl Read, room: &mut [u8]) -> io::Result<usize>
+    ensures { IfOk result (λ read. read ≤ length room.new) }
+{
+    let mut read = 0;
+    while read < room.len() {
+        let more = input.read(&mut room[read..])?;
+        if more == 0 {
+            break;
+        }
+        read += more;
+    }
+    Ok(read)
 }
 
-fn print_answer(answer: Answer) {
-    print_number(b"answer ", answers::number(answer) as u64);
-    io::write_all(OUT, b"\n");
+fn print_number(rt: &impl Print, name: &str, number: u64) -> io::Result<()> {
+    print!(rt; "{name}{number}")
+}
+
+fn print_answer(rt: &impl Print, answer: Answer) -> io::Result<()> {
+    print_number(rt, "answer ", answers::number(answer) as u64)?;
+    println!(rt)
 }
 
 // The last hex digit of a number, in capitals.
@@ -44,7 +58,7 @@ fn word_at(bytes: &[u8], place: usize) -> u16 {
 }
 
 // A number of the table, and what separates it from the next.
-fn print_word(word: u16, separator: u8) {
+fn print_word(rt: &impl Print, word: u16, separator: u8) -> io::Result<()> {
     let digits = [
         digit(word / 4096),
         digit(word / 256),
@@ -52,93 +66,91 @@ fn print_word(word: u16, separator: u8) {
         digit(word),
         separator,
     ];
-    io::write_all(OUT, &digits);
+    rt.write_all(&digits)
 }
 
 // The new table in hex, on one line.
-fn print_table(bytes: &[u8], size: usize) {
+fn print_table(rt: &impl Print, bytes: &[u8], size: usize) -> io::Result<()> {
     let mut place: usize = 0;
     let mut left = size;
     while 2 < left {
-        print_word(word_at(bytes, place), b' ');
+        print_word(rt, word_at(bytes, place), b' ')?;
         place += 2;
         left -= 2;
     }
-    print_word(word_at(bytes, place), b'\n');
+    print_word(rt, word_at(bytes, place), b'\n')
 }
 
 // What became of a record, unless it has its old number.
-fn print_record(index: u16, number: u16) {
+fn print_record(rt: &impl Print, index: u16, number: u16) -> io::Result<()> {
     if number == index {
-        return;
+        return Ok(());
     }
     if number == mend::NONE {
-        print_number(b"dropped ", index as u64);
-        io::write_all(OUT, b"\n");
-        return;
+        print_number(rt, "dropped ", index as u64)?;
+        return println!(rt);
     }
-    print_number(b"moved ", index as u64);
-    print_number(b" ", number as u64);
-    io::write_all(OUT, b"\n");
+    print_number(rt, "moved ", index as u64)?;
+    print_number(rt, " ", number as u64)?;
+    println!(rt)
 }
 
 // What became of each record.
-fn print_records(numbers: &[u16; MOST_RECORDS], count: u16) {
-    let mut index: u16 = 0;
-    while index < count {
-        print_record(index, numbers[index as usize]);
-        index += 1;
+fn print_records(rt: &impl Print, numbers: &[u16; MOST_RECORDS], count: u16) -> io::Result<()> {
+    for index in 0..count {
+        print_record(rt, index, numbers[index as usize])?;
     }
+    Ok(())
 }
 
 // How many bytes more there are, up to a part.
-fn read_part() -> usize
-    ensures { result ≤ 65536 }
+fn read_part(input: &mut impl Read) -> io::Result<usize>
+    ensures { IfOk result (λ more. more ≤ 65536) }
 {
     let mut part = [0u8; PART];
-    io::read_full(IN, &mut part)
+    read_full(input, &mut part)
 }
 
 // How many bytes the table has: those that were read, and the rest, as far as it matters.
-fn length_of(read: usize) -> usize {
+fn length_of(input: &mut impl Read, read: usize) -> io::Result<usize> {
     if read < MOST_BYTES {
-        return read;
+        return Ok(read);
     }
     let mut total = read;
     while total <= answers::TABLE_LIMIT {
-        let more = read_part();
+        let more = read_part(input)?;
         if more == 0 {
-            return total;
+            return Ok(total);
         }
         total += more;
     }
-    total
+    Ok(total)
 }
 
 // Mends the first bytes of the table and prints what there is to say.
-fn mend_first(bytes: &[u8; MOST_BYTES], read: usize) {
+fn mend_first(rt: &impl Print, bytes: &[u8; MOST_BYTES], read: usize) -> io::Result<()> {
     let mut buffer = [0u8; MOST_BYTES];
     let mut numbers = [0u16; MOST_RECORDS];
     let mut size: usize = 0;
     let table: &[u8] = bytes;
     if table.len() < read {
-        return;
+        return Ok(());
     }
     let answer = mend::mend(&table[..read], 0, &mut buffer, &mut numbers, &mut size);
-    print_answer(answer);
+    print_answer(rt, answer)?;
     let Answer::Done = answer else {
-        return;
+        return Ok(());
     };
-    print_records(&numbers, word_at(table, 4));
-    print_table(&buffer, size);
+    print_records(rt, &numbers, word_at(table, 4))?;
+    print_table(rt, &buffer, size)
 }
 
-fn main() {
+fn main(rt: HostRuntime) -> io::Result<()> {
+    let mut input = rt.stdin();
     let mut bytes = [0u8; MOST_BYTES];
-    let read = io::read_full(IN, &mut bytes);
-    if let Check::Refused(why) = answers::refuse_table(length_of(read)) {
-        print_answer(Answer::Refused(why));
-        return;
+    let read = read_full(&mut input, &mut bytes)?;
+    if let Check::Refused(why) = answers::refuse_table(length_of(&mut input, read)?) {
+        return print_answer(&rt, Answer::Refused(why));
     }
-    mend_first(&bytes, read);
+    mend_first(&rt, &bytes, read)
 }

@@ -1,6 +1,6 @@
 -- For the code alone; no entry and no promise rests on it, and nobody has to believe it. A result of the shaper in numbers of two bytes, as the
 -- sample holds it.
-use Rattle.std.specs.Prelude.{ℕ, ◌+◌, ◌*◌, Bool, true, false, cond, List, eqb, length, get_or, drop}
+use Rattle.std.specs.Prelude.{ℕ, ◌+◌, ◌*◌, Bool, false, List, eqb, length, get_or, drop}
 use Rattle.laws.specs.Choose.{if_lt, if_eq}
 use Rattle.laws.specs.Lists.{both, every}
 use Rattle.answers.specs.Numbers.{number_of}

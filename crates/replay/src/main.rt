@@ -1,17 +1,24 @@
 // Replays a sample of the crate's answers, with no Rust at hand: `beside/run --sample FILE` writes what is read here.
+#![tactic(auto)]
+
 mod results;
 
+ghost use Rattle.std.specs.Prelude.{◌≤◌, length, IfOk};
+
 use shaper::SHAPER_ROOM;
+use std::io;
+use std::io::Read;
 use tables::lookup::LookupReply;
 use tables::survey::Surveyed;
-
-const OUT: i32 = 1;
 
 // The shaper's number in the sample: it is no exported entry.
 const SHAPER: u32 = 0;
 
 // More cases than a sample has.
 const MOST_CASES: u32 = 100_000;
+
+// More bytes than a length of two bytes counts, of a table or a result.
+const MOST_BYTES: usize = 65_536;
 
 // How a case of the sample went.
 #[derive(Drop)]
@@ -28,6 +35,21 @@ struct Numbers {
     answer: u32,
     first: u32,
     second: u32,
+}
+
+// Reads until the room is full or the input ends, and returns how many bytes were read.
+fn read_full(input: &mut impl Read, room: &mut [u8]) -> io::Result<usize>
+    ensures { IfOk result (λ read. read ≤ length room.new) }
+{
+    let mut read = 0;
+    while read < room.len() {
+        let more = input.read(&mut room[read..])?;
+        if more == 0 {
+            break;
+        }
+        read += more;
+    }
+    Ok(read)
 }
 
 fn byte(bytes: &[u8], at: usize) -> u32 {
@@ -133,62 +155,61 @@ fn ask(entry: u32, table: &[u8], fields: &[u8]) -> Case {
 }
 
 // Reads the numbers of a result, and compares the shaper's with them.
-fn replay_result(input: &[u8], numbers: &mut [u8]) -> Case {
-    if io::read_full(0, numbers) != numbers.len() {
-        return Case::Broken;
+fn replay_result(sample: &mut impl Read, input: &[u8], numbers: &mut [u8]) -> io::Result<Case> {
+    if read_full(sample, numbers)? != numbers.len() {
+        return Ok(Case::Broken);
     }
     let mut glyphs = [0u16; SHAPER_ROOM];
     let mut tags = [0u16; SHAPER_ROOM];
     let mut homes = [0u16; SHAPER_ROOM];
     let shaped = shaper::shape(input, &mut glyphs, &mut tags, &mut homes);
     if results::is_result(numbers, shaped, &glyphs, &tags, &homes) {
-        return Case::Same;
+        return Ok(Case::Same);
     }
-    Case::Differs
+    Ok(Case::Differs)
 }
 
 // Reads how long a result is, and replays it.
-fn replay_shaper(input: &[u8]) -> Case {
+fn replay_shaper(sample: &mut impl Read, input: &[u8]) -> io::Result<Case> {
     let mut size = [0u8; 2];
-    if io::read_full(0, &mut size) != 2 {
-        return Case::Broken;
+    if read_full(sample, &mut size)? != 2 {
+        return Ok(Case::Broken);
     }
     let length = results::word(&size, 0) as usize;
-    let mut buffer = io::large_buffer();
-    replay_result(input, &mut buffer[..length])
+    let mut buffer = [0u8; MOST_BYTES];
+    replay_result(sample, input, &mut buffer[..length])
 }
 
 // Reads a case's table and fields, and asks it; of the shaper it is the input and the result.
-fn replay_case(entry: u32, table: &mut [u8]) -> Case {
-    if io::read_full(0, table) != table.len() {
-        return Case::Broken;
+fn replay_case(sample: &mut impl Read, entry: u32, table: &mut [u8]) -> io::Result<Case> {
+    if read_full(sample, table)? != table.len() {
+        return Ok(Case::Broken);
     }
     if entry == SHAPER {
-        return replay_shaper(table);
+        return replay_shaper(sample, table);
     }
     let mut fields = [0u8; 11];
-    if io::read_full(0, &mut fields) != 11 {
-        return Case::Broken;
+    if read_full(sample, &mut fields)? != 11 {
+        return Ok(Case::Broken);
     }
-    ask(entry, table, &fields)
+    Ok(ask(entry, table, &fields))
 }
 
 // Reads the next case and asks it.
-fn replay_one(buffer: &mut [u8]) -> Case {
+fn replay_one(sample: &mut impl Read, buffer: &mut [u8]) -> io::Result<Case> {
     let mut head = [0u8; 3];
-    if io::read_full(0, &mut head) == 0 {
-        return Case::Ended;
+    if read_full(sample, &mut head)? == 0 {
+        return Ok(Case::Ended);
     }
     let length = results::word(&head, 1) as usize;
     if buffer.len() < length {
-        return Case::Broken;
+        return Ok(Case::Broken);
     }
-    replay_case(byte(&head, 0), &mut buffer[..length])
+    replay_case(sample, byte(&head, 0), &mut buffer[..length])
 }
 
-fn print_number(number: u64, name: &[u8]) {
-    io::print_decimal(OUT, number);
-    io::write_all(OUT, name);
+fn print_number(rt: &impl Print, number: u64, name: &str) -> io::Result<()> {
+    print!(rt; "{number}{name}")
 }
 
 // How many cases went so or otherwise, and whether the sample ended between two of them.
@@ -199,39 +220,39 @@ struct Totals {
     whole: bool,
 }
 
-fn replay_all(buffer: &mut [u8]) -> Totals {
+fn replay_all(sample: &mut impl Read, buffer: &mut [u8]) -> io::Result<Totals> {
     let mut same: u32 = 0;
     let mut other: u32 = 0;
     for _ in 0..MOST_CASES {
-        let case = replay_one(buffer);
+        let case = replay_one(sample, buffer)?;
         match case {
             Case::Same => same += 1,
             Case::Differs => other += 1,
-            Case::Ended => return Totals {
+            Case::Ended => return Ok(Totals {
                 same,
                 other,
                 whole: true,
-            },
-            Case::Broken => return Totals {
+            }),
+            Case::Broken => return Ok(Totals {
                 same,
                 other,
                 whole: false,
-            },
+            }),
         }
     }
-    Totals {
+    Ok(Totals {
         same,
         other,
         whole: false,
-    }
+    })
 }
 
-fn main() {
-    let mut buffer = io::large_buffer();
-    let totals = replay_all(&mut buffer);
+fn main(rt: HostRuntime) -> io::Result<()> {
+    let mut buffer = [0u8; MOST_BYTES];
+    let totals = replay_all(&mut rt.stdin(), &mut buffer)?;
     if !totals.whole {
-        io::write_all(OUT, b"the sample breaks off\n");
+        println!(rt; "the sample breaks off")?;
     }
-    print_number(totals.same as u64, b" answers as the crate's, ");
-    print_number(totals.other as u64, b" others\n");
+    print_number(&rt, totals.same as u64, " answers as the crate's, ")?;
+    print_number(&rt, totals.other as u64, " others\n")
 }

@@ -1,0 +1,6 @@
+use Rattle.std.proofs.Common.{◌+◌, ◌≤◌}
+use Rattle.replay.proofs.replay_all.Given as goal
+
+-- each case before this one was the same or differed
+abbrev pub invariant-loop : goal.invariant-loop
+invariant-loop g l = l.same + l.other ≤ l.counter
