@@ -1,6 +1,5 @@
 -- The numbers of the answers: document 01's table, and from 10 on those that document 02 adds.
 use Rattle.std.specs.Prelude.{ℕ}
-use Rattle.answers.specs.declared.Refusal.{Refusal}
 use Rattle.answers.specs.declared.Refusal.TheVariants.{Table, Line, Place, State, Head, Request, Record, Version, Tuples, Index, Reel, Anchor, Overlap, Space}
 use Rattle.answers.specs.declared.Answer.{Answer}
 use Rattle.answers.specs.declared.Answer.TheVariants.{Done, Nothing, Full, Ended, Limit, Refused}

@@ -1,5 +1,5 @@
 -- The tests of a call before its work, in document 01's order: the first that holds refuses it.
-use Rattle.std.specs.Prelude.{ℕ, Bool, true, false, cond, List, [], ◌∷◌, ltb}
+use Rattle.std.specs.Prelude.{ℕ, Bool, cond, List, [], ◌∷◌, ltb}
 use Rattle.answers.specs.declared.Refusal.{Refusal}
 use Rattle.answers.specs.declared.Refusal.TheVariants.{Table}
 use Rattle.answers.specs.declared.Check.{Check}

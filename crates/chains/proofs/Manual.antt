@@ -1,21 +1,21 @@
 -- The cursors give the manual's chains, features and subtables, and end where the manual's lists do; what a coverage says is the manual's.
-use Prim.Native.Nat.{ℕ, zero, suc, ◌+◌, ◌*◌, ◌-◌, ◌<◌, ◌≤◌}
-use mathlib.Core.Path.{◌≡◌, refl, sym, ◌∙◌, ap}
+use Prim.Native.Nat.{ℕ, zero, suc, ◌+◌, ◌-◌, ◌<◌, ◌≤◌}
+use mathlib.Core.Path.{◌≡◌, refl, ◌∙◌, ap}
 use mathlib.Core.Bool.{Bool, true, false, not, cond}
 use mathlib.Core.List.{List}
 use native.Mathlib.Omega.{arith}
 use lib.Dec.{eqb}
 use lib.ListN.{length}
-use borrow.Author.Tests.{eq-eqb, ne_eqb}
+use borrow.Author.Tests.{ne_eqb}
 use Rattle.laws.specs.Bits.{is_set}
 use Rattle.laws.specs.Lists.{both}
-use Rattle.parse.specs.Reads.{u16_at, u32_at, inside}
+use Rattle.parse.specs.Reads.{u16_at, u32_at}
 use Rattle.parse.proofs.Laws.{inside_yes, inside-cut, read_u32_got, read_u32-short}
 use Rattle.chains.specs.Orders.{kind_number, order_by, order_of, old_order, order_in, is_reversed, is_vertical}
 use Rattle.chains.specs.Lists.{cursor, width, number_at, chain_bytes, subtable_bytes, chain_count, chains_from, chain_at, next_chain, feature_at, next_feature, subtable_at, next_subtable}
 use Rattle.chains.specs.Followed.{after_chains, after_features, after_subtables}
 use Rattle.chains.specs.Manual.{is_descending, is_logical, manual_order, order_as, manual_reversed, reversed_in, only_vertical, place_from, chain_head_size, chain_total, chain_place, feature_total, feature_place}
-use Rattle.chains.specs.Manual.{subtable_head_size, subtable_total, subtable_size, subtable_coverage, subtable_place, first_subtable, manual_chain, manual_feature, manual_subtable, Lie, EndsAt}
+use Rattle.chains.specs.Manual.{subtable_head_size, subtable_total, subtable_size, subtable_place, first_subtable, manual_chain, manual_feature, manual_subtable, Lie, EndsAt}
 use Rattle.chains.specs.declared.Edition.{Edition}
 use Rattle.chains.specs.declared.Edition.TheVariants.{Morx, Mort}
 use Rattle.chains.specs.declared.Order.TheVariants.{Layout, ReverseLayout}

@@ -1,7 +1,7 @@
 -- The flags that a chain's features make are the manual's, over the features that lie where the manual says, up to the first that does not.
 use Prim.Native.Nat.{ℕ, zero, suc, ◌+◌, ◌-◌, ◌<◌, ◌≤◌}
 use mathlib.Core.Path.{◌≡◌, refl, ◌∙◌, ap, subst⁻¹}
-use mathlib.Core.List.{List, [], ◌∷◌}
+use mathlib.Core.List.{List}
 use mathlib.Core.Logic.{⊎_elim}
 use native.Mathlib.Omega.{arith}
 use lib.ListN.{length}
@@ -11,7 +11,6 @@ use Rattle.chains.specs.Lists.{cursor, next_feature}
 use Rattle.chains.specs.Features.{request_of, switched, features_of, switched_by, flags_behind}
 use Rattle.chains.specs.Manual.{place_from, chain_head_size, feature_total, feature_place, manual_feature, manual_chain, manual_flags, Lie, EndsAt}
 use Rattle.chains.specs.declared.Edition.{Edition}
-use Rattle.chains.specs.declared.Cursor.{Cursor}
 use Rattle.chains.specs.declared.Feature.{Feature}
 use Rattle.chains.specs.declared.NextFeature.TheVariants as Feature'
 use Rattle.chains.proofs.Manual.{feature_here, feature_cut, feature_none, ends_there}

@@ -1,7 +1,7 @@
 -- The tests before a table's chains, from what the code has tested.
 use Prim.Native.Nat.{ℕ, ◌<◌, ◌≤◌}
 use mathlib.Core.Path.{◌≡◌, sym, ◌∙◌}
-use mathlib.Core.List.{List, [], ◌∷◌}
+use mathlib.Core.List.{[], ◌∷◌}
 use borrow.Author.Tests.{lt-ltb, le-ltb, ltb-false}
 use Rattle.answers.specs.Refuse.{refuse, table_test}
 use Rattle.answers.specs.declared.Refusal.{Refusal}

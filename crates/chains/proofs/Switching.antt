@@ -1,6 +1,6 @@
 -- The requests one after the other, and the features of a list: what is left gives what the whole does.
 use Prim.Native.Nat.{ℕ, zero, suc, ◌+◌, ◌-◌, ◌<◌, ◌≤◌}
-use mathlib.Core.Path.{◌≡◌, refl, sym, ◌∙◌, ap, ap₂}
+use mathlib.Core.Path.{◌≡◌, refl, sym, ◌∙◌, ap}
 use mathlib.Core.Bool.{Bool, true, false, cond}
 use mathlib.Core.List.{List, [], ◌∷◌}
 use native.Mathlib.Numerals.{add-one}
@@ -9,8 +9,7 @@ use lib.Bits.{bit_and, bit_or}
 use lib.Dec.{eqb}
 use lib.ListN.{length, get_or, drop, drop_of_length-le}
 use lib.Seq.{drop-cons}
-use borrow.Author.Tests.{eq-eqb, ne_eqb, eqb-true, eqb-false}
-use Rattle.laws.specs.Choose.{if_eq}
+use borrow.Author.Tests.{eqb-false}
 use Rattle.laws.specs.Lists.{either}
 use Rattle.parse.specs.Reads.{inside}
 use Rattle.chains.specs.Lists.{feature_at, next_feature}

@@ -1,11 +1,10 @@
 -- What an operator asks for, and the flags that a chain's features make of those it begins with.
-use Rattle.std.specs.Prelude.{ℕ, zero, suc, ◌+◌, ◌*◌, Bool, true, false, cond, List, [], ◌∷◌, eqb}
+use Rattle.std.specs.Prelude.{ℕ, zero, suc, ◌+◌, ◌*◌, Bool, true, false, cond, List, [], ◌∷◌}
 use Rattle.std.specs.Int.Bits.{bit_and, bit_or}
 use Rattle.laws.specs.Choose.{if_eq}
 use Rattle.chains.specs.Lists.{next_feature}
 use Rattle.chains.specs.declared.Cursor.{Cursor}
 use Rattle.chains.specs.declared.Feature.{Feature}
-use Rattle.chains.specs.declared.NextFeature.{NextFeature}
 use Rattle.chains.specs.declared.NextFeature.TheVariants as Feature'
 
 -- a feature is asked for by one number: its type times 65,536 plus its setting

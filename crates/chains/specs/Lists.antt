@@ -1,5 +1,5 @@
 -- The crate's iterators over chains, features and subtables, as cursors, and the same over a mort table. Places are those of the whole table.
-use Rattle.std.specs.Prelude.{ℕ, ◌+◌, ◌*◌, ◌-◌, Bool, cond, List}
+use Rattle.std.specs.Prelude.{ℕ, ◌+◌, ◌*◌, ◌-◌, cond, List}
 use Rattle.laws.specs.Choose.{if_eq}
 use Rattle.parse.specs.Reads.{inside, u16_at, u32_at, read_u32}
 use Rattle.parse.specs.Use.{on_u32}

@@ -1,6 +1,6 @@
 -- Apple's manual on morx tables, and on mort tables before them: where chain i, its feature j and its subtable k begin, what their fields are, what a coverage says, and the heads of
 -- a table one after the other. The manual was not at hand: docs/DIFFERENCES.md says what these lines rest on.
-use Rattle.std.specs.Prelude.{ℕ, zero, suc, ◌+◌, ◌*◌, ◌-◌, ◌%◌, ◌≤◌, ◌<◌, Bool, true, false, not, cond, List, [], ◌∷◌, ◌++◌, length}
+use Rattle.std.specs.Prelude.{ℕ, zero, suc, ◌+◌, ◌*◌, ◌%◌, ◌≤◌, ◌<◌, Bool, true, false, not, cond, List, [], ◌∷◌, ◌++◌, length}
 use Rattle.std.specs.Int.Bits.{bit_and, bit_or}
 use Rattle.laws.specs.Bits.{is_set}
 use Rattle.laws.specs.Choose.{if_lt}

@@ -3,8 +3,6 @@ use Rattle.std.specs.Prelude.{ℕ, zero, suc, List, [], ◌∷◌}
 use Rattle.answers.specs.Limits.{head_limit}
 use Rattle.chains.specs.Lists.{cursor, chains_from, next_chain, next_subtable}
 use Rattle.chains.specs.declared.Edition.{Edition}
-use Rattle.chains.specs.declared.Chain.{Chain}
-use Rattle.chains.specs.declared.Subtable.{Subtable}
 use Rattle.chains.specs.declared.NextChain.{NextChain}
 use Rattle.chains.specs.declared.NextChain.TheVariants as Chain'
 use Rattle.chains.specs.declared.NextSubtable.{NextSubtable}

@@ -12,7 +12,6 @@ use Rattle.answers.proofs.Refusals.{refuse-here, refuse-later, refuse-none, pass
 use Rattle.answers.specs.Limits.{room_limit}
 use Rattle.answers.specs.Refuse.{refuse}
 use Rattle.answers.specs.declared.Refusal.{Refusal}
-use Rattle.answers.specs.declared.Refusal.TheVariants as Refusal
 use Rattle.answers.specs.declared.Check.{Check}
 use Rattle.answers.specs.declared.Check.TheVariants.{Passed, Refused}
 use Rattle.laws.proofs.Lists.{get_d_first}

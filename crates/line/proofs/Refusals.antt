@@ -1,15 +1,15 @@
 -- Which way a list of tests goes.
-use mathlib.Core.Path.{◌≡◌, refl, ◌∙◌, sym, ap}
+use mathlib.Core.Path.{◌≡◌, ◌∙◌, sym, ap}
 use mathlib.Core.Bool.{Bool, true, false, not}
 use borrow.Author.Tests.{not-false}
-use mathlib.Core.List.{List, [], ◌∷◌}
+use mathlib.Core.List.{List, ◌∷◌}
 use Rattle.answers.specs.Refuse.{Test, refuse}
 use Rattle.answers.specs.declared.Check.TheVariants.{Passed, Refused}
 use Rattle.answers.specs.declared.Refusal.TheVariants.{Line}
 use Rattle.line.specs.Line as L
 use Rattle.line.specs.Line.{Valid}
 use Rattle.line.specs.Test.{is_valid, line_test}
-use Rattle.answers.proofs.Refusals.{refuse-none, refuse-here, refuse-later, passed_here}
+use Rattle.answers.proofs.Refusals.{refuse-here, refuse-later, passed_here}
 use Rattle.line.proofs.Exact.{valid_of}
 
 -- LINE among them: the LINE test's code, `taken`, decides it

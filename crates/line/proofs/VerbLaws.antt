@@ -10,7 +10,6 @@ use borrow.Author.Tests.{lt-ltb, le-ltb}
 use Rattle.answers.proofs.Refusals.{refuse-here, refuse-later, refuse-none}
 use Rattle.answers.specs.Refuse.{refuse}
 use Rattle.answers.specs.declared.Refusal.{Refusal}
-use Rattle.answers.specs.declared.Refusal.TheVariants as Refusal
 use Rattle.answers.specs.declared.Answer.TheVariants as Answer
 use Rattle.answers.specs.declared.Check.{Check}
 use Rattle.answers.specs.declared.Check.TheVariants.{Passed, Refused}

@@ -5,7 +5,6 @@ use Rattle.answers.specs.Limits.{room_limit}
 use Rattle.answers.specs.Refuse.{Test, refuse}
 use Rattle.answers.specs.declared.Refusal.TheVariants as Refusal
 use Rattle.answers.specs.declared.Answer.{Answer}
-use Rattle.answers.specs.declared.Answer.TheVariants as Answer
 use Rattle.answers.specs.declared.Check.{Check}
 use Rattle.answers.specs.declared.Check.TheVariants.{Passed, Refused}
 use Rattle.line.specs.declared.FreshLine.{FreshLine}

@@ -3,21 +3,19 @@ use Prim.Native.Nat.{ℕ, ◌+◌, ◌-◌, ◌*◌, ◌<◌, ◌≤◌}
 use mathlib.Core.Path.{◌≡◌, refl, sym, ◌∙◌, ap, ap₂}
 use mathlib.Core.Bool.{Bool, true, false, cond}
 use mathlib.Core.List.{List}
-use mathlib.Core.Logic.{◌⊎◌, ⊎_elim}
 use native.Mathlib.Nat.{add_assoc}
 use native.Mathlib.Omega.{arith}
 use lib.Dec.{ltb, leb}
-use lib.ListN.{length, get_or, drop, length-drop}
+use lib.ListN.{length, get_or, drop}
 use lib.Seq.{get_or-drop}
 use lib.IntN.{ℤ}
 use mir.Syntax.{w16}
 use mir.Val.{to_z, of_z}
 use Rattle.laws.specs.Signed.{signed16}
 use Rattle.laws.proofs.Signed.{signed16_round}
-use borrow.Author.Tests.{lt-ltb, le-ltb, le-leb, lt-leb, ltb-true, leb-true}
+use borrow.Author.Tests.{lt-ltb, le-ltb, le-leb, lt-leb, leb-true}
 use Rattle.laws.specs.Lists.{both}
-use Rattle.laws.proofs.Lists.{both_left, both_right}
-use Rattle.laws.proofs.Numbers.{lt-or-ge}
+use Rattle.laws.proofs.Lists.{both_right}
 use Rattle.parse.specs.Reads.{inside, u8_at, u16_at, u32_at, read_u8, read_u16, read_i16, read_u32}
 use Rattle.parse.specs.Parts.{read_part}
 use Rattle.parse.specs.declared.ReadU8.TheVariants as U8

@@ -2,7 +2,7 @@
 use Prim.Native.Nat.{ℕ, ◌+◌, ◌-◌, ◌*◌, ◌/◌, ◌<◌, ◌≤◌}
 use mathlib.Core.Path.{◌≡◌, refl, sym, ◌∙◌, ap, subst⁻¹}
 use mathlib.Core.List.{List}
-use mathlib.Core.Logic.{◌⊎◌, ⊎_elim}
+use mathlib.Core.Logic.{⊎_elim}
 use native.Mathlib.Nat.{add-zero, div-eq_of_eq-mul_left}
 use native.Mathlib.Omega.{arith}
 use lib.ListN.{length, drop}
@@ -31,7 +31,6 @@ use Rattle.state_tables.specs.Manual.{ClassIs, deleted, covered, uncovered, Layo
 use Rattle.state_tables.specs.declared.States.{States}
 use Rattle.state_tables.specs.declared.Made.TheVariants.{Ready}
 use Rattle.state_tables.specs.declared.entries.Entry.{Entry}
-use Rattle.state_tables.specs.declared.entries.Entered.TheVariants.{At}
 use Rattle.state_tables.proofs.Heads.{extended_states, classic_states, extended_by_lem, extended_is, classic_is}
 use Rattle.state_tables.proofs.Readings.{Steps, raw_at, entry_by, entry-steps, by_row_lem}
 

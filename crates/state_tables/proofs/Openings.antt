@@ -8,7 +8,7 @@ use native.Mathlib.Omega.{arith}
 use lib.Dec.{ltb, eqb}
 use lib.ListN.{length, get_or, set, drop, length-drop, length-set, length-replicate, get_or-replicate}
 use lib.Seq.{get_or-set_same, get_or-set_other}
-use borrow.Author.Tests.{lt-ltb, le-ltb, ltb-true, ltb-false, eq-eqb, ne_eqb}
+use borrow.Author.Tests.{lt-ltb, le-ltb, ltb-true, ltb-false}
 use Rattle.laws.specs.Choose.{if_lt, if_eq}
 use Rattle.laws.proofs.Numbers.{eq-or-ne}
 use Rattle.parse.specs.Reads.{u8_at, u16_at, read_u8}
@@ -30,7 +30,7 @@ use Rattle.tables.specs.declared.units.Units.TheVariants as Units'
 use Rattle.tables.proofs.Sizes.{by_units, in_words_lem, in_crate}
 use Rattle.tables.proofs.Openings.{opened-same, opened-lies}
 use Rattle.state_tables.specs.Classes.{found_class, class_by_lookup, byte_class, class_by_array, class_in, class_of}
-use Rattle.state_tables.specs.Opened.{cut_bytes, classes_from, opened_bytes, classes_in, opened_classes, in_classes, word_class, byte_class_in, class_by, LiesIn, Remembers, noted, nothing_found}
+use Rattle.state_tables.specs.Opened.{cut_bytes, classes_from, opened_bytes, classes_in, opened_classes, word_class, byte_class_in, class_by, LiesIn, Remembers, noted, nothing_found}
 use Rattle.state_tables.specs.declared.Edition.{Edition}
 use Rattle.state_tables.specs.declared.Edition.TheVariants.{Extended, Classic}
 use Rattle.state_tables.specs.declared.States.{States}

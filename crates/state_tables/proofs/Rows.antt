@@ -10,7 +10,6 @@ use Rattle.parse.specs.Use.{on_u16}
 use Rattle.parse.specs.declared.ReadU16.{ReadU16}
 use Rattle.parse.specs.declared.ReadU16.TheVariants as U16
 use Rattle.state_tables.specs.Entries.{on_entry, read_narrow, number_in, entry_number, entry_at, by_row, resolved_in, resolved, entry_of}
-use Rattle.state_tables.specs.Opened.{classes_from, opened_classes}
 use Rattle.state_tables.specs.Rows.{is_classic, row_of, reached_in, reached_by}
 use Rattle.state_tables.specs.declared.Edition.{Edition}
 use Rattle.state_tables.specs.declared.Edition.TheVariants.{Extended, Classic}
@@ -20,12 +19,6 @@ use Rattle.state_tables.specs.declared.entries.Entered.{Entered}
 use Rattle.state_tables.specs.declared.entries.Entered.TheVariants.{At, Ended}
 use Rattle.state_tables.specs.declared.entries.Reached.{Reached}
 use Rattle.state_tables.specs.declared.entries.Reached.TheVariants as Reached'
-use Rattle.state_tables.specs.declared.opened.Classes.{Classes}
-use Rattle.state_tables.specs.declared.opened.Classes.TheVariants.{Words, Bytes, Searched}
-use Rattle.tables.specs.Opened.{opened_of}
-use Rattle.tables.specs.declared.opened.Opened.{Opened}
-use Rattle.tables.specs.declared.opened.Opened.TheVariants as Opened'
-use lib.ListN.{drop}
 
 -- a number without what is over by a divisor
 module _ (n divisor : ℕ) where

@@ -1,25 +1,24 @@
 -- On records in order the search finds the one that holds the key, or there is none: one law for formats 2, 4 and 6, and for pairs.
-use Prim.Native.Nat.{ℕ, zero, suc, ◌+◌, ◌*◌, ◌/◌, ◌<◌, ◌≤◌}
-use mathlib.Core.Path.{◌≡◌, refl, sym, ◌∙◌, ap, subst, subst⁻¹}
-use mathlib.Core.Bool.{Bool, true, false, cond}
+use Prim.Native.Nat.{ℕ, zero, suc, ◌+◌, ◌<◌, ◌≤◌}
+use mathlib.Core.Path.{◌≡◌, refl, ◌∙◌, subst⁻¹}
 use mathlib.Core.List.{List}
-use mathlib.Core.Logic.{◌⊎◌, ⊎_elim}
+use mathlib.Core.Logic.{⊎_elim}
 use native.Mathlib.Omega.{arith}
 use lib.ListN.{length}
 use borrow.Author.Tests.{lt-ltb, le-ltb}
 use Rattle.laws.proofs.Numbers.{eq-or-ne, lt-or-ge}
-use Rattle.parse.specs.Reads.{u32_at, read_u16}
+use Rattle.parse.specs.Reads.{u32_at}
 use Rattle.parse.proofs.Laws.{read_u16_got}
 use Rattle.tables.specs.Records.{record_place, pair_place}
 use Rattle.tables.specs.Search.{against, side_of, side_of_record, side_of_range, side_of_array, side_of_single, find, searched}
-use Rattle.tables.specs.Order.{Good, InOrder, Holds, TheOne, first_of, last_of}
+use Rattle.tables.specs.Order.{Good, InOrder, TheOne, first_of, last_of}
 use Rattle.tables.specs.declared.records.Keys.TheVariants.{Glyphs, Pairs}
 use Rattle.tables.specs.declared.records.Kind.{Kind}
 use Rattle.tables.specs.declared.records.Kind.TheVariants.{Ranges, Arrays, Singles}
 use Rattle.tables.specs.declared.records.Side.{Side}
 use Rattle.tables.specs.declared.records.Side.TheVariants as Side'
 use Rattle.tables.specs.declared.records.Spot.{Spot}
-use Rattle.tables.specs.declared.records.Spot.TheVariants.{At, Absent, Cut}
+use Rattle.tables.specs.declared.records.Spot.TheVariants.{At, Absent}
 use Rattle.tables.proofs.Pairs.{pair_side}
 use Rattle.tables.proofs.Halving.{middle, find-left, find_right, find-here, find-done}
 

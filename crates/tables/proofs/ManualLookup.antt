@@ -1,9 +1,8 @@
 -- The element that a lookup reads is the manual's, in all six formats.
-use Prim.Native.Nat.{ℕ, zero, suc, ◌+◌, ◌-◌, ◌*◌, ◌<◌, ◌≤◌}
+use Prim.Native.Nat.{ℕ, ◌+◌, ◌-◌, ◌*◌, ◌<◌, ◌≤◌}
 use mathlib.Core.Path.{◌≡◌, refl, sym, ◌∙◌, ap, subst, subst⁻¹}
-use mathlib.Core.Bool.{Bool, true, false, cond}
 use mathlib.Core.List.{List}
-use mathlib.Core.Logic.{◌⊎◌, ⊎_elim}
+use mathlib.Core.Logic.{⊎_elim}
 use native.Mathlib.Omega.{arith}
 use lib.ListN.{length}
 use borrow.Author.Tests.{lt-ltb, le-ltb}
@@ -14,11 +13,11 @@ use Rattle.parse.specs.declared.ReadU16.TheVariants.{Got, Short}
 use Rattle.parse.proofs.Laws.{read_u16_got, read_u16-short}
 use Rattle.tables.specs.Records.{stride_of, record_place, first_at, last_at, format_of}
 use Rattle.tables.specs.Search.{searched}
-use Rattle.tables.specs.Survey.{scanned, survey_in, survey_at}
+use Rattle.tables.specs.Survey.{survey_in, survey_at}
 use Rattle.tables.specs.Order.{Good, InOrder, Says, Holds, TheOne, first_of, last_of}
 use Rattle.tables.specs.Lookup.{element_at, element_of, element_in, in_records, trimmed_at, in_format, lookup_at}
 use Rattle.tables.specs.ManualLookup.{Units, segments, segment_arrays, singles, Layout, simple_array, units, trimmed_array, extended_trimmed_array, format_number, unit_size, unit_count, unit_place, first_glyph, last_glyph, UnitHolds, element_place, Lies, Alike, AsManual}
-use Rattle.tables.specs.declared.records.Format.TheVariants.{Simple, Records, Trimmed}
+use Rattle.tables.specs.declared.records.Format.TheVariants.{Records}
 use Rattle.tables.specs.declared.records.Keys.TheVariants.{Glyphs}
 use Rattle.tables.specs.declared.records.Kind.{Kind}
 use Rattle.tables.specs.declared.records.Kind.TheVariants.{Ranges, Arrays, Singles}
@@ -27,7 +26,6 @@ use Rattle.tables.specs.declared.records.Spot.TheVariants as Spot'
 use Rattle.tables.specs.declared.survey.Surveyed.TheVariants.{Sorted, Nothing as Nothing'}
 use Rattle.tables.specs.declared.lookup.Why.{Why}
 use Rattle.tables.specs.declared.lookup.Why.TheVariants.{NotCovered, CutShort}
-use Rattle.tables.specs.declared.lookup.Found.{Found}
 use Rattle.tables.specs.declared.lookup.Found.TheVariants.{At, Nothing}
 use Rattle.tables.proofs.Surveys.{same_size, says_in}
 use Rattle.tables.proofs.Finding.{search_finds}

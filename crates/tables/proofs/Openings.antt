@@ -1,24 +1,21 @@
 -- A lookup table that was opened finds what the lookup finds, why nothing was found not told apart.
-use Prim.Native.Nat.{ℕ, ◌+◌, ◌-◌, ◌*◌, ◌<◌, ◌≤◌}
-use mathlib.Core.Path.{◌≡◌, refl, sym, ◌∙◌, ap, subst}
+use Prim.Native.Nat.{ℕ, ◌+◌, ◌-◌, ◌*◌, ◌≤◌}
+use mathlib.Core.Path.{◌≡◌, refl, ◌∙◌, ap, subst}
 use mathlib.Core.Bool.{Bool, true, false, cond}
 use mathlib.Core.List.{List}
 use native.Mathlib.Omega.{arith}
 use lib.Dec.{ltb}
-use lib.ListN.{length}
 use borrow.Author.Tests.{lt-ltb, le-ltb, ltb-true, ltb-false}
 use Rattle.laws.specs.Choose.{if_lt}
 use Rattle.parse.specs.Reads.{u16_at, read_u16}
-use Rattle.parse.specs.Use.{on_u16}
 use Rattle.parse.specs.declared.ReadU16.{ReadU16}
 use Rattle.parse.specs.declared.ReadU16.TheVariants as U16
 use Rattle.parse.proofs.Laws.{read_u16_got, read_u16-short}
 use Rattle.tables.specs.Records.{format_of}
 use Rattle.tables.specs.Lookup.{element_at, trimmed_at, in_format, lookup_at}
-use Rattle.tables.specs.Opened.{most_in, opened_array, opened_trimmed, opened_by, opened_of, plain, in_array, found_in, LiesIn}
+use Rattle.tables.specs.Opened.{most_in, opened_array, opened_trimmed, opened_of, plain, in_array, found_in, LiesIn}
 use Rattle.tables.specs.declared.records.Format.{Format}
 use Rattle.tables.specs.declared.records.Format.TheVariants.{Simple, Records, Trimmed, Unknown}
-use Rattle.tables.specs.declared.lookup.Why.{Why}
 use Rattle.tables.specs.declared.lookup.Why.TheVariants.{NotCovered, CutShort}
 use Rattle.tables.specs.declared.lookup.Found.{Found}
 use Rattle.tables.specs.declared.lookup.Found.TheVariants.{At, Nothing}

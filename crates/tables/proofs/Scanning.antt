@@ -1,7 +1,7 @@
 -- The loop of the survey, and what makes a record bad.
 use Prim.Native.Nat.{ℕ, zero, suc, ◌+◌, ◌<◌, ◌≤◌}
-use mathlib.Core.Path.{◌≡◌, refl, sym, ◌∙◌, ap, subst}
-use mathlib.Core.Bool.{Bool, true, false, cond}
+use mathlib.Core.Path.{◌≡◌, refl, sym, ◌∙◌, ap}
+use mathlib.Core.Bool.{Bool, true, false}
 use mathlib.Core.List.{List}
 use native.Mathlib.Numerals.{add-one}
 use native.Mathlib.Omega.{arith}
@@ -11,8 +11,8 @@ use Rattle.laws.specs.Lists.{both}
 use Rattle.parse.specs.Reads.{inside, u16_at, read_u16}
 use Rattle.parse.specs.declared.ReadU16.{ReadU16}
 use Rattle.parse.specs.declared.ReadU16.TheVariants.{Got, Short}
-use Rattle.tables.specs.Records.{stride_of, record_place, first_at, last_at}
-use Rattle.tables.specs.Survey.{record_in, record_at, floor_of, ordered, in_order, scan, scanned, survey_in}
+use Rattle.tables.specs.Records.{stride_of, record_place, last_at}
+use Rattle.tables.specs.Survey.{record_in, record_at, floor_of, in_order, scan, scanned, survey_in}
 use Rattle.tables.specs.declared.records.Format.TheVariants.{Records}
 use Rattle.tables.specs.declared.records.Kind.{Kind}
 use Rattle.tables.specs.declared.survey.Record.{Record}

@@ -1,13 +1,13 @@
 -- The lookup by a reading: in the crate's it is the crate's, in the manual's the manual's, and they differ in format 10 alone.
 use Prim.Native.Nat.{ℕ, ◌+◌, ◌-◌, ◌*◌, ◌<◌, ◌≤◌}
-use mathlib.Core.Path.{◌≡◌, refl, sym, ◌∙◌, ap, subst}
+use mathlib.Core.Path.{◌≡◌, refl, sym, ◌∙◌, ap}
 use mathlib.Core.List.{List}
 use mathlib.Core.Logic.{⊎_elim}
 use native.Mathlib.Omega.{arith}
 use lib.ListN.{length}
-use borrow.Author.Tests.{lt-ltb, le-ltb, eq-eqb, ne_eqb}
+use borrow.Author.Tests.{lt-ltb, le-ltb, ne_eqb}
 use Rattle.laws.specs.Choose.{if_lt}
-use Rattle.laws.proofs.Numbers.{lt-or-ge, eq-or-ne}
+use Rattle.laws.proofs.Numbers.{lt-or-ge}
 use Rattle.parse.specs.Reads.{u8_at, u16_at, read_u8, read_u16}
 use Rattle.parse.specs.declared.ReadU16.{ReadU16}
 use Rattle.parse.specs.declared.ReadU16.TheVariants.{Got, Short}
@@ -15,7 +15,7 @@ use Rattle.parse.proofs.Laws.{u8_read, inside_past, read_u16_got, read_u16-short
 use Rattle.tables.specs.Lookup.{lookup_at}
 use Rattle.tables.specs.Units.{byte_units, sized_units, units_by, byte_at, in_units, lookup_by}
 use Rattle.tables.specs.ManualLookup.{extended_trimmed_array, Lies, Alike}
-use Rattle.tables.specs.ManualUnits.{Size, one, two, size_number, value_at, AsSized, FormatTen}
+use Rattle.tables.specs.ManualUnits.{Size, one, two, size_number, AsSized, FormatTen}
 use Rattle.tables.specs.declared.lookup.Why.{Why}
 use Rattle.tables.specs.declared.lookup.Why.TheVariants.{NotCovered, CutShort, UnknownFormat}
 use Rattle.tables.specs.declared.lookup.Found.{Found}

@@ -1,27 +1,25 @@
 -- The survey says "sorted" exactly when the records have the stated size and are in order, and else names that size or the first that is not.
-use Prim.Native.Nat.{ℕ, zero, suc, ◌+◌, ◌*◌, ◌-◌, ◌<◌, ◌≤◌}
+use Prim.Native.Nat.{ℕ, zero, suc, ◌+◌, ◌<◌, ◌≤◌}
 use mathlib.Core.Path.{◌≡◌, refl, sym, ◌∙◌, ap, subst, subst⁻¹}
 use mathlib.Core.Bool.{Bool, true, false, cond}
 use mathlib.Core.List.{List}
-use mathlib.Core.Logic.{◌⊎◌, ⊎_elim}
+use mathlib.Core.Logic.{⊎_elim}
 use native.Mathlib.Omega.{arith}
 use native.Mathlib.Nat.{suc_inj}
-use lib.Dec.{leb, ltb}
+use lib.Dec.{leb}
 use lib.ListN.{length}
-use borrow.Author.Tests.{le-leb, lt-leb, leb-true, leb-false, eq-eqb, ne_eqb}
-use Rattle.laws.specs.Lists.{both}
+use borrow.Author.Tests.{le-leb, leb-true, eq-eqb, ne_eqb}
 use Rattle.laws.proofs.Lists.{both_left, both_right}
 use Rattle.laws.proofs.Numbers.{lt-or-ge, eq-or-ne}
 use Rattle.parse.specs.Reads.{inside, u16_at, read_u16}
 use Rattle.parse.specs.declared.ReadU16.TheVariants.{Got}
 use Rattle.parse.proofs.Laws.{inside-fits, inside_yes, read_u16_got}
-use Rattle.tables.specs.Records.{stride_of, record_place, first_at, last_at, format_of}
+use Rattle.tables.specs.Records.{stride_of, record_place, format_of}
 use Rattle.tables.specs.Survey.{record_in, record_at, floor_of, ordered, in_order, scan, scanned, survey_in, survey_at}
 use Rattle.tables.specs.Order.{Good, InOrder, FirstBad, passed_size, Says, first_of, last_of}
 use Rattle.tables.specs.declared.records.Format.TheVariants.{Records}
 use Rattle.tables.specs.declared.records.Kind.{Kind}
 use Rattle.tables.specs.declared.records.Kind.TheVariants.{Ranges, Arrays, Singles}
-use Rattle.tables.specs.declared.survey.Record.{Record}
 use Rattle.tables.specs.declared.survey.Record.TheVariants.{Whole, Cut}
 use Rattle.tables.specs.declared.survey.Surveyed.{Surveyed}
 use Rattle.tables.specs.declared.survey.Surveyed.TheVariants.{Sorted, Bad, UnitSize, NoRecords, Nothing, Refused}

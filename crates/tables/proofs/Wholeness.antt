@@ -1,32 +1,27 @@
 -- A lookup table whose records all lie in it finds by them what the lookup finds.
-use Prim.Native.Nat.{ℕ, ◌+◌, ◌*◌, ◌/◌, ◌%◌, ◌<◌, ◌≤◌}
-use mathlib.Core.Path.{◌≡◌, refl, sym, ◌∙◌, ap, subst, subst⁻¹}
-use mathlib.Core.Bool.{Bool, true, false, cond}
+use Prim.Native.Nat.{ℕ, ◌+◌, ◌<◌, ◌≤◌}
+use mathlib.Core.Path.{◌≡◌, refl, sym, ◌∙◌, ap, subst}
+use mathlib.Core.Bool.{Bool, true, false}
 use mathlib.Core.List.{List}
-use mathlib.Core.Logic.{◌⊎◌, inl, inr}
 use native.Mathlib.Omega.{arith}
-use lib.Dec.{ltb, eqb}
-use lib.ListN.{length, get_or, set, length-set, length-replicate, get_or-replicate}
-use lib.Seq.{get_or-set_same, get_or-set_other}
-use borrow.Author.Tests.{lt-ltb, le-ltb, ltb-true, ltb-false}
-use Rattle.laws.specs.Choose.{if_lt}
-use Rattle.laws.proofs.Numbers.{eq-or-ne}
+use lib.Dec.{ltb}
+use lib.ListN.{length}
+use borrow.Author.Tests.{lt-ltb, le-ltb, ltb-false}
 use Rattle.parse.specs.Reads.{u16_at, read_u16}
 use Rattle.parse.specs.declared.ReadU16.{ReadU16}
 use Rattle.parse.specs.declared.ReadU16.TheVariants as U16
 use Rattle.parse.proofs.Laws.{read_u16_got}
 use Rattle.tables.specs.Records.{format_of, record_place, first_at, last_at}
-use Rattle.tables.specs.Search.{against, side_of, side_of_record, side_of_range, side_of_array, side_of_single, searched}
+use Rattle.tables.specs.Search.{against, side_of_record, side_of_range, side_of_array, side_of_single, searched}
 use Rattle.tables.specs.Lookup.{element_in, in_records, in_format, lookup_at}
 use Rattle.tables.specs.declared.records.Format.{Format}
 use Rattle.tables.specs.declared.records.Format.TheVariants as Format'
 use Rattle.tables.specs.declared.records.Keys.TheVariants.{Glyphs}
 use Rattle.tables.specs.declared.records.Kind.{Kind}
 use Rattle.tables.specs.declared.records.Kind.TheVariants.{Ranges, Arrays, Singles}
-use Rattle.tables.specs.declared.records.Side.{Side}
 use Rattle.tables.specs.declared.records.Side.TheVariants as Side'
 use Rattle.tables.specs.declared.records.Spot.{Spot}
-use Rattle.tables.specs.Whole.{whole_of, records_in, records_of, becomes}
+use Rattle.tables.specs.Whole.{whole_of, records_of, becomes}
 use Rattle.tables.specs.declared.whole.Records.{Records}
 use Rattle.tables.specs.declared.whole.Records.TheVariants.{Whole, Other}
 

@@ -1,5 +1,5 @@
 -- The crate's search by halves.
-use Rattle.std.specs.Prelude.{ℕ, zero, suc, ◌+◌, ◌/◌, Bool, true, false, List, ltb}
+use Rattle.std.specs.Prelude.{ℕ, zero, suc, ◌+◌, ◌/◌, true, false, List, ltb}
 use Rattle.laws.specs.Choose.{if_lt}
 use Rattle.parse.specs.Reads.{read_u16, read_u32}
 use Rattle.parse.specs.Use.{on_u16, on_u32}

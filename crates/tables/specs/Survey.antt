@@ -1,5 +1,5 @@
 -- The survey of a lookup table's order, over the bytes from the lookup table's own start on.
-use Rattle.std.specs.Prelude.{ℕ, zero, suc, ◌+◌, Bool, true, false, cond, List, [], ◌∷◌, leb, length, drop}
+use Rattle.std.specs.Prelude.{ℕ, zero, suc, Bool, true, false, cond, List, [], ◌∷◌, leb, length, drop}
 use Rattle.laws.specs.Choose.{if_eq}
 use Rattle.laws.specs.Lists.{both}
 use Rattle.answers.specs.Refuse.{refuse, table_test}
@@ -11,7 +11,6 @@ use Rattle.tables.specs.Records.{stride_of, record_place, first_at, last_at, for
 use Rattle.tables.specs.declared.records.Format.{Format}
 use Rattle.tables.specs.declared.records.Format.TheVariants.{Simple, Records, Trimmed, Unknown}
 use Rattle.tables.specs.declared.records.Kind.{Kind}
-use Rattle.tables.specs.declared.records.Kind.TheVariants.{Ranges, Arrays, Singles}
 use Rattle.tables.specs.declared.survey.Record.{Record}
 use Rattle.tables.specs.declared.survey.Record.TheVariants.{Whole, Cut}
 use Rattle.tables.specs.declared.survey.Surveyed.{Surveyed}

@@ -6,7 +6,6 @@ use mathlib.Core.Logic.{◌⊎◌, inl, inr, ⊎_elim}
 use native.Mathlib.Omega.{arith}
 use lib.ListN.{length, get_or, set, length-set}
 use lib.Seq.{get_or-set_same, get_or-set_other, ext_get_or}
-use Rattle.laws.specs.Choose.{if_eq}
 use Rattle.laws.proofs.Choices.{if_eq_yes, if_eq_no}
 use Rattle.laws.proofs.Lists.{length-tab, get_d_tab}
 use Rattle.laws.proofs.Numbers.{lt-or-ge, eq-or-ne}

@@ -1,5 +1,4 @@
 use Rattle.chains.specs.Lists.{chain_at}
-use borrow.Author.Rules.{rules}
 use Rattle.chains.proofs.chain_at.Goals as goal
 
 pub returns : goal.returns

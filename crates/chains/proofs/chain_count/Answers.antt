@@ -1,6 +1,5 @@
 use mathlib.Core.Path.{sym, ◌∙◌}
 use Rattle.chains.specs.Lists.{chain_count}
-use borrow.Author.Rules.{rules}
 use Rattle.chains.proofs.chain_count.Goals as goal
 
 pub returns-in_default : goal.returns-in_default

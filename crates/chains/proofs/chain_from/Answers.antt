@@ -4,7 +4,6 @@ use mathlib.Core.Path.{ap}
 use borrow.Author.Tests.{eq-eqb, ne_eqb}
 use Rattle.parse.proofs.Laws.{part_short, part_inside, inside-fits}
 use Rattle.chains.proofs.Editions.{as_long}
-use borrow.Author.Rules.{rules}
 use Rattle.chains.proofs.chain_from.Goals as goal
 
 pub returns-then-cursor-eq0 : goal.returns-then-cursor-eq0

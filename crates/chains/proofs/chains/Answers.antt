@@ -1,7 +1,6 @@
 use mathlib.Core.Path.{sym, ◌∙◌}
 use Rattle.chains.specs.Entries.{chains_call}
 use Rattle.chains.proofs.Starts.{taken_start}
-use borrow.Author.Rules.{rules}
 use Rattle.chains.proofs.chains.Goals as goal
 
 pub returns-in-Refused : goal.returns-in-Refused

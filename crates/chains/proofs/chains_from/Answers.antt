@@ -1,5 +1,4 @@
 use Rattle.chains.specs.Lists.{chains_from}
-use borrow.Author.Rules.{rules}
 use Rattle.chains.proofs.chains_from.Goals as goal
 
 pub returns : goal.returns

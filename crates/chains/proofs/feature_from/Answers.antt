@@ -1,8 +1,6 @@
-use mathlib.Core.Path.{sym, ◌∙◌}
 use borrow.Author.Tests.{eq-eqb, ne_eqb}
 use Rattle.parse.proofs.Laws.{part_short, part_inside, inside-fits}
 use Rattle.chains.specs.Lists.{next_feature}
-use borrow.Author.Rules.{rules}
 use Rattle.chains.proofs.feature_from.Goals as goal
 
 pub returns-then-cursor-eq0 : goal.returns-then-cursor-eq0

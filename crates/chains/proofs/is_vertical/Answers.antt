@@ -1,6 +1,5 @@
 use mathlib.Core.Path.{sym, ◌∙◌}
 use Rattle.chains.specs.Orders.{is_vertical}
-use borrow.Author.Rules.{rules}
 use Rattle.chains.proofs.is_vertical.Goals as goal
 
 pub returns-then-is_set : goal.returns-then-is_set

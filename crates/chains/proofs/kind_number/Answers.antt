@@ -1,5 +1,4 @@
 use Rattle.chains.specs.Orders.{kind_number}
-use borrow.Author.Rules.{rules}
 use Rattle.chains.proofs.kind_number.Goals as goal
 
 pub returns-in-Morx : goal.returns-in-Morx

@@ -1,6 +1,5 @@
 use mathlib.Core.Path.{sym, ◌∙◌}
 use Rattle.chains.specs.Entries.{chain_call}
-use borrow.Author.Rules.{rules}
 use Rattle.chains.proofs.next_chain.Goals as goal
 
 pub returns-in-Refused : goal.returns-in-Refused

@@ -1,6 +1,5 @@
 use mathlib.Core.Path.{sym, ◌∙◌}
 use Rattle.chains.specs.Entries.{feature_call}
-use borrow.Author.Rules.{rules}
 use Rattle.chains.proofs.next_feature.Goals as goal
 
 pub returns-in-Refused : goal.returns-in-Refused

@@ -1,6 +1,5 @@
 use mathlib.Core.Path.{sym, ◌∙◌}
 use Rattle.chains.specs.Walk.{next_head}
-use borrow.Author.Rules.{rules}
 use Rattle.chains.proofs.next_head.Goals as goal
 
 pub returns-in-At : goal.returns-in-At

@@ -1,6 +1,5 @@
 use mathlib.Core.Path.{sym, ◌∙◌}
 use Rattle.chains.specs.Entries.{subtable_call}
-use borrow.Author.Rules.{rules}
 use Rattle.chains.proofs.next_subtable.Goals as goal
 
 pub returns-in-Refused : goal.returns-in-Refused

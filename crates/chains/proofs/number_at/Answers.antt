@@ -1,7 +1,6 @@
 use native.Mathlib.Omega.{arith}
 use mathlib.Core.Path.{◌∙◌}
 use Rattle.chains.proofs.Editions.{wide_morx, wide_mort, number_morx, number_mort}
-use borrow.Author.Rules.{rules}
 use Rattle.chains.proofs.number_at.Goals as goal
 
 pub u32_at-requires : goal.u32_at-requires

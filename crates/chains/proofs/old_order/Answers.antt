@@ -1,6 +1,5 @@
 use mathlib.Core.Path.{sym, ◌∙◌}
 use Rattle.chains.specs.Orders.{old_order}
-use borrow.Author.Rules.{rules}
 use Rattle.chains.proofs.old_order.Goals as goal
 
 pub returns-then-is_set : goal.returns-then-is_set

@@ -1,5 +1,4 @@
 use Rattle.chains.specs.Orders.{order_in}
-use borrow.Author.Rules.{rules}
 use Rattle.chains.proofs.order_in.Goals as goal
 
 pub returns-in-Morx : goal.returns-in-Morx

@@ -1,6 +1,5 @@
 use mathlib.Core.Path.{sym, ◌∙◌}
 use Rattle.chains.specs.Orders.{order_of}
-use borrow.Author.Rules.{rules}
 use Rattle.chains.proofs.order_of.Goals as goal
 
 pub returns-then-is_set-2 : goal.returns-then-is_set-2

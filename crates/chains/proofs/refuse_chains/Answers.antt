@@ -1,5 +1,4 @@
 use Rattle.chains.proofs.Starts.{start-table, start-past, start-inside}
-use borrow.Author.Rules.{rules}
 use Rattle.chains.proofs.refuse_chains.Goals as goal
 
 pub returns-in-Refused : goal.returns-in-Refused

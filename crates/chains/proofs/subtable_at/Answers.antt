@@ -1,5 +1,4 @@
 use Rattle.chains.specs.Lists.{subtable_at}
-use borrow.Author.Rules.{rules}
 use Rattle.chains.proofs.subtable_at.Goals as goal
 
 pub returns : goal.returns

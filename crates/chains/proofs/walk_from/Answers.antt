@@ -1,5 +1,4 @@
 use Rattle.chains.specs.Walk.{walk_from}
-use borrow.Author.Rules.{rules}
 use Rattle.chains.proofs.walk_from.Goals as goal
 
 pub returns : goal.returns

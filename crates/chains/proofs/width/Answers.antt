@@ -1,6 +1,5 @@
 use native.Mathlib.Omega.{arith}
 use Rattle.chains.specs.Lists.{width}
-use borrow.Author.Rules.{rules}
 use Rattle.chains.proofs.width.Goals as goal
 
 pub returns-in-Morx : goal.returns-in-Morx

@@ -1,6 +1,5 @@
 use native.Mathlib.Omega.{arith}
 use Rattle.line.proofs.FreshLaws.{fresh_refused, fresh-done, fresh-fits, fresh-small}
-use borrow.Author.Rules.{rules}
 use Rattle.line.proofs.fresh.Goals as goal
 
 pub returns-in-Refused : goal.returns-in-Refused

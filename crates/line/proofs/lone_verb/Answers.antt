@@ -1,5 +1,4 @@
 use Rattle.line.proofs.VerbLaws.{verb-fits, verb_refused, verb-none, verb-done}
-use borrow.Author.Rules.{rules}
 use Rattle.line.proofs.lone_verb.Goals as goal
 
 pub returns-in-Refused : goal.returns-in-Refused

@@ -1,5 +1,4 @@
 use Rattle.line.proofs.VerbLaws.{verb_invalid, verb-turned, verb_past, verb-passed}
-use borrow.Author.Rules.{rules}
 use Rattle.line.proofs.refuse_verb.Goals as goal
 
 pub returns-then-not-takes : goal.returns-then-not-takes

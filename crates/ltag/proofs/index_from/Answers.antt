@@ -1,6 +1,5 @@
 use mathlib.Core.Path.{sym, ◌∙◌}
 use Rattle.ltag.specs.Ltag.{language_index}
-use borrow.Author.Rules.{rules}
 use Rattle.ltag.proofs.index_from.Goals as goal
 
 pub returns-in-Refused : goal.returns-in-Refused

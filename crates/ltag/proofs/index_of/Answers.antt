@@ -1,6 +1,5 @@
 use mathlib.Core.Path.{sym, ◌∙◌}
 use Rattle.ltag.specs.Ltag.{index_of}
-use borrow.Author.Rules.{rules}
 use Rattle.ltag.proofs.index_of.Goals as goal
 
 pub returns-in_default : goal.returns-in_default

@@ -1,6 +1,5 @@
 use native.Mathlib.Omega.{arith}
 use Rattle.ltag.proofs.Looking.{part_end, look_no_offset, look_no_size, look_no_bytes, look_same, look_other}
-use borrow.Author.Rules.{rules}
 use Rattle.ltag.proofs.look_at.Goals as goal
 
 pub returns-in_default : goal.returns-in_default

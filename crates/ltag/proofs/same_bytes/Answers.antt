@@ -1,7 +1,4 @@
-use Prim.Native.Nat.{◌-◌}
-use native.Mathlib.Omega.{arith}
-use lib.ListN.{length}
-use Rattle.ltag.proofs.Equal.{Comparing, equal_longer, comparing_start, comparing_next, comparing_differs, comparing_done}
+use Rattle.ltag.proofs.Equal.{equal_longer, comparing_start, comparing_next, comparing_differs, comparing_done}
 use Rattle.ltag.proofs.same_bytes.Goals as goal
 
 pub returns-then-a-b : goal.returns-then-a-b

@@ -2,7 +2,6 @@ use mathlib.Core.Path.{◌∙◌, sym}
 use lib.ListN.{length, drop_of_length-le}
 use lib.Seq.{drop-length}
 use Rattle.laws.proofs.Parts.{part_is}
-use borrow.Author.Rules.{rules}
 use Rattle.parse.proofs.from.Goals as goal
 
 pub returns-then-table-start : goal.returns-then-table-start

@@ -1,6 +1,5 @@
 use Rattle.parse.proofs.Laws.{i16_read}
 use Rattle.parse.proofs.Laws.{i16_short}
-use borrow.Author.Rules.{rules}
 use Rattle.parse.proofs.read_i16.Goals as goal
 
 pub returns-in_default : goal.returns-in_default

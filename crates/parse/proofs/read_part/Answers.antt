@@ -1,6 +1,5 @@
 use Rattle.parse.specs.Parts.{read_part}
 use Rattle.parse.proofs.Laws.{inside_past, inside-small, inside-behind, part_read}
-use borrow.Author.Rules.{rules}
 use Rattle.parse.proofs.read_part.Goals as goal
 
 pub returns-then-table-size : goal.returns-then-table-size

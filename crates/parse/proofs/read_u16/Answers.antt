@@ -1,6 +1,5 @@
 use Rattle.parse.specs.Reads.{read_u16}
 use Rattle.parse.proofs.Laws.{inside-small, inside-behind, u16_read}
-use borrow.Author.Rules.{rules}
 use Rattle.parse.proofs.read_u16.Goals as goal
 
 pub returns-then-table-lt2 : goal.returns-then-table-lt2

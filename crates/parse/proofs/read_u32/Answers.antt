@@ -1,8 +1,6 @@
 use Rattle.parse.proofs.Laws.{u32_read}
-use native.Mathlib.Omega.{arith}
 use Rattle.parse.specs.Reads.{read_u32}
 use Rattle.parse.proofs.Laws.{inside-small, inside-behind}
-use borrow.Author.Rules.{rules}
 use Rattle.parse.proofs.read_u32.Goals as goal
 
 pub returns-then-table-lt4 : goal.returns-then-table-lt4

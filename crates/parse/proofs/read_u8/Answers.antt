@@ -1,8 +1,6 @@
 use Rattle.parse.proofs.Laws.{u8_read}
-use native.Mathlib.Omega.{arith}
 use Rattle.parse.specs.Reads.{read_u8}
-use Rattle.parse.proofs.Laws.{inside_past, inside-cut, inside_yes}
-use borrow.Author.Rules.{rules}
+use Rattle.parse.proofs.Laws.{inside_past}
 use Rattle.parse.proofs.read_u8.Goals as goal
 
 pub returns-then-table-at : goal.returns-then-table-at

@@ -1,5 +1,4 @@
 use Rattle.laws.proofs.Signed.{signed16_low, signed16-fits, signed16_high}
-use borrow.Author.Rules.{rules}
 use Rattle.parse.proofs.to_signed16.Goals as goal
 
 pub returns-then-number-lt32768 : goal.returns-then-number-lt32768

@@ -2,7 +2,6 @@ use borrow.Author.Tests.{lt-ltb, le-ltb}
 use mathlib.Core.Path.{sym, ◌∙◌}
 use Rattle.parse.proofs.Laws.{part_short, part_inside}
 use Rattle.state_tables.specs.States.{classic_at}
-use borrow.Author.Rules.{rules}
 use Rattle.state_tables.proofs.classic.Goals as goal
 
 pub returns-in_default : goal.returns-in_default

@@ -1,5 +1,4 @@
 use Rattle.state_tables.specs.States.{extended_at}
-use borrow.Author.Rules.{rules}
 use Rattle.state_tables.proofs.extended.Goals as goal
 
 pub returns : goal.returns

@@ -1,6 +1,5 @@
 use mathlib.Core.Path.{sym, ◌∙◌}
 use Rattle.state_tables.specs.States.{extended_by}
-use borrow.Author.Rules.{rules}
 use Rattle.state_tables.proofs.extended_by.Goals as goal
 
 pub returns-in_default : goal.returns-in_default

@@ -1,4 +1,3 @@
-use borrow.Author.Rules.{rules}
 use Rattle.verbs.proofs.Steps.{exchanged}
 use Rattle.verbs.proofs.exchange.Goals as goal
 

@@ -1,6 +1,5 @@
 use mathlib.Core.Path.{ap}
 use native.Mathlib.Omega.{arith}
-use borrow.Author.Rules.{rules}
 use Rattle.verbs.specs.Verbs.{size_of}
 use Rattle.verbs.proofs.lift.Goals as goal
 

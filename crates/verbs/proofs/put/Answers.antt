@@ -1,7 +1,6 @@
 use mathlib.Core.Path.{◌≡◌}
 use native.Mathlib.Omega.{arith}
 use lib.ListN.{length-set}
-use borrow.Author.Rules.{rules}
 use Rattle.verbs.proofs.Steps.{put_one, put_two}
 use Rattle.verbs.proofs.put.Goals as goal
 

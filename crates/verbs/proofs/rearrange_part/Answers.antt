@@ -1,4 +1,3 @@
-use borrow.Author.Rules.{rules}
 use Rattle.verbs.proofs.Steps.{stayed, carried}
 use Rattle.verbs.proofs.rearrange_part.Goals as goal
 

@@ -1,4 +1,3 @@
-use borrow.Author.Rules.{rules}
 use Rattle.verbs.proofs.Steps.{slid_none}
 use Rattle.verbs.proofs.slide.Goals as goal
 

@@ -1,7 +1,5 @@
-use Prim.Native.Nat.{◌≤◌, ◌-◌}
 use mathlib.Core.Path.{◌≡◌, refl}
 use native.Mathlib.Omega.{arith}
-use Rattle.verbs.specs.Steps.{Filled, slid_at}
 use Rattle.verbs.proofs.Steps.{filled_none, slid_down}
 use Rattle.verbs.proofs.slide_down.Goals as goal
 

@@ -1,6 +1,4 @@
-use borrow.Author.Rules.{rules}
-use Rattle.chains.specs.Features.{flags_behind}
-use Rattle.chains.proofs.Switching.{Switching, switching_start, switching_next, switching_end, switching_done, falls, flags-none}
+use Rattle.chains.proofs.Switching.{switching_start, switching_next, switching_end, switching_done, falls, flags-none}
 use Rattle.chains.proofs.features.flags_behind.Goals as goal
 
 pub returns-then-requests-eq0 : goal.returns-then-requests-eq0

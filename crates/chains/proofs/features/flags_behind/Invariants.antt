@@ -1,6 +1,5 @@
-use borrow.Author.Rules.{rules}
 use Rattle.chains.specs.Features.{flags_behind}
-use Rattle.chains.proofs.Switching.{Switching, switching_start, switching_next, switching_end, switching_done, falls, flags-none}
+use Rattle.chains.proofs.Switching.{Switching}
 use Rattle.chains.proofs.features.flags_behind.Given as goal
 
 abbrev pub invariant-loop-list : goal.invariant-loop-list

@@ -1,8 +1,4 @@
-use Prim.Native.Nat.{◌-◌}
-use native.Mathlib.Omega.{arith}
-use lib.ListN.{length}
-use borrow.Author.Rules.{rules}
-use Rattle.chains.proofs.Switching.{Asking, asking_start, asking_next, asking_done}
+use Rattle.chains.proofs.Switching.{asking_start, asking_next, asking_done}
 use Rattle.chains.proofs.features.is_asked.Goals as goal
 
 pub loop-i-init : goal.loop-i-init

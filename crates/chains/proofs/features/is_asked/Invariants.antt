@@ -1,8 +1,6 @@
 use Prim.Native.Nat.{◌-◌}
-use native.Mathlib.Omega.{arith}
 use lib.ListN.{length}
-use borrow.Author.Rules.{rules}
-use Rattle.chains.proofs.Switching.{Asking, asking_start, asking_next, asking_done}
+use Rattle.chains.proofs.Switching.{Asking}
 use Rattle.chains.proofs.features.is_asked.Given as goal
 
 abbrev pub invariant-loop-i : goal.invariant-loop-i

@@ -1,5 +1,4 @@
 use Rattle.chains.specs.Features.{request_of}
-use borrow.Author.Rules.{rules}
 use native.Mathlib.Omega.{arith}
 use Rattle.chains.proofs.features.request_of.Goals as goal
 

@@ -1,5 +1,3 @@
-use borrow.Author.Rules.{rules}
-use borrow.Author.Tests.{not-true, not-false}
 use Rattle.chains.proofs.Switching.{left_alone, switched-over}
 use Rattle.chains.proofs.features.switch.Goals as goal
 

@@ -1,6 +1,5 @@
 use Rattle.line.proofs.Joins.{part_off, part_own, part_counts}
 use Rattle.line.proofs.Returns.{emptied_not, emptied-there, handed_not, handed-over}
-use borrow.Author.Rules.{rules}
 use Rattle.line.proofs.edits.join.Goals as goal
 
 pub returns-then-used-part : goal.returns-then-used-part

@@ -1,8 +1,7 @@
-use Prim.Native.Nat.{◌-◌}
 use mathlib.Core.Path.{◌∙◌}
 use native.Mathlib.Omega.{arith}
-use lib.ListN.{length, length-set}
-use Rattle.line.proofs.Loops.{Joining, joining_start, joining_next, joining_glyphs, joining_homes}
+use lib.ListN.{length-set}
+use Rattle.line.proofs.Loops.{joining_start, joining_next, joining_glyphs, joining_homes}
 use Rattle.line.proofs.Returns.{joined_off, homes_off, joined-on, homes-on}
 use Rattle.line.proofs.edits.ligate.Goals as goal
 

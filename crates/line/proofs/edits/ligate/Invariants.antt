@@ -1,9 +1,6 @@
 use Prim.Native.Nat.{◌-◌}
-use mathlib.Core.Path.{◌∙◌}
-use native.Mathlib.Omega.{arith}
-use lib.ListN.{length, length-set}
-use Rattle.line.proofs.Loops.{Joining, joining_start, joining_next, joining_glyphs, joining_homes}
-use Rattle.line.proofs.Returns.{joined_off, homes_off, joined-on, homes-on}
+use lib.ListN.{length}
+use Rattle.line.proofs.Loops.{Joining}
 use Rattle.line.proofs.edits.ligate.Given as goal
 
 abbrev pub invariant-loop-k : goal.invariant-loop-k

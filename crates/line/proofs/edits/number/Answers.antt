@@ -1,7 +1,4 @@
-use Prim.Native.Nat.{◌-◌}
-use native.Mathlib.Omega.{arith}
-use Rattle.line.specs.Changes.{numbers_from}
-use Rattle.line.proofs.Loops.{Pasting, pasting_start, number-next, pasting_done}
+use Rattle.line.proofs.Loops.{pasting_start, number-next, pasting_done}
 use Rattle.line.proofs.edits.number.Goals as goal
 
 pub loop-k-init : goal.loop-k-init

@@ -1,7 +1,6 @@
 use Prim.Native.Nat.{◌-◌}
-use native.Mathlib.Omega.{arith}
 use Rattle.line.specs.Changes.{numbers_from}
-use Rattle.line.proofs.Loops.{Pasting, pasting_start, number-next, pasting_done}
+use Rattle.line.proofs.Loops.{Pasting}
 use Rattle.line.proofs.edits.number.Given as goal
 
 abbrev pub invariant-loop-k : goal.invariant-loop-k

@@ -1,9 +1,4 @@
-use Rattle.line.proofs.Loops.{Pasting, pasting_start, put_next, pasting_done}
-use Rattle.line.specs.Changes.{glyphs_of}
-use borrow.Author.Rules.{rules}
-use lib.ListN.{length}
-use native.Mathlib.Omega.{arith}
-use Prim.Native.Nat.{◌-◌, ◌/◌}
+use Rattle.line.proofs.Loops.{pasting_start, put_next, pasting_done}
 use Rattle.line.proofs.edits.put.Goals as goal
 
 pub loop-k-init : goal.loop-k-init

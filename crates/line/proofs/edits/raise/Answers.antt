@@ -1,8 +1,7 @@
-use Prim.Native.Nat.{◌-◌, ◌≤◌}
+use Prim.Native.Nat.{◌-◌}
 use native.Mathlib.Omega.{arith}
 use lib.ListN.{length, drop, length-take, length-drop}
-use borrow.Author.Rules.{rules}
-use Rattle.line.proofs.Loops.{Raising, raising_start, raising_next, raising_done, raised_part}
+use Rattle.line.proofs.Loops.{raising_start, raising_next, raising_done, raised_part}
 use Rattle.line.proofs.edits.raise.Goals as goal
 
 pub raise_one-requires : goal.raise_one-requires

@@ -1,8 +1,5 @@
-use Prim.Native.Nat.{◌-◌, ◌≤◌}
-use native.Mathlib.Omega.{arith}
-use lib.ListN.{length, drop, length-take, length-drop}
-use borrow.Author.Rules.{rules}
-use Rattle.line.proofs.Loops.{Raising, raising_start, raising_next, raising_done, raised_part}
+use Prim.Native.Nat.{◌≤◌}
+use Rattle.line.proofs.Loops.{Raising}
 use Rattle.line.proofs.edits.raise.Given as goal
 
 abbrev pub invariant-loop-place : goal.invariant-loop-place

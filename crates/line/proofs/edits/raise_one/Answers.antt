@@ -1,5 +1,5 @@
 use native.Mathlib.Omega.{arith}
-use Rattle.line.proofs.Loops.{Raising, raising_start, raising_next, raising_done}
+use Rattle.line.proofs.Loops.{raising_start, raising_next, raising_done}
 use Rattle.line.proofs.edits.raise_one.Goals as goal
 
 pub loop-place-init : goal.loop-place-init

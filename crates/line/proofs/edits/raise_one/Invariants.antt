@@ -1,5 +1,4 @@
-use native.Mathlib.Omega.{arith}
-use Rattle.line.proofs.Loops.{Raising, raising_start, raising_next, raising_done}
+use Rattle.line.proofs.Loops.{Raising}
 use Rattle.line.proofs.edits.raise_one.Given as goal
 
 abbrev pub invariant-loop-place : goal.invariant-loop-place

@@ -1,5 +1,4 @@
 use Rattle.line.proofs.Returns.{window_off, window_on}
-use borrow.Author.Rules.{rules}
 use Rattle.line.proofs.edits.rearrange.Goals as goal
 
 pub returns-then-end-first : goal.returns-then-end-first

@@ -1,9 +1,4 @@
-use Prim.Native.Nat.{◌-◌}
-use native.Mathlib.Omega.{arith}
-use lib.ListN.{length}
-use borrow.Author.Rules.{rules}
-use Rattle.line.specs.Changes.{rehomed}
-use Rattle.line.proofs.Loops.{Pasting, pasting_start, rehome_next, rehome_done}
+use Rattle.line.proofs.Loops.{pasting_start, rehome_next, rehome_done}
 use Rattle.line.proofs.edits.rehome.Goals as goal
 
 pub loop-c-init : goal.loop-c-init

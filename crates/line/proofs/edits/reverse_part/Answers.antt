@@ -1,6 +1,6 @@
 use native.Mathlib.Omega.{arith}
 use lib.ListN.{length-set}
-use Rattle.line.proofs.Loops.{Turning, turning_start, turning_next, turning_done}
+use Rattle.line.proofs.Loops.{turning_start, turning_next, turning_done}
 use Rattle.line.proofs.edits.reverse_part.Goals as goal
 
 pub loop-low-init : goal.loop-low-init

@@ -1,6 +1,4 @@
-use native.Mathlib.Omega.{arith}
-use lib.ListN.{length-set}
-use Rattle.line.proofs.Loops.{Turning, turning_start, turning_next, turning_done}
+use Rattle.line.proofs.Loops.{Turning}
 use Rattle.line.proofs.edits.reverse_part.Given as goal
 
 abbrev pub invariant-loop-low : goal.invariant-loop-low

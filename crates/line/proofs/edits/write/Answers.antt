@@ -1,5 +1,4 @@
 use Rattle.line.proofs.Returns.{written_off, written_on}
-use borrow.Author.Rules.{rules}
 use Rattle.line.proofs.edits.write.Goals as goal
 
 pub returns-then-used-at : goal.returns-then-used-at

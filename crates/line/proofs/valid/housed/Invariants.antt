@@ -1,13 +1,8 @@
 use Prim.Native.Nat.{◌≤◌, ◌-◌}
-use mathlib.Core.Path.{◌≡◌, sym}
-use native.Mathlib.Omega.{arith}
+use mathlib.Core.Path.{◌≡◌}
 use lib.Dec.{ltb}
 use lib.ListN.{length, get_or}
-use borrow.Author.Rules.{rules}
 use Rattle.laws.specs.Lists.{every}
-use Rattle.laws.proofs.Lists.{every-none}
-use Rattle.line.specs.Test.{are_housed}
-use Rattle.line.proofs.Tests.{every-next}
 use Rattle.line.proofs.valid.housed.Given as goal
 
 abbrev pub invariant-loop-c : goal.invariant-loop-c

@@ -1,12 +1,8 @@
-use Prim.Native.Nat.{◌≤◌, ◌-◌}
 use mathlib.Core.Path.{◌≡◌, sym}
-use native.Mathlib.Numerals.{add-one}
 use native.Mathlib.Omega.{arith}
 use lib.Dec.{eqb}
 use lib.ListN.{get_or}
-use borrow.Author.Rules.{rules}
 use Rattle.line.proofs.Room.{room_small}
-use Rattle.laws.specs.Lists.{every}
 use Rattle.laws.proofs.Lists.{every-none}
 use Rattle.line.specs.Seen.{are_in_order}
 use Rattle.line.proofs.Tests.{every-next}

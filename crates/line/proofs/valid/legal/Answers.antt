@@ -1,5 +1,4 @@
 use Rattle.line.proofs.Tests.{legal_crowded, legal_homeless, legal_in_order, legal-rest}
-use borrow.Author.Rules.{rules}
 use Rattle.line.proofs.valid.legal.Goals as goal
 
 pub returns-then-used-homes : goal.returns-then-used-homes

@@ -2,7 +2,6 @@ use Prim.Native.Nat.{◌%◌}
 use native.Mathlib.Omega.{arith}
 use Rattle.line.specs.Seen.{with_tag}
 use Rattle.line.proofs.Seen.{one_shifted}
-use borrow.Author.Rules.{rules}
 use Rattle.line.proofs.valid.mark.Goals as goal
 
 pub bounds-seen-word : goal.bounds-seen-word

@@ -1,4 +1,3 @@
-use native.Mathlib.Omega.{arith}
 use borrow.Author.Rules.{rules}
 use Rattle.line.proofs.Room.{room_words}
 use Rattle.line.proofs.valid.once_each.Goals as goal

@@ -1,8 +1,5 @@
-use borrow.Author.Rules.{rules}
-use Prim.Native.Nat.{◌-◌}
 use native.Mathlib.Omega.{arith}
-use lib.ListN.{length}
-use Rattle.line.proofs.Seen.{Marking, marking-start, marking-word, marking_large, marking_again, marking-next, marking-done}
+use Rattle.line.proofs.Seen.{marking-start, marking-word, marking_large, marking_again, marking-next, marking-done}
 use Rattle.line.proofs.valid.once_each_in.Goals as goal
 
 pub loop-p-init : goal.loop-p-init

@@ -1,8 +1,6 @@
-use borrow.Author.Rules.{rules}
 use Prim.Native.Nat.{◌-◌}
-use native.Mathlib.Omega.{arith}
 use lib.ListN.{length}
-use Rattle.line.proofs.Seen.{Marking, marking-start, marking-word, marking_large, marking_again, marking-next, marking-done}
+use Rattle.line.proofs.Seen.{Marking}
 use Rattle.line.proofs.valid.once_each_in.Given as goal
 
 abbrev pub invariant-loop-p : goal.invariant-loop-p

@@ -1,5 +1,4 @@
 use Rattle.mend.proofs.Heads.{counted-other, counted_none, counted-short, counted-all}
-use borrow.Author.Rules.{rules}
 use Rattle.mend.proofs.head.counted.Goals as goal
 
 pub returns-then-unit_size-stride_of : goal.returns-then-unit_size-stride_of

@@ -3,7 +3,6 @@ use mathlib.Core.Path.{sym, ◌∙◌}
 use Rattle.mend.specs.Mend.{lot_of}
 use native.Mathlib.Omega.{arith}
 use Rattle.parse.proofs.Laws.{u16_inside}
-use borrow.Author.Rules.{rules}
 use Rattle.mend.proofs.head.lot_of.Goals as goal
 
 pub returns-in_default : goal.returns-in_default

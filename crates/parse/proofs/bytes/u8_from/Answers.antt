@@ -1,4 +1,3 @@
-use borrow.Author.Rules.{rules}
 use Rattle.parse.proofs.bytes.u8_from.Goals as goal
 
 pub returns : goal.returns

@@ -1,4 +1,3 @@
-use borrow.Author.Rules.{rules}
 use Rattle.state_tables.proofs.classes.class_by.Goals as goal
 
 pub returns-in-Crate : goal.returns-in-Crate

@@ -1,7 +1,6 @@
 use borrow.Author.Tests.{lt-ltb, le-ltb}
 use mathlib.Core.Path.{sym, ◌∙◌}
 use Rattle.state_tables.specs.Classes.{class_by_array}
-use borrow.Author.Rules.{rules}
 use Rattle.state_tables.proofs.classes.class_by_array.Goals as goal
 
 pub returns-then-glyph-first : goal.returns-then-glyph-first

@@ -1,7 +1,6 @@
 use Rattle.state_tables.specs.Classes.{found_class}
 use Rattle.state_tables.proofs.Openings.{crate_class}
 use mathlib.Core.Path.{sym, ◌∙◌, ap}
-use borrow.Author.Rules.{rules}
 use Rattle.state_tables.proofs.classes.class_by_lookup.Goals as goal
 
 pub returns-in_default : goal.returns-in_default

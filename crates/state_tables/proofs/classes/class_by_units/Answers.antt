@@ -1,6 +1,5 @@
 use mathlib.Core.Path.{sym, ◌∙◌}
 use Rattle.state_tables.specs.Classes.{class_by_lookup}
-use borrow.Author.Rules.{rules}
 use Rattle.state_tables.proofs.classes.class_by_units.Goals as goal
 
 pub returns-in_default : goal.returns-in_default

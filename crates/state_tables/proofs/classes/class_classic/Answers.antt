@@ -1,5 +1,4 @@
 use Rattle.state_tables.specs.Classes.{class_classic}
-use borrow.Author.Rules.{rules}
 use Rattle.state_tables.proofs.classes.class_classic.Goals as goal
 
 pub returns : goal.returns

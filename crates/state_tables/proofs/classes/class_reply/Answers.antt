@@ -1,5 +1,4 @@
 use Rattle.state_tables.proofs.Replies.{reply-table, reply_past, reply-short, reply-class}
-use borrow.Author.Rules.{rules}
 use Rattle.state_tables.proofs.classes.class_reply.Goals as goal
 
 pub returns-in-Refused : goal.returns-in-Refused

@@ -3,7 +3,6 @@ use native.Mathlib.Nat.{div-le_self}
 use native.Mathlib.Omega.{arith}
 use borrow.Author.Tests.{lt-ltb, le-ltb, eq-eqb, ne_eqb}
 use Rattle.state_tables.specs.Entries.{by_row}
-use borrow.Author.Rules.{rules}
 use Rattle.state_tables.proofs.entries.by_row.Goals as goal
 
 pub returns-then-offset-array : goal.returns-then-offset-array

@@ -1,7 +1,6 @@
 use native.Mathlib.Omega.{arith}
 use Rattle.parse.proofs.Laws.{part_short, part_inside, inside-fits}
 use Rattle.state_tables.specs.Entries.{entry_at}
-use borrow.Author.Rules.{rules}
 use Rattle.state_tables.proofs.entries.entry_at.Goals as goal
 
 pub returns-in_default : goal.returns-in_default

@@ -1,5 +1,4 @@
 use Rattle.state_tables.specs.Entries.{number_in, entry_number}
-use borrow.Author.Rules.{rules}
 use Rattle.state_tables.proofs.entries.entry_number.Goals as goal
 
 pub returns-in-Extended : goal.returns-in-Extended

@@ -1,6 +1,5 @@
 use mathlib.Core.Path.{sym, ◌∙◌}
 use Rattle.state_tables.specs.Entries.{entry_of}
-use borrow.Author.Rules.{rules}
 use Rattle.state_tables.proofs.entries.entry_of.Goals as goal
 
 pub returns-in_default : goal.returns-in_default

@@ -1,7 +1,6 @@
 use Prim.Native.Nat.{◌+◌, ◌<◌, ◌^◌}
 use native.Mathlib.Omega.{arith}
 use Rattle.state_tables.proofs.Products.{product}
-use borrow.Author.Rules.{rules}
 use Rattle.state_tables.proofs.entries.entry_place.Goals as goal
 
 pub overflow_mul-result : goal.overflow_mul-result

@@ -1,7 +1,6 @@
 use borrow.Author.Tests.{lt-ltb, le-ltb, eq-eqb, ne_eqb}
 use mathlib.Core.Path.{sym, ◌∙◌}
 use Rattle.state_tables.specs.Rows.{row_of, reached_in}
-use borrow.Author.Rules.{rules}
 use Rattle.state_tables.proofs.entries.reach.Goals as goal
 
 pub returns-in_default : goal.returns-in_default

@@ -1,6 +1,5 @@
 use mathlib.Core.Path.{sym, ◌∙◌}
 use Rattle.state_tables.specs.Entries.{read_narrow}
-use borrow.Author.Rules.{rules}
 use Rattle.state_tables.proofs.entries.read_narrow.Goals as goal
 
 pub returns-in_default : goal.returns-in_default

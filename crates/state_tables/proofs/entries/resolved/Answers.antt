@@ -1,5 +1,4 @@
 use Rattle.state_tables.specs.Entries.{resolved_in, resolved}
-use borrow.Author.Rules.{rules}
 use Rattle.state_tables.proofs.entries.resolved.Goals as goal
 
 pub returns-in-Extended : goal.returns-in-Extended

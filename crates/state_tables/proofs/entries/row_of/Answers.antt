@@ -1,5 +1,4 @@
-use Prim.Native.Nat.{◌/◌}
-use mathlib.Core.Path.{◌≡◌, refl, ◌∙◌}
+use mathlib.Core.Path.{refl, ◌∙◌}
 use native.Mathlib.Omega.{arith}
 use Rattle.state_tables.proofs.Rows.{over_below, same_row, row-found}
 use Rattle.state_tables.proofs.entries.row_of.Goals as goal

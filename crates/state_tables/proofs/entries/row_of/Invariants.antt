@@ -1,7 +1,5 @@
 use Prim.Native.Nat.{◌/◌}
-use mathlib.Core.Path.{◌≡◌, refl, ◌∙◌}
-use native.Mathlib.Omega.{arith}
-use Rattle.state_tables.proofs.Rows.{over_below, same_row, row-found}
+use mathlib.Core.Path.{◌≡◌}
 use Rattle.state_tables.proofs.entries.row_of.Given as goal
 
 abbrev pub invariant-loop-row : goal.invariant-loop-row

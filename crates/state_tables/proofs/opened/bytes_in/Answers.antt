@@ -1,7 +1,6 @@
 use Rattle.state_tables.proofs.Openings.{cut_past}
 use borrow.Author.Tests.{lt-ltb, le-ltb}
 use Rattle.state_tables.specs.Opened.{cut_bytes}
-use borrow.Author.Rules.{rules}
 use Rattle.state_tables.proofs.opened.bytes_in.Goals as goal
 
 pub returns-then-bytes-base : goal.returns-then-bytes-base

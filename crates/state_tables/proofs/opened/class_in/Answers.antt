@@ -1,5 +1,4 @@
 use Rattle.state_tables.specs.Opened.{class_by}
-use borrow.Author.Rules.{rules}
 use Rattle.state_tables.proofs.opened.class_in.Goals as goal
 
 pub class_in_words-requires : goal.class_in_words-requires

@@ -1,7 +1,5 @@
 use borrow.Author.Tests.{lt-ltb, le-ltb, eq-eqb, ne_eqb}
-use native.Mathlib.Omega.{arith}
 use Rattle.state_tables.specs.Opened.{byte_class_in}
-use borrow.Author.Rules.{rules}
 use Rattle.state_tables.proofs.opened.class_in_bytes.Goals as goal
 
 pub returns-then-glyph-eq-DELETED_GLYPH : goal.returns-then-glyph-eq-DELETED_GLYPH

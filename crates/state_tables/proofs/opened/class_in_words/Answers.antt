@@ -2,7 +2,6 @@ use borrow.Author.Tests.{lt-ltb, le-ltb, eq-eqb, ne_eqb}
 use native.Mathlib.Omega.{arith}
 use Rattle.tables.specs.Opened.{most_in}
 use Rattle.state_tables.specs.Opened.{word_class}
-use borrow.Author.Rules.{rules}
 use Rattle.state_tables.proofs.opened.class_in_words.Goals as goal
 
 pub returns-then-glyph-eq-DELETED_GLYPH : goal.returns-then-glyph-eq-DELETED_GLYPH

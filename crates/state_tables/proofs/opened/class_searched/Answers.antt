@@ -1,6 +1,5 @@
 use borrow.Author.Tests.{eq-eqb, ne_eqb}
 use Rattle.state_tables.specs.Opened.{class_by}
-use borrow.Author.Rules.{rules}
 use Rattle.state_tables.proofs.opened.class_searched.Goals as goal
 
 pub returns-then-glyph-eq-DELETED_GLYPH : goal.returns-then-glyph-eq-DELETED_GLYPH

@@ -1,6 +1,5 @@
 use mathlib.Core.Path.{sym}
 use Rattle.state_tables.specs.Opened.{opened_classes}
-use borrow.Author.Rules.{rules}
 use Rattle.state_tables.proofs.opened.open.Goals as goal
 
 pub returns-in-Extended : goal.returns-in-Extended

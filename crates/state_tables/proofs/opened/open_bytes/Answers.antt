@@ -1,5 +1,4 @@
 use Rattle.state_tables.specs.Opened.{opened_bytes}
-use borrow.Author.Rules.{rules}
 use Rattle.state_tables.proofs.opened.open_bytes.Goals as goal
 
 pub returns : goal.returns

@@ -1,5 +1,4 @@
 use Rattle.state_tables.specs.Opened.{classes_in}
-use borrow.Author.Rules.{rules}
 use Rattle.state_tables.proofs.opened.open_units.Goals as goal
 
 pub returns-in-Words : goal.returns-in-Words

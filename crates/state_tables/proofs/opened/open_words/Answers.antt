@@ -1,5 +1,4 @@
 use mathlib.Core.Path.{sym, ◌∙◌}
-use borrow.Author.Rules.{rules}
 use Rattle.state_tables.proofs.opened.open_words.Goals as goal
 
 pub returns-in_default : goal.returns-in_default

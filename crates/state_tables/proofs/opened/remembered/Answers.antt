@@ -1,9 +1,8 @@
-use mathlib.Core.Path.{sym, ◌∙◌}
+use mathlib.Core.Path.{sym}
 use borrow.Author.Tests.{eq-eqb, ne_eqb}
 use Rattle.state_tables.specs.Opened.{noted}
 use native.Mathlib.Omega.{arith}
 use Rattle.state_tables.proofs.Openings.{recalled}
-use borrow.Author.Rules.{rules}
 use Rattle.state_tables.proofs.opened.remembered.Goals as goal
 
 pub returns-then-held-glyph : goal.returns-then-held-glyph

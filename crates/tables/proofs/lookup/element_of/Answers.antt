@@ -1,5 +1,4 @@
 use Rattle.tables.specs.Lookup.{element_of}
-use borrow.Author.Rules.{rules}
 use Rattle.tables.proofs.lookup.element_of.Goals as goal
 
 pub returns-in-Ranges : goal.returns-in-Ranges

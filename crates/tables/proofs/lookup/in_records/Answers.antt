@@ -1,7 +1,5 @@
-use borrow.Author.Tests.{lt-ltb, le-ltb}
 use mathlib.Core.Path.{sym, ◌∙◌}
 use Rattle.tables.specs.Lookup.{in_records, element_in}
-use borrow.Author.Rules.{rules}
 use Rattle.tables.proofs.lookup.in_records.Goals as goal
 
 pub returns-in_default : goal.returns-in_default

@@ -1,7 +1,5 @@
-use borrow.Author.Tests.{lt-ltb, le-ltb}
 use mathlib.Core.Path.{sym, ◌∙◌}
 use Rattle.tables.specs.Lookup.{lookup_at, in_format}
-use borrow.Author.Rules.{rules}
 use Rattle.tables.proofs.lookup.lookup_at.Goals as goal
 
 pub returns-in_default : goal.returns-in_default

@@ -1,6 +1,5 @@
 use mathlib.Core.Path.{sym, ◌∙◌}
 use Rattle.tables.specs.Lookup.{lookup_reply}
-use borrow.Author.Rules.{rules}
 use Rattle.tables.proofs.lookup.lookup_from.Goals as goal
 
 pub returns-in-Refused : goal.returns-in-Refused

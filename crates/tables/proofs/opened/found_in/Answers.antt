@@ -1,6 +1,5 @@
 use mathlib.Core.Path.{sym, ◌∙◌}
 use Rattle.tables.specs.Opened.{found_in}
-use borrow.Author.Rules.{rules}
 use Rattle.tables.proofs.opened.found_in.Goals as goal
 
 pub in_array-requires : goal.in_array-requires

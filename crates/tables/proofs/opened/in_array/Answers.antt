@@ -1,7 +1,6 @@
 use borrow.Author.Tests.{lt-ltb, le-ltb}
 use native.Mathlib.Omega.{arith}
 use Rattle.tables.specs.Opened.{most_in, in_array}
-use borrow.Author.Rules.{rules}
 use Rattle.tables.proofs.opened.in_array.Goals as goal
 
 pub returns-then-glyph-first : goal.returns-then-glyph-first

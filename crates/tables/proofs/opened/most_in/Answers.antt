@@ -1,7 +1,6 @@
 use mathlib.Core.Path.{refl}
 use native.Mathlib.Omega.{arith}
 use Rattle.tables.specs.Opened.{most_in}
-use borrow.Author.Rules.{rules}
 use Rattle.tables.proofs.opened.most_in.Goals as goal
 
 pub returns-then-bytes-base : goal.returns-then-bytes-base

@@ -1,6 +1,5 @@
 use mathlib.Core.Path.{sym, ◌∙◌}
 use Rattle.tables.specs.Opened.{opened_of}
-use borrow.Author.Rules.{rules}
 use Rattle.tables.proofs.opened.open.Goals as goal
 
 pub returns-in_default : goal.returns-in_default

@@ -1,7 +1,6 @@
 use borrow.Author.Tests.{lt-ltb, le-ltb}
 use mathlib.Core.Path.{sym}
 use Rattle.tables.specs.Opened.{opened_array}
-use borrow.Author.Rules.{rules}
 use Rattle.tables.proofs.opened.open_array.Goals as goal
 
 pub returns-then-most-count : goal.returns-then-most-count

@@ -1,4 +1,4 @@
-use borrow.Author.Tests.{eq-eqb, ne_eqb}
+use borrow.Author.Tests.{ne_eqb}
 use Rattle.tables.specs.Records.{format_of}
 use Rattle.tables.proofs.records.format_of.Goals as goal
 

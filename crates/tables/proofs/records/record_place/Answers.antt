@@ -1,5 +1,4 @@
 use native.Mathlib.Omega.{arith}
-use borrow.Author.Rules.{rules}
 use Rattle.tables.proofs.records.record_place.Goals as goal
 
 pub returns-in-Ranges : goal.returns-in-Ranges

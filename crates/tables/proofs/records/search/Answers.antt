@@ -1,9 +1,6 @@
-use Prim.Native.Nat.{◌-◌}
 use mathlib.Core.Path.{sym, ◌∙◌}
-use native.Mathlib.Omega.{arith}
-use borrow.Author.Rules.{rules}
-use Rattle.tables.specs.Search.{find, side_of, searched}
-use Rattle.tables.proofs.Halving.{Going, going_start, going_left, going_right, going_here, going_cut, going_done}
+use Rattle.tables.specs.Search.{searched}
+use Rattle.tables.proofs.Halving.{going_start, going_left, going_right, going_here, going_cut, going_done}
 use Rattle.tables.proofs.records.search.Goals as goal
 
 pub loop-lo-init : goal.loop-lo-init

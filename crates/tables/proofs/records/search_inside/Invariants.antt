@@ -1,9 +1,7 @@
 use Prim.Native.Nat.{◌-◌}
-use native.Mathlib.Omega.{arith}
 use Rattle.tables.specs.Search.{side_of, searched}
 use Rattle.tables.specs.declared.records.Keys.TheVariants.{Pairs}
-use Rattle.tables.proofs.Halving.{Going, going_start, going_left, going_right, going_here, going_done}
-use Rattle.tables.proofs.Pairs.{pair_left, pair_right, pair_here}
+use Rattle.tables.proofs.Halving.{Going}
 use Rattle.tables.proofs.records.search_inside.Given as goal
 
 abbrev pub invariant-loop-lo : goal.invariant-loop-lo

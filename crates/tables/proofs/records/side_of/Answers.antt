@@ -1,5 +1,4 @@
 use Rattle.tables.specs.Search.{side_of}
-use borrow.Author.Rules.{rules}
 use Rattle.tables.proofs.records.side_of.Goals as goal
 
 pub returns-in-Glyphs : goal.returns-in-Glyphs

@@ -1,7 +1,6 @@
 use borrow.Author.Tests.{lt-ltb, le-ltb}
 use mathlib.Core.Path.{sym, ◌∙◌}
 use Rattle.tables.specs.Search.{side_of_array}
-use borrow.Author.Rules.{rules}
 use Rattle.tables.proofs.records.side_of_array.Goals as goal
 
 pub returns-in_default : goal.returns-in_default

@@ -3,7 +3,6 @@ use Rattle.parse.proofs.Laws.{u16_inside}
 use mathlib.Core.Path.{sym, ◌∙◌}
 use borrow.Author.Tests.{lt-ltb, le-ltb}
 use Rattle.tables.specs.Search.{side_of_range}
-use borrow.Author.Rules.{rules}
 use Rattle.tables.proofs.records.side_of_range.Goals as goal
 
 pub returns-in_default : goal.returns-in_default

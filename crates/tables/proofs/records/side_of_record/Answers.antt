@@ -1,5 +1,4 @@
 use Rattle.tables.specs.Search.{side_of_record}
-use borrow.Author.Rules.{rules}
 use Rattle.tables.proofs.records.side_of_record.Goals as goal
 
 pub returns-in-Ranges : goal.returns-in-Ranges

@@ -1,7 +1,6 @@
 use native.Mathlib.Omega.{arith}
 use Rattle.parse.proofs.Laws.{part_short, part_inside, inside-fits}
 use Rattle.tables.specs.Survey.{record_in}
-use borrow.Author.Rules.{rules}
 use Rattle.tables.proofs.survey.range_at.Goals as goal
 
 pub returns-in_default : goal.returns-in_default

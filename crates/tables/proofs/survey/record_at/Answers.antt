@@ -1,5 +1,4 @@
 use Rattle.tables.specs.Survey.{record_in, record_at}
-use borrow.Author.Rules.{rules}
 use Rattle.tables.proofs.survey.record_at.Goals as goal
 
 pub returns-in-Ranges : goal.returns-in-Ranges

@@ -1,6 +1,5 @@
 use mathlib.Core.Path.{sym, ◌∙◌}
 use Rattle.tables.specs.Survey.{surveyed}
-use borrow.Author.Rules.{rules}
 use Rattle.tables.proofs.survey.survey.Goals as goal
 
 pub returns-in-Refused : goal.returns-in-Refused

@@ -1,6 +1,5 @@
 use mathlib.Core.Path.{sym, ◌∙◌}
 use Rattle.tables.specs.Survey.{survey_in, survey_at}
-use borrow.Author.Rules.{rules}
 use Rattle.tables.proofs.survey.survey_at.Goals as goal
 
 pub returns-in_default : goal.returns-in_default

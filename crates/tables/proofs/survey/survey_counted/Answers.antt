@@ -1,7 +1,6 @@
 use native.Mathlib.Omega.{arith}
 use Rattle.parse.proofs.Laws.{u16_inside}
 use Rattle.tables.proofs.Scanning.{survey_uncounted, survey_other_size, survey_counted}
-use borrow.Author.Rules.{rules}
 use Rattle.tables.proofs.survey.survey_counted.Goals as goal
 
 pub returns-in_default : goal.returns-in_default

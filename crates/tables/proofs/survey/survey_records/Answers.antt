@@ -1,7 +1,4 @@
-use Prim.Native.Nat.{◌-◌}
-use native.Mathlib.Omega.{arith}
-use borrow.Author.Rules.{rules}
-use Rattle.tables.proofs.Scanning.{Surveying, surveying_start, bad-cut, bad_low, bad-turned, surveying_next, surveying_done}
+use Rattle.tables.proofs.Scanning.{surveying_start, bad-cut, bad_low, bad-turned, surveying_next, surveying_done}
 use Rattle.tables.proofs.survey.survey_records.Goals as goal
 
 pub loop-index-init : goal.loop-index-init

@@ -1,6 +1,5 @@
 use mathlib.Core.Path.{sym, ◌∙◌}
 use Rattle.tables.specs.Units.{byte_at}
-use borrow.Author.Rules.{rules}
 use Rattle.tables.proofs.units.byte_at.Goals as goal
 
 pub returns-in_default : goal.returns-in_default

@@ -1,6 +1,5 @@
 use borrow.Author.Tests.{lt-ltb, le-ltb}
 use Rattle.tables.specs.Units.{in_units}
-use borrow.Author.Rules.{rules}
 use Rattle.tables.proofs.units.in_bytes.Goals as goal
 
 pub returns-then-glyph-first : goal.returns-then-glyph-first

@@ -1,6 +1,5 @@
 use mathlib.Core.Path.{sym, ◌∙◌}
 use Rattle.tables.specs.Units.{in_units, lookup_by}
-use borrow.Author.Rules.{rules}
 use Rattle.tables.proofs.units.lookup_by.Goals as goal
 
 pub returns-in-Words : goal.returns-in-Words

@@ -1,7 +1,6 @@
 use mathlib.Core.Path.{sym, ◌∙◌}
 use borrow.Author.Tests.{eq-eqb, ne_eqb}
 use Rattle.tables.specs.Units.{units_by}
-use borrow.Author.Rules.{rules}
 use Rattle.tables.proofs.units.manual_units.Goals as goal
 
 pub returns-in_default : goal.returns-in_default

@@ -1,7 +1,6 @@
 use mathlib.Core.Path.{sym, ◌∙◌}
-use borrow.Author.Tests.{eq-eqb, ne_eqb}
+use borrow.Author.Tests.{ne_eqb}
 use Rattle.tables.specs.Units.{sized_units}
-use borrow.Author.Rules.{rules}
 use Rattle.tables.proofs.units.sized_units.Goals as goal
 
 pub returns-in_default : goal.returns-in_default

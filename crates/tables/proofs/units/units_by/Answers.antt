@@ -1,5 +1,4 @@
 use Rattle.tables.specs.Units.{units_by}
-use borrow.Author.Rules.{rules}
 use Rattle.tables.proofs.units.units_by.Goals as goal
 
 pub returns-in-Crate : goal.returns-in-Crate

@@ -1,4 +1,3 @@
-use borrow.Author.Rules.{rules}
 use Rattle.tables.proofs.whole.first_at.Goals as goal
 
 pub returns-in-Ranges : goal.returns-in-Ranges

@@ -1,6 +1,5 @@
 use mathlib.Core.Path.{sym, ◌∙◌}
 use Rattle.tables.specs.Whole.{records_of}
-use borrow.Author.Rules.{rules}
 use Rattle.tables.proofs.whole.records_of.Goals as goal
 
 pub returns-in_default : goal.returns-in_default

@@ -1,5 +1,4 @@
 use Rattle.tables.proofs.Wholeness.{side_right, side_left, side_here}
-use borrow.Author.Rules.{rules}
 use Rattle.tables.proofs.whole.side_of.Goals as goal
 
 pub returns-then-u16_at-glyph : goal.returns-then-u16_at-glyph

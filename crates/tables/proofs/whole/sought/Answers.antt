@@ -1,11 +1,8 @@
 use Rattle.tables.specs.Lookup.{element_in}
-use borrow.Author.Rules.{rules}
-use Prim.Native.Nat.{◌-◌}
 use native.Mathlib.Omega.{arith}
 use mathlib.Core.Path.{sym, ◌∙◌}
 use Rattle.tables.specs.Search.{side_of, side_of_record, searched}
-use Rattle.tables.specs.declared.records.Keys.TheVariants.{Glyphs}
-use Rattle.tables.proofs.Halving.{Going, going_start, going_left, going_right, going_here, going_cut, going_done}
+use Rattle.tables.proofs.Halving.{going_start, going_left, going_right, going_here, going_cut, going_done}
 use Rattle.tables.proofs.Wholeness.{records_lie, record_lies, sought_spot}
 use Rattle.tables.proofs.whole.sought.Goals as goal
 

@@ -1,7 +1,6 @@
 use mathlib.Core.Path.{sym, ◌∙◌}
 use borrow.Author.Tests.{lt-ltb, le-ltb}
 use Rattle.tables.specs.Whole.{whole_of}
-use borrow.Author.Rules.{rules}
 use Rattle.tables.proofs.whole.whole.Goals as goal
 
 pub returns-in_default : goal.returns-in_default
