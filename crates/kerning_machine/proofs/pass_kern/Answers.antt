@@ -31,7 +31,7 @@ act_kern-walked-requires c =
 pub shape_of-along-then-walked : goal.shape_of-along-then-walked
 shape_of-along-then-walked c =
     let r = c.loop-stays.invariant _ c.loop-place.invariant in
-    omega (arith, going_long _ _ _ _ _ r.going, c.act_kern-walked.auto.stack)
+    omega (arith, going_long _ _ _ _ _ r.going, c.act_kern-walked.auto.along)
 
 pub returns-then-walked : goal.returns-then-walked
 returns-then-walked c =

@@ -39,7 +39,7 @@ act_kerx-walked-requires c =
 pub shape_of-along-then-walked : goal.shape_of-along-then-walked
 shape_of-along-then-walked c =
     let g = c.loop-stays.invariant _ c.loop-place.invariant.0 in
-    omega (arith, going_long _ _ _ _ _ g, c.act_kerx-walked.auto.stack)
+    omega (arith, going_long _ _ _ _ _ g, c.act_kerx-walked.auto.along)
 
 pub returns-then-walked : goal.returns-then-walked
 returns-then-walked c =

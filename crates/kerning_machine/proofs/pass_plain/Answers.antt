@@ -13,7 +13,7 @@ next-moved-requires c =
 
 pub shape_of-along-then-not-is_done : goal.shape_of-along-then-not-is_done
 shape_of-along-then-not-is_done c =
-    omega (arith, going_long _ _ _ _ _ c.loop-place.invariant, c.next-moved.auto.stack)
+    omega (arith, going_long _ _ _ _ _ c.loop-place.invariant, c.next-moved.auto.along)
 
 pub returns-then-not-is_done : goal.returns-then-not-is_done
 unfolding passed_indexed
