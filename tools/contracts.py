@@ -4,8 +4,8 @@ from dataclasses import dataclass
 from pathlib import Path
 
 HEAD = re.compile(
-    r'(?P<public>\bpub(?:\([^)]*\))?\s+)?(?P<kind>(?:\b(?:const|unsafe|extern(?:\s+"[^"]*")?)\s+)*)'
-    r"\bfn\s+(?P<name>\w+)\s*(?:<[^()]*>)?\s*\("
+    r'(?P<public>\bpub\s+)?(?P<kind>(?:\b(?:const|unsafe|extern(?:\s+"[^"]*")?)\s+)*)'
+    r"\bfn\s+(?P<name>\w+)\s*(?:<(?:[^<>()]|\([^()]*\)|(?<=-)>|<[^<>]*>)*>)?\s*\("
 )
 CLAUSE = re.compile(r"^\s*(?P<kind>requires|ensures)\b(?P<text>.*?)(?=^\s*(?:requires|ensures)\b|\Z)", re.M | re.S)
 FORM = re.compile(r"(?P<about>\w*) ?\{ (?P<said>.*) \}")
@@ -45,10 +45,12 @@ def closing(text, at):
 
 
 def promised(text, closes):
-    """What stands between a function's parameters and its body."""
+    """What stands between a function's parameters and its body, or the end of a trait's declaration."""
     brace = text.find("{", closes)
     body = re.compile(r"^ *\{", re.M).search(text, closes)
-    return text[closes + 1 : body.start() if body and "\n" in text[closes:brace] else brace]
+    ends = body.start() if body and "\n" in text[closes:brace] else brace
+    declared = re.compile(r";[ \t]*$", re.M).search(text, closes, ends)
+    return text[closes + 1 : declared.start() if declared else ends]
 
 
 def functions_in(path):

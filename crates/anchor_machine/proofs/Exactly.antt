@@ -1,6 +1,7 @@
 -- What is written is exact.
+use Rattle.std.specs.Prelude.{Option, Some, None}
 use Prim.Native.Nat.{ℕ, zero, suc, ◌+◌, ◌-◌, ◌<◌, ◌≤◌}
-use mathlib.Core.Path.{◌≡◌, refl, sym, subst}
+use mathlib.Core.Path.{◌≡◌, refl, sym, ap, subst}
 use mathlib.Core.Bool.{Bool, true, false, cond}
 use mathlib.Core.List.{List, [], ◌∷◌, ◌++◌}
 use mathlib.Core.Logic.{⊎_elim, inl, inr}
@@ -14,14 +15,11 @@ use Rattle.laws.proofs.Numbers.{lt-or-ge}
 use Rattle.answers.specs.declared.Answer.TheVariants as Answer'
 use Rattle.parse.specs.Reads.{u16_at}
 use Rattle.state_tables.specs.declared.entries.Entry.{Entry}
-use Rattle.state_tables.specs.declared.entries.Entered.{Entered}
-use Rattle.state_tables.specs.declared.entries.Entered.TheVariants as Entered'
 use Rattle.state_tables.specs.Entries.{entry_of}
 use Rattle.machine.specs.Pass.{is_done}
 use Rattle.tables.specs.declared.units.Reading.{Reading}
 use Rattle.anchors.specs.Anchors.{point_of}
 use Rattle.anchors.specs.declared.Point.{Point}
-use Rattle.anchors.specs.declared.Point.TheVariants as Point'
 use Rattle.anchors.proofs.Lying.{size_difference, point_small}
 use Rattle.anchor_machine.specs.Writes.{Write, writes_at, Anchored}
 use Rattle.anchor_machine.specs.Machine.{fresh, marked, numbers_of, offset, written_by, stopped, settled, are_short, settled_by, acted, step_at, pass_from, rest, passed_by, own_classes, passed}
@@ -30,51 +28,56 @@ use Rattle.anchor_machine.specs.declared.Anchoring.{Anchoring}
 use Rattle.anchor_machine.specs.declared.Numbers.{Numbers}
 use Rattle.anchor_machine.specs.declared.Numbers.TheVariants as Numbers'
 use Rattle.anchor_machine.specs.declared.Written.{Written}
-use Rattle.anchor_machine.specs.declared.Written.TheVariants as Written'
 use Rattle.anchor_machine.specs.declared.AnchorState.{AnchorState}
 use Rattle.anchor_machine.specs.declared.AnchorStep.{AnchorStep}
-use Rattle.anchor_machine.proofs.Acting.{next-ended, next-acts}
+use Rattle.anchor_machine.proofs.Acting.{next_ended, next_acts}
 use Rattle.anchor_machine.proofs.Passes.{turn_goes, turn_stops, turn_ends}
 
-module _ (ankr : List ℕ) (reading : Reading) (s : AnchorState) (index glyph mark current : ℕ) {x y : ℤ} {back : ℕ} where
-  nothing : Written'.None ≡ Written'.At x y back → Exact ankr reading s index glyph mark current x y back
-  nothing e = let z : ◌≡◌ {A = ℕ} 0 1 = cc in absurd (omega arith)
+module _ (ankr : List ℕ) (reading : Reading) (s : AnchorState) (index glyph mark current : ℕ) where
+  abbrev IsExact : Written → Type 0
+  IsExact v = Exact ankr reading s index glyph mark current v.x v.y v.back
 
-  both-there : (a b c d : ℤ) → point_of reading ankr s.glyph mark ≡ Point'.At a b → point_of reading ankr glyph current ≡ Point'.At c d → (t : Bool)
-      → ltb (index - s.mark) 255 ≡ t → cond t (Written'.At (a -ℤ c) (b -ℤ d) (index - s.mark)) Written'.None ≡ Written'.At x y back
-      → Exact ankr reading s index glyph mark current x y back
-  both-there a b c d p q true l e =
-      let m = point_small reading ankr s.glyph mark p in
-      let n = point_small reading ankr glyph current q in
-      let ex : a -ℤ c ≡ x = cc in
-      let ey : b -ℤ d ≡ y = cc in
-      let ed : index - s.mark ≡ back = cc in
+  nothing : {w : Written} → None ≡ Some w → IsExact w
+  nothing e = absurd cc
+
+  both-there : {w : Written} (m c : Point) → point_of reading ankr s.glyph mark ≡ Some m → point_of reading ankr glyph current ≡ Some c → (t : Bool)
+      → ltb (index - s.mark) 255 ≡ t → cond t (Some (record { x = m.x -ℤ c.x; y = m.y -ℤ c.y; back = index - s.mark })) None ≡ Some w → IsExact w
+  both-there {w} m c p q true l e =
+      let i = point_small reading ankr s.glyph mark p in
+      let j = point_small reading ankr glyph current q in
+      let same : record { x = m.x -ℤ c.x; y = m.y -ℤ c.y; back = index - s.mark } ≡ w = cc in
+      let ex : m.x -ℤ c.x ≡ w.x = ap (λ (v : Written). v.x) same in
+      let ey : m.y -ℤ c.y ≡ w.y = ap (λ (v : Written). v.y) same in
+      let ed : index - s.mark ≡ w.back = ap (λ (v : Written). v.back) same in
       record {
-        marked-x = a;
-        marked-y = b;
-        current-x = c;
-        current-y = d;
+        marked-x = m.x;
+        marked-y = m.y;
+        current-x = c.x;
+        current-y = c.y;
         of_mark = p;
         of_current = q;
-        x_is = cc;
-        y_is = cc;
-        x-small = subst (λ (z : ℤ). nat_abs z ≤ 65535) ex (size_difference a c m.0 n.0);
-        y-small = subst (λ (z : ℤ). nat_abs z ≤ 65535) ey (size_difference b d m.1 n.1);
-        back_is = cc;
+        x_is = sym ex;
+        y_is = sym ey;
+        x-small = subst (λ (z : ℤ). nat_abs z ≤ 65535) ex (size_difference m.x c.x i.0 j.0);
+        y-small = subst (λ (z : ℤ). nat_abs z ≤ 65535) ey (size_difference m.y c.y i.1 j.1);
+        back_is = sym ed;
         near = omega (arith, ltb-true (index - s.mark) 255 l, ed);
       }
-  both-there a b c d p q false l e = nothing e
+  both-there m c p q false l e = nothing e
 
-  by_points : (m n : Point) → point_of reading ankr s.glyph mark ≡ m → point_of reading ankr glyph current ≡ n → offset m n (index - s.mark) ≡ Written'.At x y back
-      → Exact ankr reading s index glyph mark current x y back
+  by_points : {w : Written} (m n : Option Point) → point_of reading ankr s.glyph mark ≡ m → point_of reading ankr glyph current ≡ n → offset m n (index - s.mark) ≡ Some w → IsExact w
   unfolding offset
-  by_points (Point'.At a b) (Point'.At c d) p q e = both-there a b c d p q (ltb (index - s.mark) 255) refl e
-  by_points (Point'.At a b) Point'.None p q e = nothing e
-  by_points Point'.None n p q e = nothing e
+  by_points (Some m) (Some c) p q e = both-there m c p q (ltb (index - s.mark) 255) refl e
+  by_points (Some m) None p q e = nothing e
+  by_points None n p q e = nothing e
 
-  pub offset-exact : written_by ankr reading s index glyph (Numbers'.At mark current) ≡ Written'.At x y back → Exact ankr reading s index glyph mark current x y back
+  written-exact : {w : Written} → written_by ankr reading s index glyph (Numbers'.At mark current) ≡ Some w → IsExact w
   unfolding written_by
-  offset-exact e = by_points (point_of reading ankr s.glyph mark) (point_of reading ankr glyph current) refl refl e
+  written-exact e = by_points (point_of reading ankr s.glyph mark) (point_of reading ankr glyph current) refl refl e
+
+  pub offset-exact : {x y : ℤ} {back : ℕ} → written_by ankr reading s index glyph (Numbers'.At mark current) ≡ Some (record { x = x; y = y; back = back })
+      → Exact ankr reading s index glyph mark current x y back
+  offset-exact e = written-exact e
 
 -- each of some writes, and each of others behind them
 pub each_append : (holds : Write → Type 0) (first later : List Write) → EachWrite holds first → EachWrite holds later → EachWrite holds (first ++ later)
@@ -112,24 +115,24 @@ module _ (ankr : List ℕ) (reading : Reading) (glyphs : List ℕ) (used place :
   written-each s Numbers'.Short m = tt
   written-each s (Numbers'.At mark current) m = go (written_by ankr reading s place glyph (Numbers'.At mark current)) refl
     where
-      here : (x y : ℤ) (back : ℕ) → written_by ankr reading s place glyph (Numbers'.At mark current) ≡ Written'.At x y back → (t : Bool) → ltb place used ≡ t
-          → Fine (cond t (record { place = place; x = x; y = y; back = back } ∷ []) [])
-      here x y back e true l = (
+      here : (w : Written) → written_by ankr reading s place glyph (Numbers'.At mark current) ≡ Some w → (t : Bool) → ltb place used ≡ t
+          → Fine (cond t (record { place = place; x = w.x; y = w.y; back = w.back } ∷ []) [])
+      here w e true l = (
         record {
           inside = ltb-true place used l;
           state = s;
           has = m;
           mark = mark;
           current = current;
-          exact = offset-exact ankr reading s place glyph mark current e;
+          exact = written-exact ankr reading s place glyph mark current e;
         },
         tt,
       )
-      here x y back e false l = tt
+      here w e false l = tt
 
-      go : (w : Written) → written_by ankr reading s place glyph (Numbers'.At mark current) ≡ w → Fine (writes_at used place w)
-      go Written'.None e = tt
-      go (Written'.At x y back) e = here x y back e (ltb place used) refl
+      go : (w : Option Written) → written_by ankr reading s place glyph (Numbers'.At mark current) ≡ w → Fine (writes_at used place w)
+      go None e = tt
+      go (Some w) e = here w e (ltb place used) refl
 
   stopped_keeps : (s : AnchorState) → HasMark glyphs place s → Keeps (stopped s Answer'.Ended)
   unfolding writes_at
@@ -158,13 +161,13 @@ module _ (classes : ℕ → ℕ) (ankr bytes : List ℕ) (anchoring : Anchoring)
   unfolding acted
   step_keeps s i m = go (entry_of bytes anchoring.states s.state (classes (get_or glyphs i 0)) 2) refl
     where
-      go : (e : Entered) → entry_of bytes anchoring.states s.state (classes (get_or glyphs i 0)) 2 ≡ e → Keeps ankr anchoring.reading glyphs used i (step_of s i)
-      go (Entered'.At entry) f =
-          subst (Keeps ankr anchoring.reading glyphs used i) (next-acts classes ankr bytes anchoring s i (get_or glyphs i 0) refl refl f)
+      go : (e : Option Entry) → entry_of bytes anchoring.states s.state (classes (get_or glyphs i 0)) 2 ≡ e → Keeps ankr anchoring.reading glyphs used i (step_of s i)
+      go (Some entry) f =
+          subst (Keeps ankr anchoring.reading glyphs used i) (next_acts classes ankr bytes anchoring s i (get_or glyphs i 0) refl refl f)
           (settled_keeps ankr anchoring.reading glyphs used i (marked s entry i (get_or glyphs i 0)) (is_set entry.flags 0x4000)
           (numbers_of bytes anchoring (u16_at bytes entry.payload)) (marked-has ankr anchoring.reading glyphs used i s entry m))
-      go Entered'.Ended f =
-          subst (Keeps ankr anchoring.reading glyphs used i) (next-ended classes ankr bytes anchoring s i (get_or glyphs i 0) refl refl f) (stopped_keeps ankr anchoring.reading glyphs used i s m)
+      go None f =
+          subst (Keeps ankr anchoring.reading glyphs used i) (next_ended classes ankr bytes anchoring s i (get_or glyphs i 0) refl refl f) (stopped_keeps ankr anchoring.reading glyphs used i s m)
 
   -- a turn, if those behind it are fine
   turn_fine : (turns : ℕ) (s : AnchorState) (i : ℕ) → HasMark glyphs i s

@@ -6,4 +6,4 @@ pub mod Turns
 pub mod Exactly
 pub mod Calls
 pub mod Manual
-mod Steps
+pub mod Steps

@@ -1,4 +1,5 @@
 -- The pass's loops: what is left to do, behind the writes made, gives what the whole pass gives.
+use Rattle.std.specs.Prelude.{Option, Some, None}
 use Prim.Native.Nat.{ℕ, zero, suc, ◌+◌, ◌<◌, ◌≤◌}
 use mathlib.Core.Path.{◌≡◌, refl, sym, ◌∙◌, ap, subst, subst⁻¹}
 use mathlib.Core.Bool.{Bool, true, false}
@@ -11,8 +12,6 @@ use borrow.Author.Tests.{lt-ltb, le-ltb, eqb-true, eqb-false}
 use Rattle.answers.specs.declared.Answer.{Answer}
 use Rattle.answers.specs.declared.Answer.TheVariants as Answer'
 use Rattle.state_tables.specs.declared.entries.Entry.{Entry}
-use Rattle.state_tables.specs.declared.entries.Entered.{Entered}
-use Rattle.state_tables.specs.declared.entries.Entered.TheVariants as Entered'
 use Rattle.state_tables.specs.declared.opened.Classes.{Classes}
 use Rattle.state_tables.specs.Classes.{class_of}
 use Rattle.state_tables.specs.Entries.{entry_of}
@@ -30,7 +29,7 @@ use Rattle.anchor_machine.specs.declared.Anchoring.{Anchoring}
 use Rattle.anchor_machine.specs.declared.AnchorState.{AnchorState}
 use Rattle.anchor_machine.specs.declared.AnchorStep.{AnchorStep}
 use Rattle.anchor_machine.proofs.Writing.{Wrote, wrote_none, wrote_more, put_none}
-use Rattle.anchor_machine.proofs.Acting.{Sound, next-sound, next-ended, next-acts}
+use Rattle.anchor_machine.proofs.Acting.{Sound, next_sound, next_ended, next_acts}
 
 -- one turn, by the answer of its step
 module _ (classes : ℕ → ℕ) (ankr bytes : List ℕ) (anchoring : Anchoring) (glyphs : List ℕ) (used turns : ℕ) (s : AnchorState) (i : ℕ) where
@@ -116,7 +115,7 @@ module _ (index ankr bytes : List ℕ) (anchoring : Anchoring) (glyphs : List �
         ends (nothing_written Answer'.Done) (whole_is k f (nothing_written Answer'.Done) (turn_ends classes ankr bytes anchoring glyphs used k s i h)) (wrote_none x y back)
 
     -- by what the code reads there
-    module _ (h : i < used) {class : ℕ} {entered : Entered} (k : class ≡ classes_by index (class_by bytes opened) (get_or glyphs i 0))
+    module _ (h : i < used) {class : ℕ} {entered : (Option Entry)} (k : class ≡ classes_by index (class_by bytes opened) (get_or glyphs i 0))
         (r : entered ≡ entry_of bytes anchoring.states s.state class 2) where
       abbrev at : AnchorStep
       at = next classes ankr bytes anchoring s i (get_or glyphs i 0)
@@ -125,7 +124,7 @@ module _ (index ankr bytes : List ℕ) (anchoring : Anchoring) (glyphs : List �
       class-here = k ∙ ap (λ (f : ℕ → ℕ). f (get_or glyphs i 0)) (opened-index index bytes anchoring.states g.table)
 
       sound : Sound s.cycles at
-      sound = next-sound classes ankr bytes anchoring s i (get_or glyphs i 0)
+      sound = next_sound classes ankr bytes anchoring s i (get_or glyphs i 0)
 
       -- a step that is not DONE
       stops : is_done at.answer ≡ false → Ends at.answer x y back
@@ -136,15 +135,15 @@ module _ (index ankr bytes : List ℕ) (anchoring : Anchoring) (glyphs : List �
           (put_none used i x y back (sound.silent d))
 
       -- no entry
-      pub going_ended : entered ≡ Entered'.Ended → Ends Answer'.Ended x y back
+      pub going_ended : entered ≡ None → Ends Answer'.Ended x y back
       going_ended e =
-          let n = next-ended classes ankr bytes anchoring s i (get_or glyphs i 0) class-here r e in
+          let n = next_ended classes ankr bytes anchoring s i (get_or glyphs i 0) class-here r e in
           subst⁻¹ (λ (t : AnchorStep). Ends t.answer x y back) n (stops (subst (λ (t : AnchorStep). is_done t.answer ≡ false) n refl))
 
       -- an entry
-      module _ {entry : Entry} {step : AnchorStep} (e : entered ≡ Entered'.At entry) (a : step ≡ acted ankr bytes anchoring s entry i (get_or glyphs i 0)) where
+      module _ {entry : Entry} {step : AnchorStep} (e : entered ≡ Some entry) (a : step ≡ acted ankr bytes anchoring s entry i (get_or glyphs i 0)) where
         acted-at : step ≡ at
-        acted-at = a ∙ next-acts classes ankr bytes anchoring s i (get_or glyphs i 0) class-here r e
+        acted-at = a ∙ next_acts classes ankr bytes anchoring s i (get_or glyphs i 0) class-here r e
 
         pub going_small : IsOffset step.written
         going_small = subst⁻¹ (λ (t : AnchorStep). IsOffset t.written) acted-at sound.small

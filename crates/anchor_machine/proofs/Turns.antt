@@ -14,7 +14,7 @@ use Rattle.anchor_machine.specs.Machine.{fresh, step_at, pass_from, rest, passed
 use Rattle.anchor_machine.specs.declared.Anchoring.{Anchoring}
 use Rattle.anchor_machine.specs.declared.AnchorState.{AnchorState}
 use Rattle.anchor_machine.specs.declared.AnchorStep.{AnchorStep}
-use Rattle.anchor_machine.proofs.Acting.{next-sound}
+use Rattle.anchor_machine.proofs.Acting.{next_sound}
 use Rattle.anchor_machine.proofs.Passes.{turn_goes, turn_stops, turn_ends}
 
 module _ (classes : ℕ → ℕ) (ankr bytes : List ℕ) (anchoring : Anchoring) (glyphs : List ℕ) (used more : ℕ) where
@@ -42,7 +42,7 @@ module _ (classes : ℕ → ℕ) (ankr bytes : List ℕ) (anchoring : Anchoring)
           → from (more + turns) (here s i).state (next_place s i) ≡ from turns (here s i).state (next_place s i))
           → (t : Bool) → is_done (here s i).answer ≡ t → from (suc (more + turns)) s i ≡ from (suc turns) s i
       go k later true e =
-          let sound = next-sound classes ankr bytes anchoring s i (get_or glyphs i 0) in
+          let sound = next_sound classes ankr bytes anchoring s i (get_or glyphs i 0) in
           let falls = stall_falls s.cycles used i sound.stays c k in
           let (cycles, advance) = sound.stalls e in
           turn_goes classes ankr bytes anchoring glyphs used (more + turns) s i k e

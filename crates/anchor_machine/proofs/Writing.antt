@@ -1,16 +1,12 @@
 -- Laws of writes.
-use Prim.Native.Nat.{ℕ, ◌<◌, ◌≤◌}
+use Rattle.std.specs.Prelude.{Option, None}
+use Prim.Native.Nat.{ℕ}
 use mathlib.Core.Path.{◌≡◌, refl, sym, ◌∙◌, ap}
 use mathlib.Core.List.{List, [], ◌∷◌, ◌++◌}
 use lib.IntN.{ℤ}
 use lib.ListN.{length, set, length-set}
-use mir.Syntax.{w32}
-use mir.Val.{SFits, to_z, of_z}
-use mir.Facts.{to_z-of_z}
-use borrow.Author.Tests.{lt-ltb, le-ltb}
 use Rattle.anchor_machine.specs.Writes.{Write, write_all, write_x, write_y, write_back, writes_at}
 use Rattle.anchor_machine.specs.declared.Written.{Written}
-use Rattle.anchor_machine.specs.declared.Written.TheVariants as Written'
 
 module _ {A : Type 0} (part : Write → A) where
   write-append : (done more : List Write) (were : List A) → write_all part (done ++ more) were ≡ write_all part more (write_all part done were)
@@ -50,19 +46,7 @@ module _ {done : List Write} {x₀ y₀ : List ℤ} {back₀ : List ℕ} {x y : 
   )
 
 -- what a step writes
-module _ (used place : ℕ) {written : Written} (x y : List ℤ) (back : List ℕ) where
-  pub put_none : written ≡ Written'.None → Wrote (writes_at used place written) x y back x y back
+module _ (used place : ℕ) {written : Option Written} (x y : List ℤ) (back : List ℕ) where
+  pub put_none : written ≡ None → Wrote (writes_at used place written) x y back x y back
   unfolding writes_at
   put_none e = rw (e, writes_at) (wrote_none x y back)
-
-  module _ {a b : ℤ} {d : ℕ} (e : written ≡ Written'.At a b d) where
-    pub put_past : used ≤ place → Wrote (writes_at used place written) x y back x y back
-    unfolding writes_at
-    put_past h = rw (e, writes_at, le-ltb place used h) (wrote_none x y back)
-
-    pub put_here : place < used → SFits w32 a → SFits w32 b
-        → Wrote (writes_at used place written) x y back (set x place (to_z w32 (of_z w32 a))) (set y place (to_z w32 (of_z w32 b))) (set back place d)
-    unfolding writes_at write_all
-    put_here h f g =
-        rw (e, writes_at, lt-ltb place used h)
-        (record { xs = ap (set x place) (to_z-of_z f); ys = ap (set y place) (to_z-of_z g); backs = refl })

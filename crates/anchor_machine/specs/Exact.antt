@@ -1,8 +1,7 @@
 -- What is written is exact: x and y are the differences of two points, whole numbers from -65,535 to 65,535, and the distance is the mark's, below 255.
-use Rattle.std.specs.Prelude.{ℕ, ◌-◌, ◌<◌, ◌≤◌, ◌≡◌, List, [], ◌∷◌, ◌⊎◌, ℤ, nat_abs, ◌-ℤ◌, get_or}
+use Rattle.std.specs.Prelude.{ℕ, ◌-◌, ◌<◌, ◌≤◌, ◌≡◌, List, [], ◌∷◌, ◌⊎◌, ℤ, nat_abs, ◌-ℤ◌, get_or, Some}
 use Rattle.tables.specs.declared.units.Reading.{Reading}
 use Rattle.anchors.specs.Anchors.{point_of}
-use Rattle.anchors.specs.declared.Point.TheVariants.{At}
 use Rattle.anchor_machine.specs.Writes.{Write}
 use Rattle.anchor_machine.specs.declared.AnchorState.{AnchorState}
 
@@ -11,8 +10,8 @@ pub record Exact (ankr : List ℕ) (reading : Reading) (s : AnchorState) (index 
   pub marked-y : ℤ
   pub current-x : ℤ
   pub current-y : ℤ
-  pub of_mark : point_of reading ankr s.glyph mark ≡ At marked-x marked-y
-  pub of_current : point_of reading ankr glyph current ≡ At current-x current-y
+  pub of_mark : point_of reading ankr s.glyph mark ≡ Some (record { x = marked-x; y = marked-y })
+  pub of_current : point_of reading ankr glyph current ≡ Some (record { x = current-x; y = current-y })
   pub x_is : x ≡ marked-x -ℤ current-x
   pub y_is : y ≡ marked-y -ℤ current-y
   pub x-small : nat_abs x ≤ 65535

@@ -1,5 +1,6 @@
 -- The machine of kerx format 4, as the crate's `next`, over the bytes from its state table on.
-use Rattle.std.specs.Prelude.{ℕ, zero, suc, ◌+◌, ◌-◌, ◌*◌, ◌/◌, ◌%◌, Bool, true, false, not, cond, List, [], ◌∷◌, ltb, ℤ, ◌-ℤ◌, length, get_or}
+use Rattle.answers.specs.declared.Refusal.{Refusal}
+use Rattle.std.specs.Prelude.{ℕ, zero, suc, ◌+◌, ◌-◌, ◌*◌, ◌/◌, ◌%◌, Bool, true, false, not, cond, List, [], ◌∷◌, ltb, ℤ, ◌-ℤ◌, length, get_or, Option, Some, None, Result, Ok, Err}
 use Rattle.laws.specs.Bits.{is_set}
 use Rattle.laws.specs.Choose.{if_lt, if_eq}
 use Rattle.laws.specs.Lists.{both}
@@ -8,14 +9,10 @@ use Rattle.answers.specs.Refuse.{Test, refuse, table_test}
 use Rattle.answers.specs.declared.Answer.{Answer}
 use Rattle.answers.specs.declared.Answer.TheVariants as Answer'
 use Rattle.answers.specs.declared.Refusal.TheVariants as Refusal'
-use Rattle.answers.specs.declared.Check.{Check}
-use Rattle.answers.specs.declared.Check.TheVariants as Check'
 use Rattle.parse.specs.Reads.{u16_at, read_u16, read_u32}
 use Rattle.parse.specs.Use.{on_u16, on_u32}
 use Rattle.tables.specs.declared.units.Reading.{Reading}
 use Rattle.state_tables.specs.declared.States.{States}
-use Rattle.state_tables.specs.declared.Made.{Made}
-use Rattle.state_tables.specs.declared.Made.TheVariants as Made'
 use Rattle.state_tables.specs.declared.entries.Entry.{Entry}
 use Rattle.state_tables.specs.Classes.{class_of}
 use Rattle.indexes.specs.Index.{classes_by}
@@ -23,40 +20,32 @@ use Rattle.state_tables.specs.Entries.{entry_of, on_entry}
 use Rattle.state_tables.specs.States.{extended_by}
 use Rattle.machine.specs.Stall.{stalled}
 use Rattle.machine.specs.Pass.{is_done}
+use Rattle.kerning.specs.Heads.{is_short, is_tupled, refusal}
 use Rattle.kerning.specs.Line.{is_modest}
 use Rattle.anchors.specs.Anchors.{anchor_test, point_of}
 use Rattle.anchors.specs.declared.Point.{Point}
-use Rattle.anchors.specs.declared.Point.TheVariants as Point'
 use Rattle.anchor_machine.specs.Writes.{Write, writes_at, Anchored, after, nothing_written, are_long}
 use Rattle.anchor_machine.specs.declared.Anchoring.{Anchoring}
-use Rattle.anchor_machine.specs.declared.Opened.{Opened}
-use Rattle.anchor_machine.specs.declared.Opened.TheVariants as Opened'
+use Rattle.kerning.specs.declared.heads.Unready.{Unready}
+use Rattle.kerning.specs.declared.heads.Unready.TheVariants.{Short}
 use Rattle.anchor_machine.specs.declared.Numbers.{Numbers}
 use Rattle.anchor_machine.specs.declared.Numbers.TheVariants as Numbers'
 use Rattle.anchor_machine.specs.declared.Written.{Written}
-use Rattle.anchor_machine.specs.declared.Written.TheVariants as Written'
 use Rattle.anchor_machine.specs.declared.AnchorState.{AnchorState}
 use Rattle.anchor_machine.specs.declared.AnchorStep.{AnchorStep}
 
-abbrev pub on_made : {A : Type 0} → Made → (States → A) → A → A
-on_made (Made'.Ready states) use-it otherwise = use-it states
-on_made Made'.Short use-it otherwise = otherwise
+abbrev pub on_made : {A : Type 0} → Option States → (States → A) → A → A
+on_made (Some states) use-it otherwise = use-it states
+on_made None use-it otherwise = otherwise
 
 -- the machine, where the state table's head and the flags behind it can be read: their highest two bits are the action type, their lowest 24 where the
 -- control table begins
-unfoldable pub opened : Reading → List ℕ → Opened
+unfoldable pub opened : Reading → List ℕ → Result Anchoring Unready
 opened reading bytes =
     on_made (extended_by reading bytes)
     (λ states. on_u32 (read_u32 bytes 16)
-    (λ flags. Opened'.Ready (record { states = states; reading = reading; action = flags / 0x40000000; control = flags % 0x1000000 }))
-    Opened'.Short) Opened'.Short
-
--- what a head gives, where a subtable with tuples is refused or not
-unfoldable pub barred : (tupled : Bool) → Opened → Opened
-barred false opened = opened
-barred true (Opened'.Ready anchoring) = Opened'.Tupled
-barred true Opened'.Short = Opened'.Short
-barred true Opened'.Tupled = Opened'.Tupled
+    (λ flags. Ok (record { states = states; reading = reading; action = flags / 0x40000000; control = flags % 0x1000000 }))
+    (Err Short)) (Err Short)
 
 -- the state at the start of a pass: before any mark the mark is place 0 with glyph 0
 abbrev pub fresh : AnchorState
@@ -83,24 +72,25 @@ numbers_of bytes anchoring index =
     if_eq index 0xFFFF Numbers'.None (if_eq anchoring.action 1 (numbers_at bytes (anchoring.control + index * 2)) Numbers'.None)
 
 -- x and y are the marked glyph's point less the current glyph's; they are written if both points are there and the distance is below 255
-unfoldable pub offset : (mark current : Point) → (back : ℕ) → Written
-offset (Point'.At x y) (Point'.At x' y') back = if_lt back 255 (Written'.At (x -ℤ x') (y -ℤ y') back) Written'.None
-offset (Point'.At x y) Point'.None back = Written'.None
-offset Point'.None current back = Written'.None
+unfoldable pub offset : (mark current : Option Point) → (back : ℕ) → Option Written
+offset (Some mark) (Some current) back =
+    if_lt back 255 (Some (record { x = mark.x -ℤ current.x; y = mark.y -ℤ current.y; back = back })) None
+offset (Some mark) None back = None
+offset None current back = None
 
 -- what is written, in a state whose mark is set already
-unfoldable pub written_by : (ankr : List ℕ) → Reading → AnchorState → (index glyph : ℕ) → Numbers → Written
-written_by ankr reading s index glyph Numbers'.None = Written'.None
-written_by ankr reading s index glyph Numbers'.Short = Written'.None
+unfoldable pub written_by : (ankr : List ℕ) → Reading → AnchorState → (index glyph : ℕ) → Numbers → Option Written
+written_by ankr reading s index glyph Numbers'.None = None
+written_by ankr reading s index glyph Numbers'.Short = None
 written_by ankr reading s index glyph (Numbers'.At mark current) =
     offset (point_of reading ankr s.glyph mark) (point_of reading ankr glyph current) (index - s.mark)
 
 -- a step that ends here, in this state
 abbrev pub stopped : AnchorState → Answer → AnchorStep
-stopped s answer = record { answer = answer; state = s; advance = 0; written = Written'.None }
+stopped s answer = record { answer = answer; state = s; advance = 0; written = None }
 
 -- behind the action: the stall rule
-unfoldable pub settled : AnchorState → (stays : Bool) → Written → AnchorStep
+unfoldable pub settled : AnchorState → (stays : Bool) → Option Written → AnchorStep
 settled s stays written =
     record {
       answer = Answer'.Done;
@@ -174,26 +164,14 @@ unfoldable pub passed : (ankr bytes : List ℕ) → Anchoring → (glyphs : List
 passed ankr bytes anchoring glyphs used = passed_by (own_classes bytes anchoring) ankr bytes anchoring glyphs used
 
 -- the pass by what a head gives
-unfoldable pub worked_by : (ankr bytes : List ℕ) → Opened → (glyphs : List ℕ) → (used : ℕ) → Anchored
-worked_by ankr bytes (Opened'.Ready anchoring) glyphs used = passed ankr bytes anchoring glyphs used
-worked_by ankr bytes Opened'.Short glyphs used = nothing_written (Answer'.Refused Refusal'.Head)
-worked_by ankr bytes Opened'.Tupled glyphs used = nothing_written (Answer'.Refused Refusal'.Tuples)
+unfoldable pub worked_by : (ankr bytes : List ℕ) → Result Anchoring Unready → (glyphs : List ℕ) → (used : ℕ) → Anchored
+worked_by ankr bytes (Ok anchoring) glyphs used = passed ankr bytes anchoring glyphs used
+worked_by ankr bytes (Err why) glyphs used = nothing_written (Answer'.Refused (refusal why))
 
 -- the same by the classes of an index
-unfoldable pub worked_indexed : (index ankr bytes : List ℕ) → Opened → (glyphs : List ℕ) → (used : ℕ) → Anchored
-worked_indexed index ankr bytes (Opened'.Ready anchoring) glyphs used = passed_indexed index ankr bytes anchoring glyphs used
-worked_indexed index ankr bytes Opened'.Short glyphs used = nothing_written (Answer'.Refused Refusal'.Head)
-worked_indexed index ankr bytes Opened'.Tupled glyphs used = nothing_written (Answer'.Refused Refusal'.Tuples)
-
-abbrev pub is_short : Opened → Bool
-is_short (Opened'.Ready anchoring) = false
-is_short Opened'.Short = true
-is_short Opened'.Tupled = false
-
-abbrev pub is_tupled : Opened → Bool
-is_tupled (Opened'.Ready anchoring) = false
-is_tupled Opened'.Short = false
-is_tupled Opened'.Tupled = true
+unfoldable pub worked_indexed : (index ankr bytes : List ℕ) → Result Anchoring Unready → (glyphs : List ℕ) → (used : ℕ) → Anchored
+worked_indexed index ankr bytes (Ok anchoring) glyphs used = passed_indexed index ankr bytes anchoring glyphs used
+worked_indexed index ankr bytes (Err why) glyphs used = nothing_written (Answer'.Refused (refusal why))
 
 -- the room of a step is its adjustments', and as long are the other three
 unfoldable pub is_roomy : List ℤ → (x y : List ℤ) → (back : List ℕ) → (used : ℕ) → Bool
@@ -218,24 +196,23 @@ step_tests table_length ankr_length roomy used index s headless tupled =
     table_test table_length ∷ anchor_test ankr_length ∷ later_tests roomy used index s headless tupled
 
 -- a refused step hands the state back as given, and writes nothing
-abbrev pub stepped_by : Check → AnchorState → AnchorStep → AnchorStep
-stepped_by Check'.Passed s work = work
-stepped_by (Check'.Refused why) s work = stopped s (Answer'.Refused why)
+abbrev pub stepped_by : Result Unit Refusal → AnchorState → AnchorStep → AnchorStep
+stepped_by (Ok tt) s work = work
+stepped_by (Err why) s work = stopped s (Answer'.Refused why)
 
-abbrev pub on_opened : Opened → AnchorState → (Anchoring → AnchorStep) → AnchorStep
-on_opened (Opened'.Ready anchoring) s work = work anchoring
-on_opened Opened'.Short s work = stopped s (Answer'.Refused Refusal'.Head)
-on_opened Opened'.Tupled s work = stopped s (Answer'.Refused Refusal'.Tuples)
+abbrev pub on_opened : Result Anchoring Unready → AnchorState → (Anchoring → AnchorStep) → AnchorStep
+on_opened (Ok anchoring) s work = work anchoring
+on_opened (Err why) s work = stopped s (Answer'.Refused (refusal why))
 
 -- a lone step
-unfoldable pub step_call : (table_length : ℕ) → (ankr bytes : List ℕ) → Opened → AnchorState → (used index glyph : ℕ) → List ℤ → (x y : List ℤ) → (back : List ℕ)
+unfoldable pub step_call : (table_length : ℕ) → (ankr bytes : List ℕ) → Result Anchoring Unready → AnchorState → (used index glyph : ℕ) → List ℤ → (x y : List ℤ) → (back : List ℕ)
     → AnchorStep
 step_call table_length ankr bytes opened s used index glyph along x y back =
     stepped_by (refuse (step_tests table_length (length ankr) (is_roomy along x y back used) used index s (is_short opened) (is_tupled opened))) s
     (on_opened opened s (λ anchoring. next (own_classes bytes anchoring) ankr bytes anchoring s index glyph))
 
 -- what it writes
-unfoldable pub step_writes : (table_length : ℕ) → (ankr bytes : List ℕ) → Opened → AnchorState → (used index glyph : ℕ) → List ℤ → (x y : List ℤ) → (back : List ℕ)
+unfoldable pub step_writes : (table_length : ℕ) → (ankr bytes : List ℕ) → Result Anchoring Unready → AnchorState → (used index glyph : ℕ) → List ℤ → (x y : List ℤ) → (back : List ℕ)
     → List Write
 step_writes table_length ankr bytes opened s used index glyph along x y back =
     writes_at used index (step_call table_length ankr bytes opened s used index glyph along x y back).written

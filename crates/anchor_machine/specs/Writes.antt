@@ -1,10 +1,9 @@
 -- Anchoring is writes: x, y and the distance back of a place, each in a slice of its own that has one for each place of the room.
-use Rattle.std.specs.Prelude.{ℕ, Bool, List, [], ◌∷◌, ◌++◌, eqb, ℤ, length, set}
+use Rattle.std.specs.Prelude.{ℕ, Bool, List, [], ◌∷◌, ◌++◌, eqb, ℤ, length, set, Option, Some, None}
 use Rattle.laws.specs.Choose.{if_lt}
 use Rattle.laws.specs.Lists.{both}
 use Rattle.answers.specs.declared.Answer.{Answer}
 use Rattle.anchor_machine.specs.declared.Written.{Written}
-use Rattle.anchor_machine.specs.declared.Written.TheVariants as Written'
 
 -- what is written at a place
 pub record Write : Type 0 where
@@ -29,9 +28,9 @@ abbrev pub write_back : List Write → List ℕ → List ℕ
 write_back writes were = write_all (λ (w : Write). w.back) writes were
 
 -- what a step writes at its place; behind the line, which has so many places, nothing
-unfoldable pub writes_at : (used place : ℕ) → Written → List Write
-writes_at used place Written'.None = []
-writes_at used place (Written'.At x y back) = if_lt place used (record { place = place; x = x; y = y; back = back } ∷ []) []
+unfoldable pub writes_at : (used place : ℕ) → Option Written → List Write
+writes_at used place None = []
+writes_at used place (Some w) = if_lt place used (record { place = place; x = w.x; y = w.y; back = w.back } ∷ []) []
 
 -- what an anchoring pass answers, and its writes
 pub record Anchored : Type 0 where

@@ -1,26 +1,27 @@
 // kerx format 4: the machine of anchored marks, over the bytes from its state table on.
 #![tactic(auto)]
 
-ghost use Rattle.std.specs.Prelude.{◌≡◌, ◌+◌, ◌-◌, ◌≤◌, length};
+ghost use Rattle.std.specs.Prelude.{◌≡◌, ◌+◌, ◌≤◌, length};
 ghost use Rattle.answers.specs.Limits.{room_limit};
 ghost use Rattle.answers.specs.Refuse.{refuse};
-ghost use Rattle.state_tables.specs.Opened.{class_by, LiesIn, Remembers};
-ghost use Rattle.indexes.specs.Index.{classes_by};
+ghost use Rattle.kerning.specs.Heads.{is_short, is_tupled};
 ghost use Rattle.anchor_machine.specs.Writes.{write_x, write_y, write_back, writes_at, are_long};
 ghost use Rattle.anchor_machine.specs.Small.{IsPoint, IsOffset};
-ghost use Rattle.anchor_machine.specs.Machine.{opened, barred, fresh, marked, numbers_at, numbers_of, offset, written_by, stopped, settled, are_short};
-ghost use Rattle.anchor_machine.specs.Machine.{settled_by, acted, next, own_classes, worked_by, worked_indexed, is_short, is_tupled, is_roomy, step_tests};
+ghost use Rattle.anchor_machine.specs.Machine.{opened, fresh, marked, numbers_at, numbers_of, offset, written_by, stopped, settled, are_short};
+ghost use Rattle.anchor_machine.specs.Machine.{settled_by, acted, next, own_classes, worked_by, worked_indexed, is_roomy, step_tests};
 ghost use Rattle.anchor_machine.specs.Machine.{step_call, step_writes};
 
 use anchors::Point;
-use answers::{Answer, Check, Refusal};
-use parse::{ReadU16, ReadU32};
-use state_tables::entries::{Entered, Entry};
-use state_tables::opened::Classes;
-use state_tables::{Made, States, classes, entries, opened};
+use answers::{Answer, Refusal};
+use kerning::heads;
+use kerning::heads::Unready;
+use points::{Points, Table};
+use state_tables::entries::Entry;
+use state_tables::{States, classes, entries};
 use tables::units::Reading;
 
-mod actions;
+mod pass;
+mod points;
 
 // A machine, as its subtable's head gives it: by a reading, with an action type and where its control table begins.
 #[derive(Clone, Copy)]
@@ -31,14 +32,6 @@ pub struct Anchoring {
     pub control: u32,
 }
 
-// What a head gives: a machine; none, where it can't be read; or one with tuples, where these are refused.
-#[derive(Clone, Copy)]
-pub enum Opened {
-    Ready(Anchoring),
-    Short,
-    Tupled,
-}
-
 // What an entry's action names: nothing; a record that can't be read; or the number of a point of the marked glyph and of one of the current glyph.
 #[derive(Clone, Copy)]
 pub enum Numbers {
@@ -47,11 +40,12 @@ pub enum Numbers {
     At { mark: u16, current: u16 },
 }
 
-// What a step writes at its place: nothing, or x, y and the distance back to the marked place.
+// What a step writes at its place: x, y and the distance back to the marked place.
 #[derive(Clone, Copy)]
-pub enum Written {
-    None,
-    At { x: i32, y: i32, back: u16 },
+pub struct Written {
+    pub x: i32,
+    pub y: i32,
+    pub back: u16,
 }
 
 // The state of a pass: the state table's state, the marked place, the glyph that was there, and how many steps in a row did not advance.
@@ -69,20 +63,17 @@ pub struct AnchorStep {
     pub answer: Answer,
     pub state: AnchorState,
     pub advance: usize,
-    pub written: Written,
+    pub written: Option<Written>,
 }
 
 // The machine of the state table that the bytes begin with.
-pub fn open(reading: Reading, bytes: &[u8]) -> Opened
+#[tactic(auto, unfolding(crate::specs::Machine::opened))]
+pub fn open(reading: Reading, bytes: &[u8]) -> Result<Anchoring, Unready>
     ensures { result ≡ opened reading bytes.now }
 {
-    let Made::Ready(states) = state_tables::extended_by(bytes, reading) else {
-        return Opened::Short;
-    };
-    let ReadU32::Got(flags) = parse::read_u32(bytes, 16) else {
-        return Opened::Short;
-    };
-    Opened::Ready(Anchoring {
+    let states = state_tables::extended_by(bytes, reading).ok_or(Unready::Short)?;
+    let flags = parse::read_u32(bytes, 16).ok_or(Unready::Short)?;
+    Ok(Anchoring {
         states,
         reading,
         action: flags / AnchorState::ACTIONS,
@@ -90,41 +81,26 @@ pub fn open(reading: Reading, bytes: &[u8]) -> Opened
     })
 }
 
-// What a head gives, where tuples are refused or not.
-pub fn barred(tupled: bool, opened: Opened) -> Opened
-    ensures { result ≡ barred tupled opened }
-{
-    if !tupled {
-        return opened;
-    }
-    match opened {
-        Opened::Ready(_) => Opened::Tupled,
-        Opened::Short => Opened::Short,
-        Opened::Tupled => Opened::Tupled,
-    }
-}
-
 // The record at a place.
+#[tactic(auto, using(parse::proofs::Laws::u16_value), unfolding(crate::specs::Machine::numbers_at))]
 fn numbers_at(bytes: &[u8], place: usize) -> Numbers
     ensures { result ≡ numbers_at bytes.now place }
 {
-    let ReadU16::Got(mark) = parse::read_u16(bytes, place) else {
+    let Some(mark) = parse::read_u16(bytes, place) else {
         return Numbers::Short;
     };
-    let ReadU16::Got(current) = parse::read_u16(bytes, place + 2) else {
+    let Some(current) = parse::read_u16(bytes, place + 2) else {
         return Numbers::Short;
     };
     Numbers::At { mark, current }
 }
 
 // The record of an entry's action.
+#[tactic(auto, unfolding(crate::specs::Machine::numbers_of))]
 fn numbers_of(bytes: &[u8], anchoring: Anchoring, index: u16) -> Numbers
     ensures { result ≡ numbers_of bytes.now anchoring index }
 {
-    if index == AnchorState::NO_ACTION {
-        return Numbers::None;
-    }
-    if anchoring.action != AnchorState::ANCHORS {
+    if index == AnchorState::NO_ACTION || anchoring.action != AnchorState::ANCHORS {
         return Numbers::None;
     }
     numbers_at(bytes, anchoring.control as usize + index as usize * 2)
@@ -134,120 +110,69 @@ fn numbers_of(bytes: &[u8], anchoring: Anchoring, index: u16) -> Numbers
 fn are_short(numbers: Numbers) -> bool
     ensures { result ≡ are_short numbers }
 {
-    match numbers {
-        Numbers::None => false,
-        Numbers::Short => true,
-        Numbers::At { .. } => false,
-    }
-}
-
-// The distance back to a mark, which is not ahead.
-fn distance(index: usize, mark: usize) -> usize
-    ensures { result ≡ index - mark }
-{
-    if index < mark {
-        return 0;
-    }
-    index - mark
+    matches!(numbers, Numbers::Short)
 }
 
 // What two points write.
-fn offset(mark: Point, current: Point, back: usize) -> Written
+#[tactic(auto, unfolding(crate::specs::Machine::offset))]
+fn offset(mark: Option<Point>, current: Option<Point>, back: usize) -> Option<Written>
     requires { IsPoint mark × IsPoint current }
     ensures { result ≡ offset mark current back }
 {
-    let Point::At { x, y } = mark else {
-        return Written::None;
-    };
-    let Point::At {
-        x: beside,
-        y: below,
-    } = current
-    else {
-        return Written::None;
-    };
+    let mark = mark?;
+    let current = current?;
     if AnchorState::FARTHEST <= back {
-        return Written::None;
+        return None;
     }
-    Written::At {
-        x: anchors::difference(x, beside),
-        y: anchors::difference(y, below),
+    Some(Written {
+        x: anchors::difference(mark.x, current.x),
+        y: anchors::difference(mark.y, current.y),
         back: back as u16,
-    }
+    })
 }
 
 // Whether a step's adjustments are a room for a line of so many places, none of them beyond ±2^40, and the other three slices are as long.
+#[tactic(auto, unfolding(crate::specs::Machine::is_roomy))]
 fn is_roomy(along: &[i64], x: &[i32], y: &[i32], back: &[u16], used: usize) -> bool
     ensures { result ≡ is_roomy along.now x.now y.now back.now used }
 {
-    if answers::above_room(along.len()) {
-        return false;
-    }
-    if along.len() < used {
-        return false;
-    }
-    if !are_long(along.len(), x, y, back) {
-        return false;
-    }
-    kerning::modest(along)
+    !answers::above_room(along.len())
+        && used <= along.len()
+        && are_long(along.len(), x, y, back)
+        && kerning::modest(along)
 }
 
 // Whether the three slices are as long as the room.
+#[tactic(auto, unfolding(crate::specs::Writes::are_long))]
 pub fn are_long(room: usize, x: &[i32], y: &[i32], back: &[u16]) -> bool
     ensures { result ≡ are_long room x.now y.now back.now }
 {
-    if x.len() != room {
-        return false;
-    }
-    if y.len() != room {
-        return false;
-    }
-    back.len() == room
-}
-
-// Whether there is no machine.
-fn is_short(opened: Opened) -> bool
-    ensures { result ≡ is_short opened }
-{
-    match opened {
-        Opened::Ready(_) => false,
-        Opened::Short => true,
-        Opened::Tupled => false,
-    }
-}
-
-// Whether there is one whose tuples are refused.
-fn is_tupled(opened: Opened) -> bool
-    ensures { result ≡ is_tupled opened }
-{
-    match opened {
-        Opened::Ready(_) => false,
-        Opened::Short => false,
-        Opened::Tupled => true,
-    }
+    x.len() == room && y.len() == room && back.len() == room
 }
 
 // A step's offset, written at its place; behind the line it is not.
-fn put(written: Written, used: usize, place: usize, x: &mut [i32], y: &mut [i32], back: &mut [u16])
+#[tactic(auto, using(crate::proofs::Acting::written_fits), unfolding(crate::specs::Writes::writes_at, crate::specs::Writes::write_all))]
+fn put(
+    written: Option<Written>,
+    used: usize,
+    place: usize,
+    x: &mut [i32],
+    y: &mut [i32],
+    back: &mut [u16],
+)
     requires { IsOffset written × (used ≤ length x.old) × (used ≤ length y.old) × (used ≤ length back.old) }
     ensures x { x.new ≡ write_x (writes_at used place written) x.old }
     ensures y { y.new ≡ write_y (writes_at used place written) y.old }
     ensures back { back.new ≡ write_back (writes_at used place written) back.old }
 {
-    let Written::At {
-        x: right,
-        y: up,
-        back: far,
-    } = written
-    else {
+    let Some(written) = written else {
         return;
     };
-    if used <= place {
-        return;
+    if place < used {
+        x[place] = written.x;
+        y[place] = written.y;
+        back[place] = written.back;
     }
-    x[place] = right;
-    y[place] = up;
-    back[place] = far;
 }
 
 impl AnchorState {
@@ -294,64 +219,57 @@ impl AnchorState {
             answer,
             state: self,
             advance: 0,
-            written: Written::None,
+            written: None,
         }
     }
 
     // The new state, and the mark at this place where its flag says so.
+    #[tactic(auto, unfolding(crate::specs::Machine::marked))]
     fn marked(self, entry: Entry, index: usize, glyph: u16) -> AnchorState
         ensures { result ≡ marked self entry index glyph }
     {
+        let state = entry.state;
         if machine::is_set(entry.flags, AnchorState::MARK) {
             return AnchorState {
-                state: entry.state,
+                state,
                 mark: index,
                 glyph,
-                cycles: self.cycles,
+                ..self
             };
         }
-        AnchorState {
-            state: entry.state,
-            mark: self.mark,
-            glyph: self.glyph,
-            cycles: self.cycles,
-        }
+        AnchorState { state, ..self }
     }
 
     // What an action's record writes.
-    fn written_by(
+    #[tactic(auto, unfolding(crate::specs::Machine::written_by))]
+    fn written_by<P: Points>(
         self,
-        ankr: &[u8],
-        reading: Reading,
+        points: &mut P,
         index: usize,
         glyph: u16,
         numbers: Numbers,
-    ) -> Written
-        ensures { result ≡ written_by ankr.now reading self index glyph numbers }
+    ) -> Option<Written>
+        ensures written { result ≡ written_by (P.table points.old) (P.reading points.old) self index glyph numbers }
+        ensures table { P.table points.new ≡ P.table points.old }
+        ensures reading { P.reading points.new ≡ P.reading points.old }
     {
-        match numbers {
-            Numbers::None => Written::None,
-            Numbers::Short => Written::None,
-            Numbers::At { mark, current } => {
-                let marked = anchors::point_of(reading, ankr, self.glyph, mark);
-                let here = anchors::point_of(reading, ankr, glyph, current);
-                offset(marked, here, distance(index, self.mark))
-            }
-        }
+        let Numbers::At { mark, current } = numbers else {
+            return None;
+        };
+        points.offset(self, index, glyph, mark, current)
     }
 
     // Behind the action: the stall rule.
-    fn settled(self, stays: bool, written: Written) -> AnchorStep
+    #[tactic(auto, unfolding(crate::specs::Machine::settled))]
+    fn settled(self, stays: bool, written: Option<Written>) -> AnchorStep
         ensures { result ≡ settled self stays written }
     {
         let stalled = machine::stall(self.cycles, stays);
         AnchorStep {
             answer: Answer::Done,
             state: AnchorState {
-                state: self.state,
-                mark: self.mark,
-                glyph: self.glyph,
                 cycles: stalled.cycles,
+                ..self
             },
             advance: stalled.advance,
             written,
@@ -359,46 +277,51 @@ impl AnchorState {
     }
 
     // The action, once the mark is set.
-    fn settled_by(
+    #[tactic(auto, unfolding(crate::specs::Machine::settled_by))]
+    fn settled_by<P: Points>(
         self,
-        ankr: &[u8],
-        reading: Reading,
+        points: &mut P,
         stays: bool,
         index: usize,
         glyph: u16,
         numbers: Numbers,
     ) -> AnchorStep
-        ensures { result ≡ settled_by ankr.now reading self stays index glyph numbers }
+        ensures step { result ≡ settled_by (P.table points.old) (P.reading points.old) self stays index glyph numbers }
+        ensures table { P.table points.new ≡ P.table points.old }
+        ensures reading { P.reading points.new ≡ P.reading points.old }
     {
         if are_short(numbers) {
             return self.stopped(Answer::Ended);
         }
-        let written = self.written_by(ankr, reading, index, glyph, numbers);
+        let written = self.written_by(points, index, glyph, numbers);
         self.settled(stays, written)
     }
 
     // What an entry does: the mark, then the action, then the stall rule.
-    fn act(
+    #[tactic(auto, unfolding(crate::specs::Machine::acted))]
+    fn act<P: Points>(
         self,
-        ankr: &[u8],
+        points: &mut P,
         bytes: &[u8],
         anchoring: Anchoring,
         entry: Entry,
         index: usize,
         glyph: u16,
     ) -> AnchorStep
-        requires { entry.payload + 2 ≤ length bytes.now }
-        ensures { result ≡ acted ankr.now bytes.now anchoring self entry index glyph }
+        requires { (entry.payload + 2 ≤ length bytes.now) × (anchoring.reading ≡ P.reading points.old) }
+        ensures step { result ≡ acted (P.table points.old) bytes.now anchoring self entry index glyph }
+        ensures table { P.table points.new ≡ P.table points.old }
+        ensures reading { P.reading points.new ≡ P.reading points.old }
     {
         let marked = self.marked(entry, index, glyph);
         let number = entries::one_number(bytes, entry.payload);
         let numbers = numbers_of(bytes, anchoring, number);
         let stays = machine::is_set(entry.flags, AnchorState::DONT_ADVANCE);
-        let reading = anchoring.reading;
-        marked.settled_by(ankr, reading, stays, index, glyph, numbers)
+        marked.settled_by(points, stays, index, glyph, numbers)
     }
 
     // The crate's `next`.
+    #[tactic(auto, using(state_tables::proofs::Laws::entry_payload), unfolding(crate::specs::Machine::next))]
     fn next(
         self,
         ankr: &[u8],
@@ -411,13 +334,18 @@ impl AnchorState {
     {
         let states = anchoring.states;
         let class = classes::class_of(bytes, states, glyph);
-        let Entered::At(entry) = entries::entry_of(bytes, states, self.state, class, 2) else {
+        let Some(entry) = entries::entry_of(bytes, states, self.state, class, 2) else {
             return self.stopped(Answer::Ended);
         };
-        self.act(ankr, bytes, anchoring, entry, index, glyph)
+        let mut table = Table {
+            ankr,
+            reading: anchoring.reading,
+        };
+        self.act(&mut table, bytes, anchoring, entry, index, glyph)
     }
 
     // The step at an index, and what it writes.
+    #[tactic(auto, using(crate::proofs::Acting::next_small))]
     fn go(
         self,
         ankr: &[u8],
@@ -443,6 +371,7 @@ impl AnchorState {
     }
 
     // The tests before a lone step: TABLE, ANCHOR, LINE, PLACE, STATE, HEAD, TUPLES.
+    #[tactic(auto, unfolding(crate::specs::Machine::step_tests, crate::specs::Machine::later_tests, answers::specs::Refuse::refuse, answers::specs::Refuse::table_test, anchors::specs::Anchors::anchor_test))]
     fn refuse(
         self,
         table_length: usize,
@@ -450,44 +379,41 @@ impl AnchorState {
         roomy: bool,
         used: usize,
         index: usize,
-        opened: Opened,
-    ) -> Check
+        opened: Result<Anchoring, Unready>,
+    ) -> Result<(), Refusal>
         ensures { result ≡ refuse (step_tests table_length ankr_length roomy used index self (is_short opened) (is_tupled opened)) }
     {
-        if let Check::Refused(why) = answers::refuse_table(table_length) {
-            return Check::Refused(why);
-        }
-        if let Check::Refused(why) = anchors::refuse_anchors(ankr_length) {
-            return Check::Refused(why);
-        }
+        answers::refuse_table(table_length)?;
+        anchors::refuse_anchors(ankr_length)?;
         if !roomy {
-            return Check::Refused(Refusal::Line);
+            return Err(Refusal::Line);
         }
         if used < index {
-            return Check::Refused(Refusal::Place);
+            return Err(Refusal::Place);
         }
         if index < self.mark {
-            return Check::Refused(Refusal::State);
+            return Err(Refusal::State);
         }
         if AnchorState::MOST_CYCLES < self.cycles {
-            return Check::Refused(Refusal::State);
+            return Err(Refusal::State);
         }
-        if is_short(opened) {
-            return Check::Refused(Refusal::Head);
+        if heads::is_short(opened) {
+            return Err(Refusal::Head);
         }
-        if is_tupled(opened) {
-            return Check::Refused(Refusal::Tuples);
+        if heads::is_tupled(opened) {
+            return Err(Refusal::Tuples);
         }
-        Check::Passed
+        Ok(())
     }
 
     // A lone step, by a machine and the bytes from its state table on, on a line of so many places.
+    #[tactic(auto, using(crate::proofs::Steps::step_ready), unfolding(crate::specs::Machine::step_call, crate::specs::Machine::step_writes, crate::specs::Writes::writes_at, crate::specs::Writes::write_all))]
     pub fn step(
         self,
         table_length: usize,
         ankr: &[u8],
         bytes: &[u8],
-        opened: Opened,
+        opened: Result<Anchoring, Unready>,
         used: usize,
         index: usize,
         glyph: u16,
@@ -506,59 +432,22 @@ impl AnchorState {
             along.now x.old y.old back.old) back.old }
     {
         let roomy = is_roomy(along, x, y, back, used);
-        if let Check::Refused(why) = self.refuse(
-            table_length,
-            ankr.len(),
-            roomy,
-            used,
-            index,
-            opened,
-        ) {
+        if let Err(why) = self.refuse(table_length, ankr.len(), roomy, used, index, opened) {
             return self.stopped(Answer::Refused(why));
         }
         match opened {
-            Opened::Ready(anchoring) => {
-                return self.go(ankr, bytes, anchoring, used, index, glyph, x, y, back);
-            }
-            Opened::Short => {
-                return self.stopped(Answer::Refused(Refusal::Head));
-            }
-            Opened::Tupled => {
-                return self.stopped(Answer::Refused(Refusal::Tuples));
-            }
+            Ok(anchoring) => self.go(ankr, bytes, anchoring, used, index, glyph, x, y, back),
+            Err(why) => self.stopped(Answer::Refused(Refusal::from(why))),
         }
     }
 }
 
-// The class of a glyph: an array's element, or what is remembered of any other class table.
-fn class_now(bytes: &[u8], opened: Classes, memo: &mut [u32; 64], glyph: u16) -> u16
-    requires { LiesIn bytes.now opened × Remembers (class_by bytes.now opened) memo.old }
-    ensures class { result ≡ class_by bytes.now opened glyph }
-    ensures memo { Remembers (class_by bytes.now opened) memo.new }
-{
-    let Classes::Words { base, first, count } = opened else {
-        return opened::remembered(bytes, opened, memo, glyph);
-    };
-    opened::class_in_words(bytes, base, first, count, glyph)
-}
-
-// The same by an index, where that reaches the glyph.
-fn class_by(bytes: &[u8], opened: Classes, memo: &mut [u32; 64], glyph: u16, index: &[u16]) -> u16
-    requires { LiesIn bytes.now opened × Remembers (class_by bytes.now opened) memo.old }
-    ensures class { result ≡ classes_by index.now (class_by bytes.now opened) glyph }
-    ensures memo { Remembers (class_by bytes.now opened) memo.new }
-{
-    if (glyph as usize) < index.len() {
-        return index[glyph as usize];
-    }
-    class_now(bytes, opened, memo, glyph)
-}
-
 // The pass by what a head gives and the classes of an index; HEAD where it gives none, TUPLES where these are refused.
+#[tactic(auto, unfolding(crate::specs::Machine::worked_indexed, crate::specs::Writes::write_all))]
 pub fn work_by(
     ankr: &[u8],
     bytes: &[u8],
-    opened: Opened,
+    opened: Result<Anchoring, Unready>,
     glyphs: &[u16],
     used: usize,
     x: &mut [i32],
@@ -576,23 +465,19 @@ pub fn work_by(
         used).writes back.old }
 {
     match opened {
-        Opened::Ready(anchoring) => {
-            return actions::pass_line(ankr, bytes, anchoring, glyphs, used, x, y, back, index);
+        Ok(anchoring) => {
+            pass::pass_line(ankr, bytes, anchoring, glyphs, used, x, y, back, index)
         }
-        Opened::Short => {
-            return Answer::Refused(Refusal::Head);
-        }
-        Opened::Tupled => {
-            return Answer::Refused(Refusal::Tuples);
-        }
+        Err(why) => Answer::Refused(Refusal::from(why)),
     }
 }
 
 // The same by the machine's own classes.
+#[tactic(auto, using(crate::proofs::Calls::plain_worked))]
 pub fn work(
     ankr: &[u8],
     bytes: &[u8],
-    opened: Opened,
+    opened: Result<Anchoring, Unready>,
     glyphs: &[u16],
     used: usize,
     x: &mut [i32],

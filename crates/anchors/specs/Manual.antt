@@ -1,13 +1,12 @@
 -- Apple's manual on the ankr table: its lookup begins at the 32-bit number at 4, and the glyphs' points at the one at 8. A glyph's value in the lookup is
 -- where its own begin, from there on: their count, of 32 bits, and then the points, x and y of 16 bits each, with a sign. The manual was not at hand:
 -- docs/DIFFERENCES.md says what these lines rest on.
-use Rattle.std.specs.Prelude.{ℕ, ◌+◌, ◌*◌, ◌≤◌, ◌≡◌, List, ℤ, length, drop}
+use Rattle.std.specs.Prelude.{ℕ, ◌+◌, ◌*◌, ◌≤◌, ◌≡◌, List, ℤ, length, drop, Some}
 use Rattle.laws.specs.Signed.{signed16}
 use Rattle.parse.specs.Reads.{u16_at, u32_at}
 use Rattle.tables.specs.ManualLookup.{Layout, Lies}
 use Rattle.tables.specs.declared.units.Reading.TheVariants.{Crate}
 use Rattle.anchors.specs.Anchors.{point_of}
-use Rattle.anchors.specs.declared.Point.TheVariants.{At}
 
 abbrev pub lookup_part : List ℕ → List ℕ
 lookup_part ankr = drop (u32_at ankr 4) ankr
@@ -36,8 +35,8 @@ y_at ankr place = signed16 (u16_at ankr (place + 2))
 
 -- the crate's point of a number is just the one that lies there, where all of it is in the table
 pub record AsManual (ankr : List ℕ) (glyphs glyph : ℕ) (layout : Layout) (number : ℕ) : Type 0 where
-  pub found : (x y : ℤ) → point_of Crate ankr glyph number ≡ At x y
+  pub found : (x y : ℤ) → point_of Crate ankr glyph number ≡ Some (record { x = x; y = y })
       → (place : ℕ) × PointsLie ankr glyphs glyph layout place × (point_place place number + 4 ≤ length ankr)
       × (x ≡ x_at ankr (point_place place number)) × (y ≡ y_at ankr (point_place place number))
   pub there : (place : ℕ) → PointsLie ankr glyphs glyph layout place → point_place place number + 4 ≤ length ankr
-      → point_of Crate ankr glyph number ≡ At (x_at ankr (point_place place number)) (y_at ankr (point_place place number))
+      → point_of Crate ankr glyph number ≡ Some (record { x = x_at ankr (point_place place number); y = y_at ankr (point_place place number) })

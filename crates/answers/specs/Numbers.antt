@@ -1,10 +1,9 @@
 -- The numbers of the answers: document 01's table, and from 10 on those that document 02 adds.
-use Rattle.std.specs.Prelude.{ℕ}
+use Rattle.answers.specs.declared.Refusal.{Refusal}
+use Rattle.std.specs.Prelude.{ℕ, Option, Some, None, Result, Ok, Err}
 use Rattle.answers.specs.declared.Refusal.TheVariants.{Table, Line, Place, State, Head, Request, Record, Version, Tuples, Index, Reel, Anchor, Overlap, Space}
 use Rattle.answers.specs.declared.Answer.{Answer}
 use Rattle.answers.specs.declared.Answer.TheVariants.{Done, Nothing, Full, Ended, Limit, Refused}
-use Rattle.answers.specs.declared.Reply.{Reply}
-use Rattle.answers.specs.declared.Reply.TheVariants as R
 
 abbrev pub number_of : Answer → ℕ
 number_of Done = 0
@@ -28,13 +27,13 @@ number_of (Refused Overlap) = 17
 number_of (Refused Space) = 18
 
 -- the answer of a reply: a value is DONE
-abbrev pub answer_of : Reply → Answer
-answer_of (R.Value v) = Done
-answer_of R.Nothing = Nothing
-answer_of (R.Refused why) = Refused why
+abbrev pub answer_of : Result (Option ℕ) Refusal → Answer
+answer_of (Ok (Some v)) = Done
+answer_of (Ok None) = Nothing
+answer_of (Err why) = Refused why
 
 -- the number lent for the value, afterwards: the value, or as it was
-abbrev pub value_of : Reply → ℕ → ℕ
-value_of (R.Value v) was = v
-value_of R.Nothing was = was
-value_of (R.Refused why) was = was
+abbrev pub value_of : Result (Option ℕ) Refusal → ℕ → ℕ
+value_of (Ok (Some v)) was = v
+value_of (Ok None) was = was
+value_of (Err why) was = was

@@ -46,68 +46,61 @@ pub enum Answer {
     Refused(Refusal),
 }
 
-// What the tests before the work say.
-#[derive(Clone, Copy)]
-pub enum Check {
-    Passed,
-    Refused(Refusal),
-}
-
-// The answer of an entry that reads one number and changes nothing.
-#[derive(Clone, Copy)]
-pub enum Reply {
-    Value(u32),
-    Nothing,
-    Refused(Refusal),
-}
-
 // The number of a refusal in the documents.
-pub fn refusal_number(refusal: Refusal) -> u32
-    ensures { result ≡ number_of (Answer.Refused refusal) }
-{
-    match refusal {
-        Refusal::Table => 2,
-        Refusal::Line => 3,
-        Refusal::Place => 4,
-        Refusal::State => 5,
-        Refusal::Head => 6,
-        Refusal::Request => 10,
-        Refusal::Record => 11,
-        Refusal::Version => 12,
-        Refusal::Tuples => 13,
-        Refusal::Index => 14,
-        Refusal::Reel => 15,
-        Refusal::Anchor => 16,
-        Refusal::Overlap => 17,
-        Refusal::Space => 18,
+impl From<Refusal> for u32 {
+    ghost use Rattle.answers.specs.declared.Answer.TheVariants.{Refused};
+
+    ghost from_gives = { λ refusal number. number ≡ number_of (Refused refusal) };
+
+    fn from(refusal: Refusal) -> u32 {
+        match refusal {
+            Refusal::Table => 2,
+            Refusal::Line => 3,
+            Refusal::Place => 4,
+            Refusal::State => 5,
+            Refusal::Head => 6,
+            Refusal::Request => 10,
+            Refusal::Record => 11,
+            Refusal::Version => 12,
+            Refusal::Tuples => 13,
+            Refusal::Index => 14,
+            Refusal::Reel => 15,
+            Refusal::Anchor => 16,
+            Refusal::Overlap => 17,
+            Refusal::Space => 18,
+        }
     }
 }
 
 // The number of an answer in the documents.
-pub fn number(answer: Answer) -> u32
-    ensures { result ≡ number_of answer }
-{
-    match answer {
-        Answer::Done => 0,
-        Answer::Nothing => 1,
-        Answer::Full => 7,
-        Answer::Ended => 8,
-        Answer::Limit => 9,
-        Answer::Refused(refusal) => refusal_number(refusal),
+impl From<Answer> for u32 {
+    ghost from_gives = { λ answer number. number ≡ number_of answer };
+
+    fn from(answer: Answer) -> u32 {
+        match answer {
+            Answer::Done => 0,
+            Answer::Nothing => 1,
+            Answer::Full => 7,
+            Answer::Ended => 8,
+            Answer::Limit => 9,
+            Answer::Refused(refusal) => u32::from(refusal),
+        }
     }
 }
 
 // The one test of an entry that is lent a table and no line.
-pub fn refuse_table(table_length: usize) -> Check
+#[tactic(auto, unfolding(crate::specs::Refuse::refuse, crate::specs::Refuse::table_test, crate::specs::Limits::table_limit))]
+pub fn refuse_table(table_length: usize) -> Result<(), Refusal>
     ensures { result ≡ refuse (table_test table_length ∷ []) }
 {
     if TABLE_LIMIT < table_length {
-        return Check::Refused(Refusal::Table);
+        return Err(Refusal::Table);
     }
-    Check::Passed
+    Ok(())
 }
 
 // Whether a length is more than any line has room for.
+#[tactic(auto, unfolding(crate::specs::Limits::room_limit))]
 pub fn above_room(places: usize) -> bool
     ensures { result ≡ ltb room_limit places }
 {

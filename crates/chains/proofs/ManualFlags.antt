@@ -1,4 +1,5 @@
 -- The flags that a chain's features make are the manual's, over the features that lie where the manual says, up to the first that does not.
+use Rattle.std.specs.Prelude.{Some, None}
 use Prim.Native.Nat.{ℕ, zero, suc, ◌+◌, ◌-◌, ◌<◌, ◌≤◌}
 use mathlib.Core.Path.{◌≡◌, refl, ◌∙◌, ap, subst⁻¹}
 use mathlib.Core.List.{List}
@@ -12,7 +13,6 @@ use Rattle.chains.specs.Features.{request_of, switched, features_of, switched_by
 use Rattle.chains.specs.Manual.{place_from, chain_head_size, feature_total, feature_place, manual_feature, manual_chain, manual_flags, Lie, EndsAt}
 use Rattle.chains.specs.declared.Edition.{Edition}
 use Rattle.chains.specs.declared.Feature.{Feature}
-use Rattle.chains.specs.declared.NextFeature.TheVariants as Feature'
 use Rattle.chains.proofs.Manual.{feature_here, feature_cut, feature_none, ends_there}
 use Rattle.chains.proofs.Switching.{features-end, features-at}
 
@@ -37,11 +37,11 @@ module _ (edition : Edition) (table requests : List ℕ) (chain : ℕ) where
         ap (λ (i : ℕ). switched_by requests (from i) (manual_flags edition table requests chain i)) j≡n
         ∙ ap (λ (fs : List Feature). switched_by requests fs (manual_flags edition table requests chain n))
         (features-end table (total - n) (cursor (feature_place edition chain n) (total - n))
-        (ends_there (next_feature table) Feature'.End table 12 (feature_place edition chain) total (feature_none table) (feature_cut table) n e))
+        (ends_there (next_feature table) None table 12 (feature_place edition chain) total (feature_none table) (feature_cut table) n e))
     rest (suc k) j h =
         let left : ℕ = total - suc j in
         let one : total - j ≡ suc left = omega (arith, e.counted) in
-        let here : next_feature table (cursor (feature_place edition chain j) (suc left)) ≡ Feature'.At (manual_feature table (feature_place edition chain j) left) =
+        let here : next_feature table (cursor (feature_place edition chain j) (suc left)) ≡ Some (manual_feature table (feature_place edition chain j) left) =
         feature_here table (feature_place edition chain j) left (e.lie j (omega arith)) in
         ap (λ (m : ℕ). switched_by requests (features_of table m (cursor (feature_place edition chain j) m)) (manual_flags edition table requests chain j)) one
         ∙ ap (λ (fs : List Feature). switched_by requests fs (manual_flags edition table requests chain j)) (features-at table left (cursor (feature_place edition chain j) (suc left)) here)

@@ -1,4 +1,5 @@
 -- The walk of a table is its heads as the manual has them, one after the other.
+use Rattle.std.specs.Prelude.{Some, None}
 use Prim.Native.Nat.{ℕ, zero, suc, ◌+◌, ◌<◌, ◌≤◌}
 use mathlib.Core.Path.{◌≡◌, refl, sym, ◌∙◌, ap}
 use mathlib.Core.List.{List, [], ◌∷◌, ◌++◌}
@@ -16,9 +17,7 @@ use Rattle.chains.specs.declared.Head.{Head}
 use Rattle.chains.specs.declared.Head.TheVariants as Head'
 use Rattle.chains.specs.declared.Chain.{Chain}
 use Rattle.chains.specs.declared.Subtable.{Subtable}
-use Rattle.chains.specs.declared.NextChain.TheVariants as Chain'
-use Rattle.chains.specs.declared.NextSubtable.TheVariants as Subtable'
-use Rattle.chains.specs.declared.NextHead.TheVariants as Next'
+use Rattle.chains.specs.declared.NextHead.{NextHead}
 use Rattle.chains.proofs.Manual.{chain_here, chain_cut, chain_none, subtable-here, subtable-cut, subtable-none, chains-first, no_chains}
 
 module _ (edition : Edition) (table : List ℕ) where
@@ -31,25 +30,25 @@ module _ (edition : Edition) (table : List ℕ) where
 
   -- the next head is a subtable's, a chain's, or there is none
   module _ (most : ℕ) (w : Walk) where
-    goes_on : {head : Head} {next : Walk} → next_head edition table w ≡ Next'.At head next → heads_of edition table (suc most) w ≡ head ∷ heads_of edition table most next
+    goes_on : {n : NextHead} → next_head edition table w ≡ Some n → heads_of edition table (suc most) w ≡ n.head ∷ heads_of edition table most n.next
     unfolding heads_of
     goes_on e = rw (e, heads_of)
 
-    is_over : next_head edition table w ≡ Next'.End → heads_of edition table (suc most) w ≡ []
+    is_over : next_head edition table w ≡ None → heads_of edition table (suc most) w ≡ []
     unfolding heads_of
     is_over e = rw (e, heads_of)
 
-    with_subtable : {s : Subtable} → next_subtable edition table w.subtables ≡ Subtable'.At s
+    with_subtable : {s : Subtable} → next_subtable edition table w.subtables ≡ Some s
         → heads_of edition table (suc most) w ≡ Head'.Subtable s ∷ heads_of edition table most (record { subtables = s.next; chains = w.chains })
     unfolding next_head
     with_subtable e = goes_on (rw (e, next_head))
 
-    with_chain : {c : Chain} → next_subtable edition table w.subtables ≡ Subtable'.End → next_chain edition table w.chains ≡ Chain'.At c
+    with_chain : {c : Chain} → next_subtable edition table w.subtables ≡ None → next_chain edition table w.chains ≡ Some c
         → heads_of edition table (suc most) w ≡ Head'.Chain c ∷ heads_of edition table most (record { subtables = c.subtables; chains = c.next })
     unfolding next_head
     with_chain e f = goes_on (rw (e, f, next_head))
 
-    with_none : next_subtable edition table w.subtables ≡ Subtable'.End → next_chain edition table w.chains ≡ Chain'.End → heads_of edition table (suc most) w ≡ []
+    with_none : next_subtable edition table w.subtables ≡ None → next_chain edition table w.chains ≡ None → heads_of edition table (suc most) w ≡ []
     unfolding next_head
     with_none e f = is_over (rw (e, f, next_head))
 
@@ -76,17 +75,17 @@ module _ (edition : Edition) (table : List ℕ) where
     chain_past h = rw (lt-ltb _ _ h)
 
   -- where the subtables have ended, the next chain's head follows
-  module _ (most subtable subtables chain : ℕ) (ended : next_subtable edition table (cursor subtable subtables) ≡ Subtable'.End) (none : subtable_heads edition table subtable subtables ≡ [])
+  module _ (most subtable subtables chain : ℕ) (ended : next_subtable edition table (cursor subtable subtables) ≡ None) (none : subtable_heads edition table subtable subtables ≡ [])
       (later : (s n c m : ℕ) → Ahead most s n c m) where
     next_chain_lem : (chains : ℕ) → Ahead (suc most) subtable subtables chain chains
     unfolding chain_heads
-    next_chain_lem zero = with_none most (walk_at subtable subtables chain 0) ended (chain_none table chain edition) ∙ sym (rw none)
+    next_chain_lem zero = with_none most (walk_at subtable subtables chain 0) ended (chain_none edition table chain) ∙ sym (rw none)
     next_chain_lem (suc chains) =
         ⊎_elim
         (λ (h : length table < chain + chain_head_size edition).
-        with_none most (walk_at subtable subtables chain (suc chains)) ended (chain_cut table chain chains edition h) ∙ sym (rw (none, chain_past chain chains h)))
+        with_none most (walk_at subtable subtables chain (suc chains)) ended (chain_cut edition table chain chains h) ∙ sym (rw (none, chain_past chain chains h)))
         (λ (h : chain + chain_head_size edition ≤ length table).
-        with_chain most (walk_at subtable subtables chain (suc chains)) ended (chain_here table chain chains edition h)
+        with_chain most (walk_at subtable subtables chain (suc chains)) ended (chain_here edition table chain chains h)
         ∙ ap (λ (hs : List Head). Head'.Chain (manual_chain edition table chain chains) ∷ hs)
         (later (first_subtable edition table chain) (subtable_total edition table chain) (chain + chain_size table chain) chains)
         ∙ sym (rw (none, chain_there chain chains h)))
@@ -95,13 +94,13 @@ module _ (edition : Edition) (table : List ℕ) where
   all_ahead : (most subtable subtables chain chains : ℕ) → Ahead most subtable subtables chain chains
   unfolding heads_of subtable_heads
   all_ahead zero subtable subtables chain chains = refl
-  all_ahead (suc most) subtable zero chain chains = next_chain_lem most subtable 0 chain (subtable-none table subtable edition) refl (all_ahead most) chains
+  all_ahead (suc most) subtable zero chain chains = next_chain_lem most subtable 0 chain (subtable-none edition table subtable) refl (all_ahead most) chains
   all_ahead (suc most) subtable (suc left) chain chains =
       ⊎_elim
       (λ (h : length table < subtable + subtable_head_size edition).
-      next_chain_lem most subtable (suc left) chain (subtable-cut table subtable left edition h) (subtable_past subtable left h) (all_ahead most) chains)
+      next_chain_lem most subtable (suc left) chain (subtable-cut edition table subtable left h) (subtable_past subtable left h) (all_ahead most) chains)
       (λ (h : subtable + subtable_head_size edition ≤ length table).
-      with_subtable most (walk_at subtable (suc left) chain chains) (subtable-here table subtable left edition h)
+      with_subtable most (walk_at subtable (suc left) chain chains) (subtable-here edition table subtable left h)
       ∙ ap (λ (hs : List Head). Head'.Subtable (manual_subtable edition table subtable left) ∷ hs)
       (all_ahead most (subtable + subtable_size edition table subtable) left chain chains)
       ∙ sym (rw (subtable-there subtable left h)))

@@ -1,13 +1,13 @@
 -- The requests one after the other, and the features of a list: what is left gives what the whole does.
-use Prim.Native.Nat.{ℕ, zero, suc, ◌+◌, ◌-◌, ◌<◌, ◌≤◌}
+use Rattle.std.specs.Prelude.{Some, None}
+use Prim.Native.Nat.{ℕ, zero, suc, ◌+◌, ◌-◌, ◌<◌}
 use mathlib.Core.Path.{◌≡◌, refl, sym, ◌∙◌, ap}
 use mathlib.Core.Bool.{Bool, true, false, cond}
 use mathlib.Core.List.{List, [], ◌∷◌}
 use native.Mathlib.Numerals.{add-one}
 use native.Mathlib.Omega.{arith}
-use lib.Bits.{bit_and, bit_or}
 use lib.Dec.{eqb}
-use lib.ListN.{length, get_or, drop, drop_of_length-le}
+use lib.ListN.{length, get_or, drop}
 use lib.Seq.{drop-cons}
 use borrow.Author.Tests.{eqb-false}
 use Rattle.laws.specs.Lists.{either}
@@ -16,55 +16,22 @@ use Rattle.chains.specs.Lists.{feature_at, next_feature}
 use Rattle.chains.specs.Features.{request_of, is_asked, switched, features_of, switched_by, flags_behind}
 use Rattle.chains.specs.declared.Cursor.{Cursor}
 use Rattle.chains.specs.declared.Feature.{Feature}
-use Rattle.chains.specs.declared.NextFeature.{NextFeature}
-use Rattle.chains.specs.declared.NextFeature.TheVariants as Feature'
 
--- The loop over the requests: one of those gone through, or one of the rest, is the wanted one.
-pub record Asking (requests : List ℕ) (wanted : ℕ) (asked : Bool) (i : ℕ) : Type 0 where
-  pub within : i ≤ length requests
-  pub same : either asked (is_asked (drop i requests) wanted) ≡ is_asked requests wanted
-
-pub asking_start : (requests : List ℕ) (wanted : ℕ) → Asking requests wanted false 0
-asking_start requests wanted = record { within = omega arith; same = refl }
-
-module _ {requests : List ℕ} {wanted : ℕ} {asked : Bool} {i : ℕ} (s : Asking requests wanted asked i) where
-  pub asking_next : {here : Bool} → i < length requests → here ≡ either (eqb (get_or requests i 0) wanted) asked → Asking requests wanted here (i + 1)
-  unfolding is_asked
-  asking_next h e =
-      record {
-        within = omega arith;
-        same = rw (e, add-one i) (gone_on (eqb (get_or requests i 0) wanted) asked (is_asked (drop (suc i) requests) wanted) ∙ rw (drop-cons requests i 0 h) at s.same);
-      }
-    where
-      gone_on : (here before rest : Bool) → either (either here before) rest ≡ either before (cond here true rest)
-      gone_on true true rest = refl
-      gone_on true false rest = refl
-      gone_on false before rest = refl
-
-  pub asking_done : length requests ≤ i → asked ≡ is_asked requests wanted
-  unfolding is_asked
-  asking_done h = none asked ∙ ap (λ (rest : List ℕ). either asked (is_asked rest wanted)) (sym (drop_of_length-le requests h)) ∙ s.same
-    where
-      none : (b : Bool) → b ≡ either b false
-      none true = refl
-      none false = refl
-
--- a feature that was looked for
-module _ (requests : List ℕ) (feature : Feature) (flags : ℕ) {wanted : ℕ} {asked : Bool} (w : wanted ≡ request_of feature) (a : asked ≡ is_asked requests wanted) where
-  asked_is : is_asked requests (request_of feature) ≡ asked
-  asked_is = sym (a ∙ ap (is_asked requests) w)
-
-  pub left_alone : asked ≡ false → flags ≡ switched requests feature flags
-  unfolding switched
-  left_alone e = rw (asked_is ∙ e)
-
-  pub switched-over : asked ≡ true → bit_or (bit_and flags feature.disable) feature.enable ≡ switched requests feature flags
-  unfolding switched
-  switched-over e = rw (asked_is ∙ e)
+-- One request more, where none of those before is lost. `drop i requests` are those behind the first i.
+pub asked_more : (requests : List ℕ) (wanted : ℕ) (asked : Bool) (i : ℕ) (here : Bool) → either asked (is_asked (drop i requests) wanted) ≡ is_asked requests wanted → i < length requests → here ≡ either asked (eqb (get_or requests i 0) wanted)
+    → either here (is_asked (drop (i + 1) requests) wanted) ≡ is_asked requests wanted
+unfolding is_asked
+asked_more requests wanted asked i here s h e =
+    rw (e, add-one i) (gone_on asked (eqb (get_or requests i 0) wanted) (is_asked (drop (suc i) requests) wanted) ∙ rw (drop-cons requests i 0 h) at s)
+  where
+    gone_on : (before here rest : Bool) → either (either before here) rest ≡ either before (cond here true rest)
+    gone_on true here rest = refl
+    gone_on false true rest = refl
+    gone_on false false rest = refl
 
 -- the features of a list
 module _ (table : List ℕ) (most : ℕ) (c : Cursor) where
-  pub features-end : next_feature table c ≡ Feature'.End → features_of table most c ≡ []
+  pub features-end : next_feature table c ≡ None → features_of table most c ≡ []
   unfolding features_of
   features-end e = go most
     where
@@ -72,16 +39,16 @@ module _ (table : List ℕ) (most : ℕ) (c : Cursor) where
       go zero = refl
       go (suc n) = rw (e, features_of)
 
-  pub features-at : {feature : Feature} → next_feature table c ≡ Feature'.At feature → features_of table (suc most) c ≡ feature ∷ features_of table most feature.next
+  pub features-at : {feature : Feature} → next_feature table c ≡ Some feature → features_of table (suc most) c ≡ feature ∷ features_of table most feature.next
   unfolding features_of
   features-at e = rw (e, features_of)
 
 -- behind a feature its list has one less
-one_less : (table : List ℕ) (c : Cursor) (feature : Feature) → next_feature table c ≡ Feature'.At feature → c.left ≡ suc feature.next.left
+one_less : (table : List ℕ) (c : Cursor) (feature : Feature) → next_feature table c ≡ Some feature → c.left ≡ suc feature.next.left
 unfolding next_feature feature_at
 one_less table c feature = go (eqb c.left 0) (inside table c.place 12) refl
   where
-    go : (none here : Bool) → eqb c.left 0 ≡ none → cond none Feature'.End (cond here (Feature'.At (feature_at table c.place (c.left - 1))) Feature'.End) ≡ Feature'.At feature
+    go : (none here : Bool) → eqb c.left 0 ≡ none → cond none None (cond here (Some (feature_at table c.place (c.left - 1))) None) ≡ Some feature
         → c.left ≡ suc feature.next.left
     go true here t e = let z : ◌≡◌ {A = ℕ} 0 1 = cc in absurd (omega arith)
     go false false t e = let z : ◌≡◌ {A = ℕ} 0 1 = cc in absurd (omega arith)
@@ -90,39 +57,22 @@ one_less table c feature = go (eqb c.left 0) (inside table c.place 12) refl
         let n : c.left - 1 ≡ feature.next.left = ap (λ (x : Feature). x.next.left) f in
         omega (arith, eqb-false c.left 0 t)
 
-pub falls : (table : List ℕ) (c : Cursor) {next : NextFeature} {feature : Feature} → next ≡ next_feature table c → next ≡ Feature'.At feature
-    → feature.next.left < c.left
-falls table c {next} {feature} k h = omega (arith, one_less table c feature (sym k ∙ h))
+pub falls : (table : List ℕ) (c : Cursor) (feature : Feature) → next_feature table c ≡ Some feature → feature.next.left < c.left
+falls table c feature e = omega (arith, one_less table c feature e)
 
-pub record Switching (table requests : List ℕ) (whole : ℕ) (list : Cursor) (flags : ℕ) : Type 0 where
-  pub same : switched_by requests (features_of table list.left list) flags ≡ whole
+-- the flags behind a list are those behind what follows its next feature, and the same where it ends
+module _ (table : List ℕ) (c : Cursor) (flags : ℕ) (requests : List ℕ) where
+  pub flags_ended : next_feature table c ≡ None → flags_behind table c flags requests ≡ flags
+  unfolding flags_behind switched_by
+  flags_ended e = ap (λ (fs : List Feature). switched_by requests fs flags) (features-end table c.left c e)
 
-pub switching_start : (table : List ℕ) (features : Cursor) (flags : ℕ) (requests : List ℕ)
-    → Switching table requests (flags_behind table features flags requests) features flags
-unfolding flags_behind
-switching_start table features flags requests = record { same = refl }
-
-module _ {table requests : List ℕ} {whole : ℕ} {list : Cursor} {flags : ℕ} (s : Switching table requests whole list flags) where
-  behind-none : features_of table list.left list ≡ [] → flags ≡ whole
-  unfolding switched_by
-  behind-none e = sym (ap (λ (fs : List Feature). switched_by requests fs flags) e) ∙ s.same
-
-  pub switching_end : {next : NextFeature} → next ≡ next_feature table list → next ≡ Feature'.End → flags ≡ whole
-  switching_end n e = behind-none (features-end table list.left list (sym n ∙ e))
-
-  pub switching_done : list.left ≤ 0 → flags ≡ whole
-  unfolding features_of
-  switching_done h = let n : list.left ≡ 0 = omega arith in behind-none (ap (λ (k : ℕ). features_of table k list) n)
-
-  pub switching_next : {next : NextFeature} {feature : Feature} {flags' : ℕ} → next ≡ next_feature table list → next ≡ Feature'.At feature
-      → flags' ≡ switched requests feature flags → Switching table requests whole feature.next flags'
-  unfolding switched_by
-  switching_next {next} {feature} {flags'} k h f =
-      let e : next_feature table list ≡ Feature'.At feature = sym k ∙ h in
-      let n = one_less table list feature e in
-      let rest : List Feature = features_of table feature.next.left feature.next in
-      let all : features_of table list.left list ≡ feature ∷ rest = ap (λ (k : ℕ). features_of table k list) n ∙ features-at table feature.next.left list e in
-      record { same = ap (switched_by requests rest) f ∙ sym (ap (λ (fs : List Feature). switched_by requests fs flags) all) ∙ s.same }
+  pub flags_on : (feature : Feature) → next_feature table c ≡ Some feature → flags_behind table feature.next (switched requests feature flags) requests ≡ flags_behind table c flags requests
+  unfolding flags_behind switched_by
+  flags_on feature e =
+      let n = one_less table c feature e in
+      let all : features_of table c.left c ≡ feature ∷ features_of table feature.next.left feature.next =
+      ap (λ (k : ℕ). features_of table k c) n ∙ features-at table feature.next.left c e in
+      sym (ap (λ (fs : List Feature). switched_by requests fs flags) all)
 
 -- with no requests nothing is switched
 none-switched : (features : List Feature) (flags : ℕ) → switched_by [] features flags ≡ flags
@@ -134,9 +84,9 @@ pub flags_unasked : (table : List ℕ) (features : Cursor) (flags : ℕ) → fla
 unfolding flags_behind
 flags_unasked table features flags = none-switched (features_of table features.left features) flags
 
-pub flags-none : (table : List ℕ) (features : Cursor) (flags : ℕ) (requests : List ℕ) → length requests ≡ 0 → flags ≡ flags_behind table features flags requests
-flags-none table features flags [] e = sym (flags_unasked table features flags)
-flags-none table features flags (request ∷ requests) e = absurd (omega arith)
+pub flags_none : (table : List ℕ) (features : Cursor) (flags : ℕ) (requests : List ℕ) → length requests ≡ 0 → flags_behind table features flags requests ≡ flags
+flags_none table features flags [] e = flags_unasked table features flags
+flags_none table features flags (request ∷ requests) e = absurd (omega arith)
 
 -- only which numbers are asked for matters
 module _ (xs ys : List ℕ) (alike : (wanted : ℕ) → is_asked xs wanted ≡ is_asked ys wanted) where

@@ -1,11 +1,10 @@
 -- What an operator asks for, and the flags that a chain's features make of those it begins with.
-use Rattle.std.specs.Prelude.{ℕ, zero, suc, ◌+◌, ◌*◌, Bool, true, false, cond, List, [], ◌∷◌}
+use Rattle.std.specs.Prelude.{ℕ, zero, suc, ◌+◌, ◌*◌, Bool, true, false, cond, List, [], ◌∷◌, Some, None}
 use Rattle.std.specs.Int.Bits.{bit_and, bit_or}
 use Rattle.laws.specs.Choose.{if_eq}
 use Rattle.chains.specs.Lists.{next_feature}
 use Rattle.chains.specs.declared.Cursor.{Cursor}
 use Rattle.chains.specs.declared.Feature.{Feature}
-use Rattle.chains.specs.declared.NextFeature.TheVariants as Feature'
 
 -- a feature is asked for by one number: its type times 65,536 plus its setting
 unfoldable pub request_of : Feature → ℕ
@@ -26,8 +25,8 @@ unfoldable pub features_of : List ℕ → (most : ℕ) → Cursor → List Featu
 features_of table zero c = []
 features_of table (suc most) c =
     elim (next_feature table c) [
-      | Feature'.At feature ↦ feature ∷ features_of table most feature.next
-      | Feature'.End ↦ []
+      | Some feature ↦ feature ∷ features_of table most feature.next
+      | None ↦ []
     ]
 
 -- the flags behind one feature after the other

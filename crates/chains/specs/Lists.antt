@@ -1,5 +1,5 @@
 -- The crate's iterators over chains, features and subtables, as cursors, and the same over a mort table. Places are those of the whole table.
-use Rattle.std.specs.Prelude.{ℕ, ◌+◌, ◌*◌, ◌-◌, cond, List}
+use Rattle.std.specs.Prelude.{ℕ, ◌+◌, ◌*◌, ◌-◌, cond, List, Option, Some, None}
 use Rattle.laws.specs.Choose.{if_eq}
 use Rattle.parse.specs.Reads.{inside, u16_at, u32_at, read_u32}
 use Rattle.parse.specs.Use.{on_u32}
@@ -10,15 +10,13 @@ use Rattle.chains.specs.declared.Cursor.{Cursor}
 use Rattle.chains.specs.declared.Chain.{Chain}
 use Rattle.chains.specs.declared.Feature.{Feature}
 use Rattle.chains.specs.declared.Subtable.{Subtable}
-use Rattle.chains.specs.declared.NextChain.{NextChain}
-use Rattle.chains.specs.declared.NextChain.TheVariants as Chain'
-use Rattle.chains.specs.declared.NextFeature.{NextFeature}
-use Rattle.chains.specs.declared.NextFeature.TheVariants as Feature'
-use Rattle.chains.specs.declared.NextSubtable.{NextSubtable}
-use Rattle.chains.specs.declared.NextSubtable.TheVariants as Subtable'
 
 abbrev pub cursor : (place left : ℕ) → Cursor
 cursor place left = record { place = place; left = left }
+
+-- the next element of a list, whose head has so many bytes: none where the count is used up or the head does not lie in the table
+abbrev pub listed : {T : Type 0} → List ℕ → Cursor → (bytes : ℕ) → (at : ℕ → ℕ → T) → Option T
+listed table c bytes at = if_eq c.left 0 None (cond (inside table c.place bytes) (Some (at c.place (c.left - 1))) None)
 
 -- the number of chains is at 4; where it can't be read there are none
 unfoldable pub chain_count : List ℕ → (start : ℕ) → ℕ
@@ -52,11 +50,8 @@ chain_at edition table place left =
       next = cursor (place + u32_at table (place + 4)) left;
     }
 
--- the next chain: none where the count is used up or its head does not lie in the table
-unfoldable pub next_chain : Edition → List ℕ → Cursor → NextChain
-next_chain edition table c =
-    if_eq c.left 0 Chain'.End
-    (cond (inside table c.place (chain_bytes edition)) (Chain'.At (chain_at edition table c.place (c.left - 1))) Chain'.End)
+unfoldable pub next_chain : Edition → List ℕ → Cursor → Option Chain
+next_chain edition table c = listed table c (chain_bytes edition) (chain_at edition table)
 
 -- a feature has 12 bytes: type, setting, the flags that it enables, those that it does not disable
 unfoldable pub feature_at : List ℕ → (place left : ℕ) → Feature
@@ -69,9 +64,8 @@ feature_at table place left =
       next = cursor (place + 12) left;
     }
 
-unfoldable pub next_feature : List ℕ → Cursor → NextFeature
-next_feature table c =
-    if_eq c.left 0 Feature'.End (cond (inside table c.place 12) (Feature'.At (feature_at table c.place (c.left - 1))) Feature'.End)
+unfoldable pub next_feature : List ℕ → Cursor → Option Feature
+next_feature table c = listed table c 12 (feature_at table)
 
 -- a subtable's head has 12 bytes in morx and 8 in mort: length, coverage, and flags, of 32 bits; the next one begins where the length says
 abbrev pub subtable_bytes : Edition → ℕ
@@ -90,7 +84,5 @@ subtable_at edition table place left =
       next = cursor (place + number_at edition table place) left;
     }
 
-unfoldable pub next_subtable : Edition → List ℕ → Cursor → NextSubtable
-next_subtable edition table c =
-    if_eq c.left 0 Subtable'.End
-    (cond (inside table c.place (subtable_bytes edition)) (Subtable'.At (subtable_at edition table c.place (c.left - 1))) Subtable'.End)
+unfoldable pub next_subtable : Edition → List ℕ → Cursor → Option Subtable
+next_subtable edition table c = listed table c (subtable_bytes edition) (subtable_at edition table)

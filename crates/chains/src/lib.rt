@@ -2,16 +2,15 @@
 // all heads.
 #![tactic(auto)]
 
-ghost use Rattle.std.specs.Prelude.{◌≡◌, ◌+◌, ◌<◌, ◌≤◌, length};
+ghost use Rattle.std.specs.Prelude.{◌≡◌, ◌+◌, ◌*◌, ◌<◌, ◌≤◌, length};
 ghost use Rattle.answers.specs.Refuse.{refuse};
 ghost use Rattle.parse.specs.Reads.{u32_at};
 ghost use Rattle.chains.specs.Orders.{kind_number, order_of, old_order, order_in, order_number, is_reversed, is_vertical};
-ghost use Rattle.chains.specs.Lists.{width, number_at, chain_bytes, subtable_bytes, chain_count, chains_from, chain_at, next_chain, feature_at, next_feature, subtable_at, next_subtable};
-ghost use Rattle.chains.specs.Entries.{chains_tests, chains_call, chain_call, feature_call, subtable_call};
+ghost use Rattle.chains.specs.Lists.{cursor, listed, width, number_at, chain_bytes, subtable_bytes, chains_from, chain_at, next_chain, feature_at, next_feature, subtable_at, next_subtable};
+ghost use Rattle.chains.specs.Entries.{chains_call, chain_call, feature_call, subtable_call};
 ghost use Rattle.chains.specs.Walk.{walk_from, next_head};
 
-use answers::{Check, Refusal};
-use parse::{ReadPart, ReadU32};
+use answers::Refusal;
 
 pub mod features;
 
@@ -62,60 +61,12 @@ pub enum Order {
 pub struct Subtable {
     pub place: usize,
     pub coverage: u32,
+    // kept: the C interface gives the number of any kind, of those that no pass takes too.
     pub kind: u32,
     pub order: Order,
     pub vertical: bool,
     pub flags: u32,
     pub next: Cursor,
-}
-
-// What a table's start answers: DONE with its chains, or a refusal.
-#[derive(Clone, Copy)]
-pub enum ChainStart {
-    From(Cursor),
-    Refused(Refusal),
-}
-
-// What a list of chains goes on with.
-#[derive(Clone, Copy)]
-pub enum NextChain {
-    At(Chain),
-    End,
-}
-
-// What a cursor of chains answers: DONE with that, or a refusal.
-#[derive(Clone, Copy)]
-pub enum ChainReply {
-    Next(NextChain),
-    Refused(Refusal),
-}
-
-// What a list of features goes on with.
-#[derive(Clone, Copy)]
-pub enum NextFeature {
-    At(Feature),
-    End,
-}
-
-// What a cursor of features answers: DONE with that, or a refusal.
-#[derive(Clone, Copy)]
-pub enum FeatureReply {
-    Next(NextFeature),
-    Refused(Refusal),
-}
-
-// What a list of subtables goes on with.
-#[derive(Clone, Copy)]
-pub enum NextSubtable {
-    At(Subtable),
-    End,
-}
-
-// What a cursor of subtables answers: DONE with that, or a refusal.
-#[derive(Clone, Copy)]
-pub enum SubtableReply {
-    Next(NextSubtable),
-    Refused(Refusal),
 }
 
 // A head that a walk reads.
@@ -132,11 +83,11 @@ pub struct Walk {
     pub chains: Cursor,
 }
 
-// What a walk goes on with.
+// A head, and the walk behind it.
 #[derive(Clone, Copy)]
-pub enum NextHead {
-    At { head: Head, next: Walk },
-    End,
+pub struct NextHead {
+    pub head: Head,
+    pub next: Walk,
 }
 
 // The coverage's bit for vertical text alone.
@@ -167,22 +118,27 @@ const OLD_KINDS: u32 = 8;
 const FEATURE: usize = 12;
 
 // The order that a coverage asks for.
+#[tactic(auto, unfolding(crate::specs::Orders::order_of))]
 pub fn order_of(coverage: u32) -> Order
     ensures { result ≡ order_of coverage }
 {
+    let descending = parse::is_set(coverage, DESCENDING);
     if parse::is_set(coverage, LOGICAL) {
-        if parse::is_set(coverage, DESCENDING) {
-            return Order::ReverseLogical;
-        }
-        return Order::Logical;
+        return if descending {
+            Order::ReverseLogical
+        } else {
+            Order::Logical
+        };
     }
-    if parse::is_set(coverage, DESCENDING) {
-        return Order::ReverseLayout;
+    if descending {
+        Order::ReverseLayout
+    } else {
+        Order::Layout
     }
-    Order::Layout
 }
 
 // The number of an order.
+// kept: the numbers are the C interface's, so each stands beside its order.
 pub fn order_number(order: Order) -> u32
     ensures { result ≡ order_number order }
 {
@@ -207,6 +163,7 @@ pub fn should_reverse(order: Order, right_to_left: bool) -> bool
 }
 
 // The order that a mort coverage asks for.
+#[tactic(auto, unfolding(crate::specs::Orders::old_order))]
 fn old_order(coverage: u32) -> Order
     ensures { result ≡ old_order coverage }
 {
@@ -217,6 +174,7 @@ fn old_order(coverage: u32) -> Order
 }
 
 // The order that a coverage of an edition asks for.
+#[tactic(auto, unfolding(crate::specs::Orders::order_in))]
 fn order_in(edition: Edition, coverage: u32) -> Order
     ensures { result ≡ order_in edition coverage }
 {
@@ -227,6 +185,7 @@ fn order_in(edition: Edition, coverage: u32) -> Order
 }
 
 // The number of the kind that a coverage of an edition tells.
+#[tactic(auto, unfolding(crate::specs::Orders::kind_number))]
 fn kind_number(edition: Edition, coverage: u32) -> u32
     ensures { result ≡ kind_number edition coverage }
 {
@@ -237,30 +196,22 @@ fn kind_number(edition: Edition, coverage: u32) -> u32
 }
 
 // Whether a coverage is for vertical text alone.
+#[tactic(auto, unfolding(crate::specs::Orders::is_vertical))]
 fn is_vertical(edition: Edition, coverage: u32) -> bool
     ensures { result ≡ is_vertical edition coverage }
 {
     match edition {
-        Edition::Morx => {
-            if parse::is_set(coverage, BOTH) {
-                return false;
-            }
-            parse::is_set(coverage, VERTICAL)
-        }
-        Edition::Mort => {
-            if parse::is_set(coverage, OLD_BOTH) {
-                return false;
-            }
-            parse::is_set(coverage, OLD_VERTICAL)
-        }
+        Edition::Morx => !parse::is_set(coverage, BOTH) && parse::is_set(coverage, VERTICAL),
+        Edition::Mort => !parse::is_set(coverage, OLD_BOTH)
+            && parse::is_set(coverage, OLD_VERTICAL),
     }
 }
 
-// Half of a 32-bit number, with room for its place.
-fn half(number: u16) -> u32
-    ensures { (result ≡ number) × (result < 65536) }
+// The 32-bit number whose halves these are.
+fn joined(high: u16, low: u16) -> u32
+    ensures { result ≡ high * 65536 + low }
 {
-    number as u32
+    u32::from(high) * 65536 + u32::from(low)
 }
 
 // The 32-bit number at a place that is known to lie in the table.
@@ -268,10 +219,11 @@ fn u32_at(table: &[u8], at: usize) -> u32
     requires { at + 4 ≤ length table.now }
     ensures { result ≡ u32_at table.now at }
 {
-    half(parse::u16_at(table, at)) * 65536 + half(parse::u16_at(table, at + 2))
+    joined(parse::u16_at(table, at), parse::u16_at(table, at + 2))
 }
 
 // How many bytes an edition's counts, lengths and coverages of subtables have.
+#[tactic(auto, unfolding(crate::specs::Lists::width))]
 fn width(edition: Edition) -> usize
     ensures { (result ≡ width edition) × (result ≤ 4) }
 {
@@ -282,238 +234,213 @@ fn width(edition: Edition) -> usize
 }
 
 // Such a number, at a place that is known to lie in the table.
+#[tactic(auto, unfolding(crate::specs::Lists::number_at, crate::specs::Lists::width))]
 fn number_at(edition: Edition, table: &[u8], at: usize) -> u32
     requires { at + width edition ≤ length table.now }
     ensures { result ≡ number_at edition table.now at }
 {
     match edition {
         Edition::Morx => u32_at(table, at),
-        Edition::Mort => half(parse::u16_at(table, at)),
+        Edition::Mort => u32::from(parse::u16_at(table, at)),
     }
 }
 
-// How many chains the table at `start` says it has; none where it does not say.
-fn chain_count(table: &[u8], start: usize) -> usize
-    requires { start ≤ length table.now }
-    ensures { result ≡ chain_count table.now start }
-{
-    let ReadU32::Got(count) = parse::read_u32(table, start + 4) else {
-        return 0;
-    };
-    count as usize
-}
-
-// The chains of the table at `start`.
+// The chains of the table at `start`; none where it does not say how many it has.
+#[tactic(auto, unfolding(crate::specs::Lists::chains_from, crate::specs::Lists::chain_count))]
 pub fn chains_from(table: &[u8], start: usize) -> Cursor
     requires { start ≤ length table.now }
     ensures { result ≡ chains_from table.now start }
 {
     Cursor {
         place: start + 8,
-        left: chain_count(table, start),
+        left: parse::read_u32(table, start + 4).unwrap_or(0) as usize,
     }
+}
+
+// Where the next element of a list has its head, of so many bytes, and how many are behind it. One whose head is not wholly in the table ends the list.
+#[tactic(auto, unfolding(parse::specs::Parts::read_part))]
+fn next_of(table: &[u8], list: Cursor, head: usize) -> Option<Cursor>
+    ensures { result ≡ listed table.now list head cursor }
+{
+    let left = list.left.checked_sub(1)?;
+    parse::read_part(table, list.place, head)?;
+    Some(Cursor {
+        place: list.place,
+        left,
+    })
 }
 
 // The chain whose head lies at a place, with so many behind it.
-fn chain_at(edition: Edition, table: &[u8], place: usize, left: usize) -> Chain
-    requires { place + chain_bytes edition ≤ length table.now }
-    ensures { result ≡ chain_at edition table.now place left }
+#[tactic(auto, unfolding(crate::specs::Lists::chain_at))]
+fn chain_at(edition: Edition, table: &[u8], at: Cursor) -> Chain
+    requires { at.place + chain_bytes edition ≤ length table.now }
+    ensures { result ≡ chain_at edition table.now at.place at.left }
 {
     let wide = width(edition);
-    let size = u32_at(table, place + 4) as usize;
-    let features = number_at(edition, table, place + 8) as usize;
-    let subtables = number_at(edition, table, place + (8 + wide)) as usize;
+    let features = number_at(edition, table, at.place + 8) as usize;
     Chain {
-        flags: u32_at(table, place),
+        flags: u32_at(table, at.place),
         features: Cursor {
-            place: place + (8 + 2 * wide),
+            place: at.place + (8 + 2 * wide),
             left: features,
         },
         subtables: Cursor {
-            place: place + (8 + 2 * wide) + features * FEATURE,
-            left: subtables,
+            place: at.place + (8 + 2 * wide) + features * FEATURE,
+            left: number_at(edition, table, at.place + (8 + wide)) as usize,
         },
         next: Cursor {
-            place: place + size,
-            left,
+            place: at.place + u32_at(table, at.place + 4) as usize,
+            left: at.left,
         },
     }
 }
 
-// The next chain of a list. One that is not wholly in the table ends it.
-pub fn chain_from(edition: Edition, table: &[u8], cursor: Cursor) -> NextChain
+// The next chain of a list.
+#[tactic(auto, unfolding(crate::specs::Lists::next_chain, parse::specs::Reads::inside))]
+pub fn chain_from(edition: Edition, table: &[u8], cursor: Cursor) -> Option<Chain>
     ensures { result ≡ next_chain edition table.now cursor }
 {
-    if cursor.left == 0 {
-        return NextChain::End;
-    }
     let head = 8 + 2 * width(edition);
-    let ReadPart::Until(_) = parse::read_part(table, cursor.place, head) else {
-        return NextChain::End;
-    };
-    NextChain::At(chain_at(edition, table, cursor.place, cursor.left - 1))
+    let at = next_of(table, cursor, head)?;
+    Some(chain_at(edition, table, at))
 }
 
 // The feature that lies at a place, with so many behind it.
-fn feature_at(table: &[u8], place: usize, left: usize) -> Feature
-    requires { place + 12 ≤ length table.now }
-    ensures { result ≡ feature_at table.now place left }
+#[tactic(auto, unfolding(crate::specs::Lists::feature_at))]
+fn feature_at(table: &[u8], at: Cursor) -> Feature
+    requires { at.place + 12 ≤ length table.now }
+    ensures { result ≡ feature_at table.now at.place at.left }
 {
     Feature {
-        selector: parse::u16_at(table, place),
-        setting: parse::u16_at(table, place + 2),
-        enable: u32_at(table, place + 4),
-        disable: u32_at(table, place + 8),
+        selector: parse::u16_at(table, at.place),
+        setting: parse::u16_at(table, at.place + 2),
+        enable: u32_at(table, at.place + 4),
+        disable: u32_at(table, at.place + 8),
         next: Cursor {
-            place: place + FEATURE,
-            left,
+            place: at.place + FEATURE,
+            left: at.left,
         },
     }
 }
 
-// The next feature of a list. One that is not wholly in the table ends it.
-pub fn feature_from(table: &[u8], cursor: Cursor) -> NextFeature
+// The next feature of a list.
+#[tactic(auto, unfolding(crate::specs::Lists::next_feature, parse::specs::Reads::inside))]
+pub fn feature_from(table: &[u8], cursor: Cursor) -> Option<Feature>
     ensures { result ≡ next_feature table.now cursor }
 {
-    if cursor.left == 0 {
-        return NextFeature::End;
-    }
-    let ReadPart::Until(_) = parse::read_part(table, cursor.place, FEATURE) else {
-        return NextFeature::End;
-    };
-    NextFeature::At(feature_at(table, cursor.place, cursor.left - 1))
+    let at = next_of(table, cursor, FEATURE)?;
+    Some(feature_at(table, at))
 }
 
 // The subtable whose head lies at a place, with so many behind it.
-fn subtable_at(edition: Edition, table: &[u8], place: usize, left: usize) -> Subtable
-    requires { place + subtable_bytes edition ≤ length table.now }
-    ensures { result ≡ subtable_at edition table.now place left }
+#[tactic(auto, unfolding(crate::specs::Lists::subtable_at))]
+fn subtable_at(edition: Edition, table: &[u8], at: Cursor) -> Subtable
+    requires { at.place + subtable_bytes edition ≤ length table.now }
+    ensures { result ≡ subtable_at edition table.now at.place at.left }
 {
     let wide = width(edition);
-    let size = number_at(edition, table, place) as usize;
-    let coverage = number_at(edition, table, place + wide);
-    let kind = kind_number(edition, coverage);
-    let wanted = order_in(edition, coverage);
-    let vertical = is_vertical(edition, coverage);
+    let size = number_at(edition, table, at.place) as usize;
+    let coverage = number_at(edition, table, at.place + wide);
     Subtable {
-        place,
+        place: at.place,
         coverage,
-        kind,
-        order: wanted,
-        vertical,
-        flags: u32_at(table, place + 2 * wide),
+        kind: kind_number(edition, coverage),
+        order: order_in(edition, coverage),
+        vertical: is_vertical(edition, coverage),
+        flags: u32_at(table, at.place + 2 * wide),
         next: Cursor {
-            place: place + size,
-            left,
+            place: at.place + size,
+            left: at.left,
         },
     }
 }
 
-// The next subtable of a list. One whose head is not wholly in the table ends it.
-pub fn subtable_from(edition: Edition, table: &[u8], cursor: Cursor) -> NextSubtable
+// The next subtable of a list.
+#[tactic(auto, unfolding(crate::specs::Lists::next_subtable, parse::specs::Reads::inside))]
+pub fn subtable_from(edition: Edition, table: &[u8], cursor: Cursor) -> Option<Subtable>
     ensures { result ≡ next_subtable edition table.now cursor }
 {
-    if cursor.left == 0 {
-        return NextSubtable::End;
-    }
     let head = 2 * width(edition) + 4;
-    let ReadPart::Until(_) = parse::read_part(table, cursor.place, head) else {
-        return NextSubtable::End;
-    };
-    NextSubtable::At(subtable_at(edition, table, cursor.place, cursor.left - 1))
+    let at = next_of(table, cursor, head)?;
+    Some(subtable_at(edition, table, at))
 }
 
-// The tests before a table's chains: TABLE, HEAD.
-fn refuse_chains(table_length: usize, start: usize) -> Check
-    ensures { result ≡ refuse (chains_tests table_length start) }
-{
-    if let Check::Refused(why) = answers::refuse_table(table_length) {
-        return Check::Refused(why);
-    }
-    if table_length < start {
-        return Check::Refused(Refusal::Head);
-    }
-    Check::Passed
-}
-
-// The chains of the table at `start`.
-pub fn chains(table: &[u8], start: usize) -> ChainStart
+// The chains of the table at `start`; the tests before them: TABLE, HEAD.
+#[tactic(auto, unfolding(crate::specs::Entries::chains_call, crate::specs::Entries::chains_tests, crate::specs::Entries::start_test, answers::specs::Refuse::refuse))]
+pub fn chains(table: &[u8], start: usize) -> Result<Cursor, Refusal>
     ensures { result ≡ chains_call table.now start }
 {
-    if let Check::Refused(why) = refuse_chains(table.len(), start) {
-        return ChainStart::Refused(why);
+    answers::refuse_table(table.len())?;
+    if table.len() < start {
+        return Err(Refusal::Head);
     }
-    ChainStart::From(chains_from(table, start))
+    Ok(chains_from(table, start))
 }
 
 // The next chain of a list, whatever the cursor's numbers are.
-pub fn next_chain(edition: Edition, table: &[u8], cursor: Cursor) -> ChainReply
+#[tactic(auto, unfolding(crate::specs::Entries::chain_call))]
+pub fn next_chain(edition: Edition, table: &[u8], cursor: Cursor) -> Result<Option<Chain>, Refusal>
     ensures { result ≡ chain_call edition table.now cursor }
 {
-    if let Check::Refused(why) = answers::refuse_table(table.len()) {
-        return ChainReply::Refused(why);
-    }
-    ChainReply::Next(chain_from(edition, table, cursor))
+    answers::refuse_table(table.len())?;
+    Ok(chain_from(edition, table, cursor))
 }
 
 // The next feature of a list, whatever the cursor's numbers are.
-pub fn next_feature(table: &[u8], cursor: Cursor) -> FeatureReply
+#[tactic(auto, unfolding(crate::specs::Entries::feature_call))]
+pub fn next_feature(table: &[u8], cursor: Cursor) -> Result<Option<Feature>, Refusal>
     ensures { result ≡ feature_call table.now cursor }
 {
-    if let Check::Refused(why) = answers::refuse_table(table.len()) {
-        return FeatureReply::Refused(why);
-    }
-    FeatureReply::Next(feature_from(table, cursor))
+    answers::refuse_table(table.len())?;
+    Ok(feature_from(table, cursor))
 }
 
 // The next subtable of a list, whatever the cursor's numbers are.
-pub fn next_subtable(edition: Edition, table: &[u8], cursor: Cursor) -> SubtableReply
+#[tactic(auto, unfolding(crate::specs::Entries::subtable_call))]
+pub fn next_subtable(
+    edition: Edition,
+    table: &[u8],
+    cursor: Cursor,
+) -> Result<Option<Subtable>, Refusal>
     ensures { result ≡ subtable_call edition table.now cursor }
 {
-    if let Check::Refused(why) = answers::refuse_table(table.len()) {
-        return SubtableReply::Refused(why);
-    }
-    SubtableReply::Next(subtable_from(edition, table, cursor))
+    answers::refuse_table(table.len())?;
+    Ok(subtable_from(edition, table, cursor))
 }
 
 // The start of a walk: in no chain yet.
+#[tactic(auto, unfolding(crate::specs::Walk::walk_from))]
 pub fn walk_from(table: &[u8], start: usize) -> Walk
     requires { start ≤ length table.now }
     ensures { result ≡ walk_from table.now start }
 {
-    let chains = chains_from(table, start);
     Walk {
         subtables: Cursor { place: 0, left: 0 },
-        chains,
+        chains: chains_from(table, start),
     }
 }
 
 // The next head: the chain's next subtable, and behind its last one the next chain.
-pub fn next_head(edition: Edition, table: &[u8], walk: Walk) -> NextHead
+#[tactic(auto, unfolding(crate::specs::Walk::next_head))]
+pub fn next_head(edition: Edition, table: &[u8], walk: Walk) -> Option<NextHead>
     ensures { result ≡ next_head edition table.now walk }
 {
-    let subtables = walk.subtables;
-    let chains = walk.chains;
-    if let NextSubtable::At(subtable) = subtable_from(edition, table, subtables) {
+    if let Some(subtable) = subtable_from(edition, table, walk.subtables) {
         let behind = subtable.next;
-        return NextHead::At {
+        return Some(NextHead {
             head: Head::Subtable(subtable),
             next: Walk {
                 subtables: behind,
-                chains,
+                chains: walk.chains,
             },
-        };
+        });
     }
-    let NextChain::At(chain) = chain_from(edition, table, chains) else {
-        return NextHead::End;
-    };
-    let inside = chain.subtables;
-    let behind = chain.next;
-    NextHead::At {
+    let chain = chain_from(edition, table, walk.chains)?;
+    Some(NextHead {
         head: Head::Chain(chain),
         next: Walk {
-            subtables: inside,
-            chains: behind,
+            subtables: chain.subtables,
+            chains: chain.next,
         },
-    }
+    })
 }

@@ -3,7 +3,7 @@ mod Classes
 mod Runs
 mod Writes
 mod Passes
-mod Calls
+pub mod Calls
 pub mod Honesty
 pub mod Manual
 pub mod Turns

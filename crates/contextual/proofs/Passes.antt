@@ -122,13 +122,14 @@ module _ (classes : ℕ → ℕ) (bytes : List ℕ) (states : States) (used : �
               left = made_after ∙ ap (λ (x : Ran). written_all used x.writes glyphs₀) is;
             }
 
-        pub going_goes : {memo' : List ℕ} {glyph' : ℕ} → is_done step.answer ≡ true → Remembers kept memo' → length glyphs' ≡ length glyphs
-            → glyph' ≡ glyph_at glyphs' used (place + 1) → Going kept memo' glyphs' step.state (place + 1) glyph' (leb used (place + 1)) (left - 1)
-        going_goes {memo'} {glyph'} f m len q =
+        pub going_goes : {memo' : List ℕ} {glyph' left' : ℕ} → left' ≡ left - 1 → is_done step.answer ≡ true → Remembers kept memo' → length glyphs' ≡ length glyphs
+            → glyph' ≡ glyph_at glyphs' used (place + 1) → Going kept memo' glyphs' step.state (place + 1) glyph' (leb used (place + 1)) left'
+        going_goes {memo'} {glyph'} fewer f m len q =
             let one = at s place glyph ends in
             let made = g.done ++ one.writes in
             let goes : is_done one.answer ≡ true = subst (λ (x : ContextualStep). is_done x.answer ≡ true) e f in
-            record {
+            rw fewer
+            (record {
               done = made;
               same = ap (λ (x : ℕ). after_writes made (all (left - 1) step.state glyphs' (place + 1) x (leb used (place + 1)))) q
                   ∙ ap (λ (x : ContextualStep). after_writes made (from (left - 1) x.state glyphs' (place + 1))) e
@@ -140,12 +141,12 @@ module _ (classes : ℕ → ℕ) (bytes : List ℕ) (states : States) (used : �
               long = len ∙ g.long;
               within = omega (arith, g.within, h);
               memory = m;
-            }
+            })
 
-  pub going_start : (memo glyphs : List ℕ) (s : ContextualState) (place glyph : ℕ) (ends : Bool) (steps : ℕ) {kept : ℕ → ℕ}
-      → place + steps ≤ used + 1 → Remembers kept memo → Going glyphs (all steps s glyphs place glyph ends) kept memo glyphs s place glyph ends steps
+  pub going_start : (memo glyphs : List ℕ) (s : ContextualState) (place glyph : ℕ) (ends : Bool) (steps : ℕ) {kept : ℕ → ℕ} {left : ℕ}
+      → left ≡ steps → place + steps ≤ used + 1 → Remembers kept memo → Going glyphs (all steps s glyphs place glyph ends) kept memo glyphs s place glyph ends left
   unfolding written_all
-  going_start memo glyphs s place glyph ends steps h m = record { done = []; same = refl; made = refl; long = refl; within = h; memory = m }
+  going_start memo glyphs s place glyph ends steps e h m = rw e (record { done = []; same = refl; made = refl; long = refl; within = h; memory = m })
 
   -- one step alone
   pub alone : (s : ContextualState) (glyphs : List ℕ) (place glyph : ℕ) (ends : Bool) → all 1 s glyphs place glyph ends ≡ at s place glyph ends

@@ -1,4 +1,5 @@
 -- The entries of a step: what is left to do, after the writes made, gives what the whole step gives.
+use Rattle.std.specs.Prelude.{Option, Some, None}
 use Prim.Native.Nat.{ℕ, zero, suc, ◌-◌, ◌<◌, ◌≤◌}
 use mathlib.Core.Path.{◌≡◌, refl, sym, ◌∙◌, ap, subst}
 use mathlib.Core.Bool.{Bool, true, false, not}
@@ -10,8 +11,6 @@ use Rattle.answers.specs.declared.Answer.{Answer}
 use Rattle.answers.specs.declared.Answer.TheVariants as Answer'
 use Rattle.state_tables.specs.declared.States.{States}
 use Rattle.state_tables.specs.declared.entries.Entry.{Entry}
-use Rattle.state_tables.specs.declared.entries.Entered.{Entered}
-use Rattle.state_tables.specs.declared.entries.Entered.TheVariants as Entered'
 use Rattle.state_tables.specs.Entries.{entry_of, on_entry}
 use Rattle.state_tables.specs.Opened.{Remembers}
 use Rattle.laws.specs.Bits.{is_set}
@@ -27,12 +26,12 @@ use Rattle.contextual.proofs.Writes.{written-append}
 
 -- one entry, by what it is
 module _ (classes : ℕ → ℕ) (bytes : List ℕ) (states : States) (index left : ℕ) (s : ContextualState) (class current : ℕ) (done : List Write) where
-  ran-ended : entry_of bytes states s.state class 4 ≡ Entered'.Ended
+  ran-ended : entry_of bytes states s.state class 4 ≡ None
       → ran classes bytes states index (suc left) s class current done ≡ over Answer'.Ended s done
   unfolding ran
   ran-ended e = rw (e, ran)
 
-  module _ (entry : Entry) (e : entry_of bytes states s.state class 4 ≡ Entered'.At entry) where
+  module _ (entry : Entry) (e : entry_of bytes states s.state class 4 ≡ Some entry) where
     ran_stops : is_set entry.flags 0x4000 ≡ false
         → ran classes bytes states index (suc left) s class current done
         ≡ over Answer'.Done (acted bytes s entry index current).state (done ++ entry_writes s index (acted bytes s entry index current))
@@ -72,13 +71,13 @@ module _ (classes : ℕ → ℕ) (bytes : List ℕ) (states : States) (index use
         let n : left ≡ 0 = omega arith in
         record { writes = r.done; is = subst (λ (k : ℕ). ran classes bytes states index k s (class_here classes current ends) current r.done ≡ whole) n r.same; left = r.made }
 
-    module _ (h : 0 < left) {class : ℕ} {e : Entered} (k : class ≡ class_here classes current ends) (f : e ≡ entry_of bytes states s.state class 4) where
+    module _ (h : 0 < left) {class : ℕ} {e : (Option Entry)} (k : class ≡ class_here classes current ends) (f : e ≡ entry_of bytes states s.state class 4) where
       from_here : ran classes bytes states index (suc (left - 1)) s class current r.done ≡ whole
       from_here =
           ap (λ (x : ℕ). ran classes bytes states index (suc (left - 1)) s x current r.done) k
           ∙ subst (λ (n : ℕ). ran classes bytes states index n s (class_here classes current ends) current r.done ≡ whole) (more left h) r.same
 
-      pub running_ended : e ≡ Entered'.Ended → Over Answer'.Ended s glyphs
+      pub running_ended : e ≡ None → Over Answer'.Ended s glyphs
       running_ended g =
           record {
             writes = r.done;
@@ -86,7 +85,7 @@ module _ (classes : ℕ → ℕ) (bytes : List ℕ) (states : States) (index use
             left = r.made;
           }
 
-      module _ {entry : Entry} {a : Acted} {glyphs₁ glyphs₂ : List ℕ} {flag : Bool} (g : e ≡ Entered'.At entry)
+      module _ {entry : Entry} {a : Acted} {glyphs₁ glyphs₂ : List ℕ} {flag : Bool} (g : e ≡ Some entry)
           (ae : a ≡ acted bytes s entry index current) (w₁ : glyphs₁ ≡ written_all used (writes_of s.mark_index a.mark) glyphs)
           (w₂ : glyphs₂ ≡ written_all used (writes_of index a.own) glyphs₁) (b : flag ≡ is_set entry.flags 0x4000) where
         made_after : glyphs₂ ≡ written_all used (r.done ++ entry_writes s index a) glyphs₀
@@ -107,11 +106,12 @@ module _ (classes : ℕ → ℕ) (bytes : List ℕ) (states : States) (index use
               left = made_after;
             }
 
-        pub running_goes : {memo' : List ℕ} → not flag ≡ false → Remembers kept memo' → length glyphs₁ ≡ length glyphs
-            → length glyphs₂ ≡ length glyphs₁ → Running kept memo' glyphs₂ a.state a.current false (left - 1)
+        pub running_goes : {memo' : List ℕ} {left' : ℕ} → left' ≡ left - 1 → not flag ≡ false → Remembers kept memo' → length glyphs₁ ≡ length glyphs
+            → length glyphs₂ ≡ length glyphs₁ → Running kept memo' glyphs₂ a.state a.current false left'
         unfolding class_here
-        running_goes n m l₁ l₂ =
-            record {
+        running_goes fewer n m l₁ l₂ =
+            rw fewer
+            (record {
               done = r.done ++ entry_writes s index a;
               same = ap (λ (x : Acted). ran classes bytes states index (left - 1) x.state (classes x.current) x.current (r.done ++ entry_writes s index x)) ae
                   ∙ sym (ran-goes classes bytes states index (left - 1) s class current r.done entry (sym f ∙ g) (sym b ∙ not-false flag n))
@@ -119,7 +119,7 @@ module _ (classes : ℕ → ℕ) (bytes : List ℕ) (states : States) (index use
               made = made_after;
               long = l₂ ∙ l₁ ∙ r.long;
               memory = m;
-            }
+            })
 
 pub running_start : (classes : ℕ → ℕ) (bytes : List ℕ) (states : States) (index used : ℕ) (memo glyphs : List ℕ) (s : ContextualState) (current : ℕ) (ends : Bool) (left : ℕ)
     {kept : ℕ → ℕ} → Remembers kept memo

@@ -1,11 +1,10 @@
 -- The contextual machine on a subtable: how that is opened, and which states are refused.
-use Rattle.std.specs.Prelude.{ℕ, ◌+◌, ◌-◌, List, [], ◌∷◌, ltb}
+use Rattle.state_tables.specs.declared.States.{States}
+use Rattle.std.specs.Prelude.{ℕ, ◌+◌, ◌-◌, List, [], ◌∷◌, ltb, Option, None}
 use Rattle.answers.specs.Refuse.{Test}
 use Rattle.answers.specs.declared.Refusal.TheVariants as Refusal'
 use Rattle.parse.specs.Reads.{read_u32}
 use Rattle.parse.specs.Use.{on_u32}
-use Rattle.state_tables.specs.declared.Made.{Made}
-use Rattle.state_tables.specs.declared.Made.TheVariants as Made'
 use Rattle.machine.specs.Head.{body_of}
 use Rattle.machine.specs.Call as Call'
 use Rattle.machine.specs.Machine.{Machine}
@@ -13,8 +12,8 @@ use Rattle.contextual.specs.Contextual.{fresh, next, stepped}
 use Rattle.contextual.specs.declared.ContextualState.{ContextualState}
 
 -- the state table of a contextual subtable, where the number at 16, behind its head, can be read too
-unfoldable pub opened : List ℕ → Made
-opened bytes = on_u32 (read_u32 (body_of bytes) 16) (λ list. Call'.opened bytes 1) Made'.Short
+unfoldable pub opened : List ℕ → Option States
+opened bytes = on_u32 (read_u32 (body_of bytes) 16) (λ list. Call'.opened bytes 1) None
 
 -- STATE: the mark's place is above the used length, set or not
 unfoldable pub state_tests : ContextualState → (used : ℕ) → List Test

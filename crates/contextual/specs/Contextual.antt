@@ -1,5 +1,5 @@
 -- The contextual machine's step, as the crate's `next`.
-use Rattle.std.specs.Prelude.{ℕ, zero, suc, ◌+◌, Bool, true, false, cond, not, List, [], ◌++◌, eqb}
+use Rattle.std.specs.Prelude.{ℕ, zero, suc, ◌+◌, Bool, true, false, cond, not, List, [], ◌++◌, eqb, Option}
 use Rattle.laws.specs.Choose.{if_eq}
 use Rattle.laws.specs.Lists.{both}
 use Rattle.answers.specs.declared.Answer.{Answer}
@@ -12,7 +12,6 @@ use Rattle.laws.specs.Bits.{is_set}
 use Rattle.machine.specs.Entry.{class_here}
 use Rattle.machine.specs.Pass.{Stepped, advance_of}
 use Rattle.contextual.specs.Substitutes.{Write, substitute_of, glyph_after, writes_of, changes_of}
-use Rattle.contextual.specs.declared.Substitute.{Substitute}
 use Rattle.contextual.specs.declared.Acted.{Acted}
 use Rattle.contextual.specs.declared.ContextualState.{ContextualState}
 
@@ -31,7 +30,7 @@ begun s index glyph false =
     if_eq index 0 (record { state = s.state; mark_set = s.mark_set; mark_index = 0; mark_id = glyph }) s
 
 -- a substitution at the mark meets the current glyph where the mark is the step's own place
-abbrev pub seen_glyph : Substitute → (here : Bool) → ℕ → ℕ
+abbrev pub seen_glyph : Option ℕ → (here : Bool) → ℕ → ℕ
 seen_glyph mark here current = cond here (glyph_after mark current) current
 
 -- the new state; a mark that is set remembers the step's place and its current glyph
@@ -44,9 +43,9 @@ entered s state false index current =
 -- current glyph through the second; flag 0x8000 then sets the mark
 unfoldable pub acted : List ℕ → ContextualState → Entry → (index current : ℕ) → Acted
 acted bytes s entry index current =
-    let mark : Substitute = substitute_of bytes (u16_at bytes entry.payload) s.mark_id in
+    let mark : (Option ℕ) = substitute_of bytes (u16_at bytes entry.payload) s.mark_id in
     let seen : ℕ = seen_glyph mark (eqb s.mark_index index) current in
-    let own : Substitute = substitute_of bytes (u16_at bytes (entry.payload + 2)) seen in
+    let own : (Option ℕ) = substitute_of bytes (u16_at bytes (entry.payload + 2)) seen in
     let after : ℕ = glyph_after own seen in
     record {
       mark = mark;

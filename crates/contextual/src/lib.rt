@@ -17,14 +17,14 @@ ghost use Rattle.contextual.specs.Contextual.{fresh, idle, begun, seen_glyph, en
 ghost use Rattle.contextual.specs.Calls.{opened, state_tests, contextual};
 ghost use Rattle.contextual.specs.Work.{written_all, step_of, ran_all};
 
-use answers::{Answer, Check, Refusal};
-use state_tables::entries::{Entered, Entry};
+use answers::{Answer, Refusal};
+use state_tables::entries::Entry;
 use state_tables::opened::Classes;
-use state_tables::{Made, States, entries, opened};
+use state_tables::{States, entries, opened};
 use tables::lookup;
-use tables::lookup::Found;
 
 // The state of a pass: the state table's state, whether a mark was set, its place, and the glyph that is remembered for it.
+// kept: `mark_set` is a flag beside its values, as `begun` gives a mark that is not set a place and a glyph too, which entries go by.
 #[derive(Clone, Copy)]
 pub struct ContextualState {
     pub state: u16,
@@ -41,93 +41,60 @@ pub struct ContextualStep {
     pub advance: usize,
 }
 
-// What takes a glyph's place, if anything does.
-#[derive(Clone, Copy)]
-pub enum Substitute {
-    To(u16),
-    None,
-}
-
 // What an entry does: what takes the place of the marked glyph and of the step's own, the new state, and the current glyph after it.
 #[derive(Clone, Copy)]
 struct Acted {
-    mark: Substitute,
-    own: Substitute,
+    mark: Option<u16>,
+    own: Option<u16>,
     state: ContextualState,
     current: u16,
 }
 
 // The substitute of a glyph by the lookup of this number in the substitution table; number 0xFFFF means no action, and what can't be
 // read or found is none. The bytes are those from the state table on.
-fn substitute_of(bytes: &[u8], number: u16, glyph: u16) -> Substitute
+#[tactic(auto, unfolding(crate::specs::Substitutes::substitute_of))]
+fn substitute_of(bytes: &[u8], number: u16, glyph: u16) -> Option<u16>
     ensures { result ≡ substitute_of bytes.now number glyph }
 {
     if number == ContextualState::NO_ACTION {
-        return Substitute::None;
+        return None;
     }
-    let parse::ReadU32::Got(list) = parse::read_u32(bytes, 16) else {
-        return Substitute::None;
-    };
-    let parse::ReadU32::Got(offset) = parse::read_u32(bytes, list as usize + number as usize * 4)
-    else {
-        return Substitute::None;
-    };
-    let Found::At(found) = lookup::lookup_at(
-        parse::from(bytes, list as usize + offset as usize),
-        glyph,
-    ) else {
-        return Substitute::None;
-    };
-    Substitute::To(found)
+    let list = parse::read_u32(bytes, 16)? as usize;
+    let offset = parse::read_u32(bytes, list + number as usize * 4)? as usize;
+    lookup::lookup_at(parse::from(bytes, list + offset), glyph).ok()
 }
 
 // The glyph of a place after its substitution.
-fn glyph_after(substitute: Substitute, was: u16) -> u16
+fn glyph_after(substitute: Option<u16>, was: u16) -> u16
     ensures { result ≡ glyph_after substitute was }
 {
-    let Substitute::To(glyph) = substitute else {
-        return was;
-    };
-    glyph
+    substitute.unwrap_or(was)
 }
 
 // The current glyph after the mark's substitution, which meets it where the mark is the step's own place.
-fn seen_glyph(mark: Substitute, here: bool, current: u16) -> u16
+fn seen_glyph(mark: Option<u16>, here: bool, current: u16) -> u16
     ensures { result ≡ seen_glyph mark here current }
 {
-    if !here {
-        return current;
+    if here {
+        glyph_after(mark, current)
+    } else {
+        current
     }
-    glyph_after(mark, current)
 }
 
 // Writes a substitute at a place of the line.
-fn replace(glyphs: &mut [u16], used: usize, place: usize, substitute: Substitute)
+#[tactic(auto, unfolding(crate::specs::Work::written_all))]
+fn replace(glyphs: &mut [u16], used: usize, place: usize, substitute: Option<u16>)
     requires { used ≤ length glyphs.old }
     ensures { glyphs.new ≡ written_all used (writes_of place substitute) glyphs.old }
 {
-    let Substitute::To(glyph) = substitute else {
-        return;
-    };
-    line::edits::write(glyphs, used, place, glyph);
-}
-
-// The class of a glyph; that of the end of text is 0.
-fn class_now(bytes: &[u8], table: Classes, memo: &mut [u32; 64], glyph: u16, ends: bool) -> u16
-    requires { LiesIn bytes.now table × Remembers (class_by bytes.now table) memo.old }
-    ensures class { result ≡ class_here (class_by bytes.now table) glyph ends }
-    ensures memo { Remembers (class_by bytes.now table) memo.new }
-{
-    if ends {
-        return 0;
+    if let Some(glyph) = substitute {
+        line::edits::write(glyphs, used, place, glyph);
     }
-    let Classes::Words { base, first, count } = table else {
-        return opened::remembered(bytes, table, memo, glyph);
-    };
-    opened::class_in_words(bytes, base, first, count, glyph)
 }
 
-// The same by an index, where that reaches the glyph.
+// The class of a glyph by an index, where that reaches it, and otherwise by the class table; that of the end of text is 0.
+#[tactic(auto, unfolding(machine::specs::Entry::class_here))]
 fn class_by(
     bytes: &[u8],
     table: Classes,
@@ -143,10 +110,7 @@ fn class_by(
     if ends {
         return 0;
     }
-    if (glyph as usize) < lent.len() {
-        return lent[glyph as usize];
-    }
-    class_now(bytes, table, memo, glyph, false)
+    indexes::class_by(bytes, table, memo, glyph, lent)
 }
 
 impl ContextualState {
@@ -181,27 +145,21 @@ impl ContextualState {
     fn idle(self, ends: bool) -> bool
         ensures { result ≡ idle self ends }
     {
-        if !ends {
-            return false;
-        }
-        !self.mark_set
+        ends && !self.mark_set
     }
 
     // At index 0 the mark's place and glyph are the step's own, but at end of text; whether a mark is set stays.
+    #[tactic(auto, unfolding(crate::specs::Contextual::begun))]
     fn begun(self, index: usize, glyph: u16, ends: bool) -> ContextualState
         ensures { result ≡ begun self index glyph ends }
     {
-        if ends {
-            return self;
-        }
-        if index != 0 {
+        if ends || index != 0 {
             return self;
         }
         ContextualState {
-            state: self.state,
-            mark_set: self.mark_set,
             mark_index: 0,
             mark_id: glyph,
+            ..self
         }
     }
 
@@ -217,15 +175,11 @@ impl ContextualState {
                 mark_id: current,
             };
         }
-        ContextualState {
-            state,
-            mark_set: self.mark_set,
-            mark_index: self.mark_index,
-            mark_id: self.mark_id,
-        }
+        ContextualState { state, ..self }
     }
 
     // What an entry does: the mark's substitution, then the current glyph's, then the mark.
+    #[tactic(auto, unfolding(crate::specs::Contextual::acted))]
     fn act(self, bytes: &[u8], entry: Entry, index: usize, current: u16) -> Acted
         requires { entry.payload + 4 ≤ length bytes.now }
         ensures { result ≡ acted bytes.now self entry index current }
@@ -276,10 +230,9 @@ impl ContextualState {
         let mut state = self.begun(index, glyph, ends);
         let mut current = glyph;
         let mut over = ends;
-        let mut left = ContextualState::ENTRIES;
-        while 0 < left {
+        for _entry in 0..ContextualState::ENTRIES {
             let class = class_by(bytes, table, memo, current, over, lent);
-            let Entered::At(entry) = entries::entry_of(bytes, states, state.state, class, 4) else {
+            let Some(entry) = entries::entry_of(bytes, states, state.state, class, 4) else {
                 return ContextualStep {
                     answer: Answer::Ended,
                     state,
@@ -287,10 +240,8 @@ impl ContextualState {
                 };
             };
             let acted = state.act(bytes, entry, index, current);
-            let mark = acted.mark;
-            let own = acted.own;
-            replace(glyphs, used, state.mark_index, mark);
-            replace(glyphs, used, index, own);
+            replace(glyphs, used, state.mark_index, acted.mark);
+            replace(glyphs, used, index, acted.own);
             state = acted.state;
             if !machine::is_set(entry.flags, ContextualState::DONT_ADVANCE) {
                 return ContextualStep {
@@ -301,7 +252,6 @@ impl ContextualState {
             }
             current = acted.current;
             over = false;
-            left -= 1;
         }
         ContextualStep {
             answer: Answer::Done,
@@ -333,11 +283,9 @@ impl ContextualState {
         let table = opened::open(bytes, states);
         let mut memo = opened::nothing_found();
         let mut state = self;
-        let mut place = index;
         let mut glyph = first;
         let mut ends = over;
-        let mut left = steps;
-        while 0 < left {
+        for place in index..index + steps {
             let step = state.next(
                 bytes, states, table, &mut memo, glyphs, used, place, glyph, ends, lent,
             );
@@ -357,10 +305,8 @@ impl ContextualState {
                     advance: 0,
                 };
             }
-            place += 1;
-            glyph = machine::glyph_at(glyphs, used, place);
-            ends = used <= place;
-            left -= 1;
+            glyph = machine::glyph_at(glyphs, used, place + 1);
+            ends = used <= place + 1;
         }
         ContextualStep {
             answer: Answer::Done,
@@ -370,6 +316,7 @@ impl ContextualState {
     }
 
     // The tests before a step: TABLE, LINE, PLACE, STATE, HEAD.
+    #[tactic(auto, unfolding(crate::specs::Calls::state_tests, machine::specs::Call::step_tests, machine::specs::Call::place_test, machine::specs::Call::head_test, line::specs::Test::line_test, answers::specs::Refuse::refuse))]
     fn refuse_step(
         self,
         table_length: usize,
@@ -378,30 +325,29 @@ impl ContextualState {
         homes: &[u16],
         used: usize,
         index: usize,
-        made: Made,
-    ) -> Check
+        made: Option<States>,
+    ) -> Result<(), Refusal>
         ensures { result ≡ refuse (step_tests table_length (line_test (line_of glyphs.now tags.now homes.now used) ∷ []) used
             index (state_tests self used) made) }
     {
-        if let Check::Refused(why) = answers::refuse_table(table_length) {
-            return Check::Refused(why);
-        }
+        answers::refuse_table(table_length)?;
         if !line::valid::takes(glyphs, tags, homes, used) {
-            return Check::Refused(Refusal::Line);
+            return Err(Refusal::Line);
         }
         if used < index {
-            return Check::Refused(Refusal::Place);
+            return Err(Refusal::Place);
         }
         if used < self.mark_index {
-            return Check::Refused(Refusal::State);
+            return Err(Refusal::State);
         }
-        if let Made::Short = made {
-            return Check::Refused(Refusal::Head);
+        if made.is_none() {
+            return Err(Refusal::Head);
         }
-        Check::Passed
+        Ok(())
     }
 
     // One step by the subtable at `start`; a refused one hands the state back as given.
+    #[tactic(auto, using(crate::proofs::Calls::stepped_fits, crate::proofs::Calls::stepped_alone, crate::proofs::Calls::stepped_writes), unfolding(machine::specs::Machine::step_call, machine::specs::Machine::step_leaves, machine::specs::Call::lone_step, line::specs::Changes::apply_all))]
     pub fn step(
         self,
         table: &[u8],
@@ -421,29 +367,20 @@ impl ContextualState {
     {
         let bytes = parse::from(table, start);
         let made = open(bytes);
-        if let Check::Refused(why) = self.refuse_step(
-            table.len(),
-            glyphs,
-            tags,
-            homes,
-            used,
-            index,
-            made,
-        ) {
+        if let Err(why) = self.refuse_step(table.len(), glyphs, tags, homes, used, index, made) {
             return ContextualStep {
                 answer: Answer::Refused(why),
                 state: self,
                 advance: 0,
             };
         }
-        let Made::Ready(states) = made else {
+        let Some(states) = made else {
             return ContextualStep {
                 answer: Answer::Refused(Refusal::Head),
                 state: self,
                 advance: 0,
             };
         };
-        let none = [0u16; 0];
         self.run(
             parse::from(bytes, 12),
             states,
@@ -453,18 +390,17 @@ impl ContextualState {
             glyph,
             ends,
             1,
-            &none,
+            &[],
         )
     }
 }
 
 // The state table of the subtable that the bytes begin with; the number at 16, where the substitution table is, can be read too.
-pub fn open(bytes: &[u8]) -> Made
+#[tactic(auto, unfolding(crate::specs::Calls::opened))]
+pub fn open(bytes: &[u8]) -> Option<States>
     ensures { result ≡ opened bytes.now }
 {
-    let parse::ReadU32::Got(_) = parse::read_u32(parse::from(bytes, 12), 16) else {
-        return Made::Short;
-    };
+    parse::read_u32(parse::from(bytes, 12), 16)?;
     machine::open(bytes, ContextualState::KIND)
 }
 
@@ -485,21 +421,23 @@ fn pass_line(
         (line_of glyphs.old tags.now homes.now used)).glyphs }
 {
     let first = machine::glyph_at(glyphs, used, 0);
-    let step = ContextualState::new().run(
-        bytes,
-        states,
-        glyphs,
-        used,
-        0,
-        first,
-        used == 0,
-        used + 1,
-        index,
-    );
-    step.answer
+    ContextualState::new()
+        .run(
+            bytes,
+            states,
+            glyphs,
+            used,
+            0,
+            first,
+            used == 0,
+            used + 1,
+            index,
+        )
+        .answer
 }
 
 // The pass over a line that LINE has taken, by the subtable that the bytes begin with and the classes of an index; HEAD where it can't be opened.
+#[tactic(auto, unfolding(machine::specs::Work::work_leaves, machine::specs::Work::passed_leaves, line::specs::Changes::apply_all))]
 pub fn work_by(
     bytes: &[u8],
     glyphs: &mut [u16],
@@ -514,7 +452,7 @@ pub fn work_by(
     ensures glyphs { glyphs.new ≡ (work_leaves (subtable_of (indexed index.now contextual)) bytes.now
         (line_of glyphs.old tags.now homes.now used)).glyphs }
 {
-    let Made::Ready(states) = open(bytes) else {
+    let Some(states) = open(bytes) else {
         return Answer::Refused(Refusal::Head);
     };
     pass_line(
@@ -536,11 +474,11 @@ pub fn work(bytes: &[u8], glyphs: &mut [u16], tags: &[u16], homes: &[u16], used:
     ensures glyphs { glyphs.new ≡ (work_leaves (subtable_of contextual) bytes.now
         (line_of glyphs.old tags.now homes.now used)).glyphs }
 {
-    let none = [0u16; 0];
-    work_by(bytes, glyphs, tags, homes, used, &none)
+    work_by(bytes, glyphs, tags, homes, used, &[])
 }
 
 // The pass over a line, by the subtable at `start`.
+#[tactic(auto, using(crate::proofs::Calls::taken_fits), unfolding(machine::specs::Machine::pass_call, machine::specs::Machine::call_leaves, machine::specs::Work::work_leaves, line::specs::Changes::apply_all))]
 pub fn pass(
     table: &[u8],
     start: usize,
@@ -556,7 +494,7 @@ pub fn pass(
 {
     let bytes = parse::from(table, start);
     let made = open(bytes);
-    if let Check::Refused(why) = machine::refuse_pass(
+    if let Err(why) = machine::refuse_pass(
         table.len(),
         glyphs,
         tags,

@@ -1,31 +1,33 @@
 -- The next element of a list whose cursor crossed as numbers, and what the entry leaves then.
+use Rattle.std.specs.Prelude.{Option, Result}
+use Rattle.answers.specs.declared.Refusal.{Refusal}
 use Prim.Native.Nat.{ℕ}
 use mathlib.Core.Path.{◌≡◌, sym, ◌∙◌, ap}
 use mathlib.Core.Bool.{Bool}
 use mathlib.Core.List.{List}
+use Rattle.chains.specs.declared.Chain.{Chain}
+use Rattle.chains.specs.declared.Feature.{Feature}
+use Rattle.chains.specs.declared.Subtable.{Subtable}
 use Rattle.chains.specs.Orders.{order_of, is_reversed}
 use Rattle.chains.specs.Entries.{chain_call, feature_call, subtable_call}
 use Rattle.chains.specs.declared.Edition.{Edition}
 use Rattle.chains.specs.declared.Cursor.{Cursor}
 use Rattle.chains.specs.declared.Order.{Order}
-use Rattle.chains.specs.declared.ChainReply.{ChainReply}
-use Rattle.chains.specs.declared.FeatureReply.{FeatureReply}
-use Rattle.chains.specs.declared.SubtableReply.{SubtableReply}
 use Rattle.firmware.specs.Steps.{is_flag, flag_number}
 use Rattle.firmware.specs.Cursors.{cursor_from, chain_after, feature_after, subtable_after, reversed_number}
 
 -- the reply, once its variant is known
 module _ (table slots : List ℕ) {given : Cursor} (g : given ≡ cursor_from slots) where
-  pub feature_after_lem : {reply known : FeatureReply} → reply ≡ feature_call table given → reply ≡ known → known ≡ feature_after table slots
+  pub feature_after_lem : {reply known : (Result (Option Feature) Refusal)} → reply ≡ feature_call table given → reply ≡ known → known ≡ feature_after table slots
   unfolding feature_after
   feature_after_lem e k = sym k ∙ e ∙ ap (feature_call table) g
 
 module _ (edition : Edition) (table slots : List ℕ) {given : Cursor} (g : given ≡ cursor_from slots) where
-  pub chain_after_lem : {reply known : ChainReply} → reply ≡ chain_call edition table given → reply ≡ known → known ≡ chain_after edition table slots
+  pub chain_after_lem : {reply known : (Result (Option Chain) Refusal)} → reply ≡ chain_call edition table given → reply ≡ known → known ≡ chain_after edition table slots
   unfolding chain_after
   chain_after_lem e k = sym k ∙ e ∙ ap (chain_call edition table) g
 
-  pub subtable-after : {reply known : SubtableReply} → reply ≡ subtable_call edition table given → reply ≡ known → known ≡ subtable_after edition table slots
+  pub subtable-after : {reply known : (Result (Option Subtable) Refusal)} → reply ≡ subtable_call edition table given → reply ≡ known → known ≡ subtable_after edition table slots
   unfolding subtable_after
   subtable-after e k = sym k ∙ e ∙ ap (subtable_call edition table) g
 

@@ -1,4 +1,5 @@
 -- What an exported step leaves: its numbers, or those that were lent where it was refused. For any machine's step.
+use Rattle.std.specs.Prelude.{Option, Some, None}
 use Prim.Native.Nat.{ℕ}
 use mathlib.Core.Path.{◌≡◌, sym, ◌∙◌, ap, ap₂, subst}
 use Rattle.kerning_lists.specs.declared.Run.{Run}
@@ -16,9 +17,8 @@ use Rattle.ligature.specs.declared.LigatureState.{LigatureState}
 use Rattle.ligature.specs.declared.LigatureStep.{LigatureStep}
 use Rattle.insertion.specs.Calls as Insertion
 use Rattle.insertion.specs.declared.InsertionState.{InsertionState}
+use Rattle.insertion.specs.declared.Insertion.{Insertion as Inserted}
 use Rattle.insertion.specs.declared.InsertionStep.{InsertionStep}
-use Rattle.insertion.specs.declared.Inserted.{Inserted}
-use Rattle.insertion.specs.declared.Inserted.TheVariants as Inserted'
 use Rattle.contextual.specs.Work.{step_of}
 use Rattle.contextual.specs.Calls.{contextual}
 use Rattle.machine.specs.Machine.{step_call, step_leaves}
@@ -65,13 +65,10 @@ insertion_is table start slots length room index glyph ends g e =
     e ∙ ap (λ (s : InsertionState). Insertion.step_call table start s length room index glyph (is_flag ends)) g
 
 -- one insertion is told the same way, marked or current
-pub one_edit : (marked current : Inserted) → marked ≡ Inserted'.None → edit_slots current Inserted'.None ≡ edit_slots marked current
+pub one_edit : (marked current : Option Inserted) → marked ≡ None → edit_slots current None ≡ edit_slots marked current
 unfolding edit_slots
-one_edit marked Inserted'.None e = rw e
-one_edit marked (Inserted'.At place count glyphs) e = rw e
-
-pub marked-alone : {marked at : Inserted} (current : Inserted) → marked ≡ at → current ≡ Inserted'.None → edit_slots at Inserted'.None ≡ edit_slots marked current
-marked-alone current m e = ap (λ (x : Inserted). edit_slots x Inserted'.None) (sym m) ∙ ap (edit_slots _) (sym e)
+one_edit marked None e = rw e
+one_edit marked (Some only) e = rw e
 
 module _ (table : List ℕ) (start : ℕ) (slots : List ℕ) (l : Line) (index glyph ends : ℕ) {given : LigatureState} (g : given ≡ ligature_from slots) where
   pub ligature_is : {step : LigatureStep} → step ≡ Ligature'.step_of (step_call ligature table start given l index glyph (is_flag ends))

@@ -1,5 +1,5 @@
 -- What the exported steps leave in the numbers lent to them, and how a state crosses as numbers.
-use Rattle.std.specs.Prelude.{ℕ, ◌+◌, List, [], ◌∷◌, Bool, true, false, cond, not, eqb, ltb, get_or, set}
+use Rattle.std.specs.Prelude.{ℕ, ◌+◌, List, [], ◌∷◌, Bool, true, false, cond, not, eqb, ltb, get_or, set, Option, Some, None}
 use Rattle.std.proofs.Math.Seq.{paste}
 use Rattle.laws.specs.Choose.{if_lt}
 use Rattle.laws.specs.Lists.{tab, every}
@@ -9,12 +9,10 @@ use Rattle.rearrangement.specs.Calls as Rearrangement
 use Rattle.rearrangement.specs.declared.RearrangementState.{RearrangementState}
 use Rattle.rearrangement.specs.declared.RearrangementStep.{RearrangementStep}
 use Rattle.rearrangement.specs.declared.Window.{Window}
-use Rattle.rearrangement.specs.declared.Window.TheVariants as Window'
 use Rattle.insertion.specs.Calls as Insertion
 use Rattle.insertion.specs.declared.InsertionState.{InsertionState}
 use Rattle.insertion.specs.declared.InsertionStep.{InsertionStep}
-use Rattle.insertion.specs.declared.Inserted.{Inserted}
-use Rattle.insertion.specs.declared.Inserted.TheVariants as Inserted'
+use Rattle.insertion.specs.declared.Insertion.{Insertion}
 use Rattle.ligature.specs.Calls.{ligature}
 use Rattle.ligature.specs.declared.LigatureState.{LigatureState}
 use Rattle.line.specs.Line.{Line}
@@ -68,9 +66,9 @@ abbrev pub rearrangement_advance : RearrangementStep → (was : ℕ) → ℕ
 rearrangement_advance step was = unless_refused step.answer was step.advance
 
 -- first, last, verb; without an edit 0 each
-abbrev pub window_slots : Window → List ℕ
-window_slots Window'.None = 0 ∷ 0 ∷ 0 ∷ []
-window_slots (Window'.At first last verb) = first ∷ last ∷ verb ∷ []
+abbrev pub window_slots : Option Window → List ℕ
+window_slots None = 0 ∷ 0 ∷ 0 ∷ []
+window_slots (Some window) = window.first ∷ window.last ∷ window.verb ∷ []
 
 abbrev pub rearrangement_window : RearrangementStep → (was : List ℕ) → List ℕ
 rearrangement_window step was = unless_refused step.answer was (window_slots step.edit)
@@ -128,12 +126,12 @@ abbrev pub insertion_advance : InsertionStep → (was : ℕ) → ℕ
 insertion_advance step was = unless_refused step.answer was step.advance
 
 -- how many insertions, then for each its place, its count and where its glyphs lie in the table; the rest is 0
-unfoldable pub edit_slots : (marked current : Inserted) → List ℕ
-edit_slots Inserted'.None Inserted'.None = 0 ∷ 0 ∷ 0 ∷ 0 ∷ 0 ∷ 0 ∷ 0 ∷ []
-edit_slots (Inserted'.At place count glyphs) Inserted'.None = 1 ∷ place ∷ count ∷ glyphs ∷ 0 ∷ 0 ∷ 0 ∷ []
-edit_slots Inserted'.None (Inserted'.At place count glyphs) = 1 ∷ place ∷ count ∷ glyphs ∷ 0 ∷ 0 ∷ 0 ∷ []
-edit_slots (Inserted'.At place count glyphs) (Inserted'.At place₂ count₂ glyphs₂) =
-    2 ∷ place ∷ count ∷ glyphs ∷ place₂ ∷ count₂ ∷ glyphs₂ ∷ []
+unfoldable pub edit_slots : (marked current : Option Insertion) → List ℕ
+edit_slots None None = 0 ∷ 0 ∷ 0 ∷ 0 ∷ 0 ∷ 0 ∷ 0 ∷ []
+edit_slots (Some only) None = 1 ∷ only.place ∷ only.count ∷ only.glyphs ∷ 0 ∷ 0 ∷ 0 ∷ []
+edit_slots None (Some only) = 1 ∷ only.place ∷ only.count ∷ only.glyphs ∷ 0 ∷ 0 ∷ 0 ∷ []
+edit_slots (Some marked) (Some current) =
+    2 ∷ marked.place ∷ marked.count ∷ marked.glyphs ∷ current.place ∷ current.count ∷ current.glyphs ∷ []
 
 abbrev pub insertion_edits : InsertionStep → (was : List ℕ) → List ℕ
 insertion_edits step was = unless_refused step.answer was (edit_slots step.marked step.current)

@@ -1,30 +1,32 @@
 -- The survey's verdict as numbers: 0 no records, 1 sorted, 2 bad, with the first bad record, 3 another unit size. What is not said stays as it was.
-use Rattle.std.specs.Prelude.{ℕ}
+use Rattle.std.specs.Prelude.{ℕ, Result, Ok, Err}
 use Rattle.answers.specs.declared.Answer.{Answer}
+use Rattle.answers.specs.declared.Refusal.{Refusal}
 use Rattle.answers.specs.declared.Answer.TheVariants as Answer'
+use Rattle.answers.specs.declared.Refusal.{Refusal}
 use Rattle.tables.specs.declared.survey.Surveyed.{Surveyed}
-use Rattle.tables.specs.declared.survey.Surveyed.TheVariants.{Sorted, Bad, UnitSize, NoRecords, Nothing, Refused}
+use Rattle.tables.specs.declared.survey.Surveyed.TheVariants.{Sorted, Bad, UnitSize, NoRecords, Nothing}
 
-abbrev pub survey_answer : Surveyed → Answer
-survey_answer Sorted = Answer'.Done
-survey_answer (Bad index) = Answer'.Done
-survey_answer (UnitSize n) = Answer'.Done
-survey_answer NoRecords = Answer'.Done
-survey_answer Nothing = Answer'.Nothing
-survey_answer (Refused why) = Answer'.Refused why
+abbrev pub survey_answer : Result Surveyed Refusal → Answer
+survey_answer (Ok Sorted) = Answer'.Done
+survey_answer (Ok (Bad index)) = Answer'.Done
+survey_answer (Ok (UnitSize n)) = Answer'.Done
+survey_answer (Ok NoRecords) = Answer'.Done
+survey_answer (Ok Nothing) = Answer'.Nothing
+survey_answer (Err why) = Answer'.Refused why
 
-abbrev pub verdict_of : Surveyed → ℕ → ℕ
-verdict_of NoRecords was = 0
-verdict_of Sorted was = 1
-verdict_of (Bad index) was = 2
-verdict_of (UnitSize n) was = 3
-verdict_of Nothing was = was
-verdict_of (Refused why) was = was
+abbrev pub verdict_of : Result Surveyed Refusal → ℕ → ℕ
+verdict_of (Ok NoRecords) was = 0
+verdict_of (Ok Sorted) was = 1
+verdict_of (Ok (Bad index)) was = 2
+verdict_of (Ok (UnitSize n)) was = 3
+verdict_of (Ok Nothing) was = was
+verdict_of (Err why) was = was
 
-abbrev pub bad_record : Surveyed → ℕ → ℕ
-bad_record (Bad index) was = index
-bad_record Sorted was = was
-bad_record (UnitSize n) was = was
-bad_record NoRecords was = was
-bad_record Nothing was = was
-bad_record (Refused why) was = was
+abbrev pub bad_record : Result Surveyed Refusal → ℕ → ℕ
+bad_record (Ok (Bad index)) was = index
+bad_record (Ok Sorted) was = was
+bad_record (Ok (UnitSize n)) was = was
+bad_record (Ok NoRecords) was = was
+bad_record (Ok Nothing) was = was
+bad_record (Err why) was = was

@@ -11,7 +11,7 @@ ghost use Rattle.firmware.specs.Runs.{kerning_heads};
 ghost use Rattle.firmware.specs.Anchored.{no_anchor, anchor_from, anchor_slots, state_after, advance_after, anchor_stepped, anchor_writes};
 
 use anchor_machine::{AnchorState, AnchorStep};
-use kerning::choices::choices_of;
+use kerning::choices::Choices;
 
 // The pass over a line, by the kerx subtable at `start` and the choices made, with marks anchored by an ankr table.
 #[unsafe(no_mangle)]
@@ -46,7 +46,7 @@ pub extern "C" fn aat_kerx_pass_anchored(
         (line_of glyphs.now tags.now homes.now used) along.old x.old y.old back.old
         (choices_of choices)).writes back.old }
 {
-    answers::number(kerx::pass_anchored(
+    u32::from(kerx::pass_anchored(
         table,
         ankr,
         start,
@@ -59,12 +59,13 @@ pub extern "C" fn aat_kerx_pass_anchored(
         x,
         y,
         back,
-        choices_of(choices),
+        Choices::from(choices),
     ))
 }
 
 // The run over a line, by the kerx table at `start` and the choices made, with marks anchored by an ankr table.
 #[unsafe(no_mangle)]
+#[tactic(auto, using(crate::proofs::Stepping::numbered, crate::proofs::Stepping::kept, crate::proofs::Stepping::put, crate::proofs::Stepping::run_is))]
 pub extern "C" fn aat_kerx_run_anchored(
     table: &[u8],
     start: usize,
@@ -115,14 +116,12 @@ pub extern "C" fn aat_kerx_run_anchored(
         x,
         y,
         back,
-        choices_of(choices),
+        Choices::from(choices),
     );
-    let answer = run.answer;
-    if crate::steps::is_refused(answer) {
-        return answers::number(answer);
+    if !crate::steps::is_refused(run.answer) {
+        *heads = run.heads;
     }
-    *heads = run.heads;
-    answers::number(answer)
+    u32::from(run.answer)
 }
 
 // The state that STATE refuses.
@@ -138,6 +137,7 @@ fn no_anchor() -> AnchorState
 }
 
 // The state that four numbers say: state, mark, its glyph, cycles.
+#[tactic(auto, unfolding(crate::specs::Anchored::anchor_from))]
 fn anchor_from(slots: &[u64; 4]) -> AnchorState
     ensures { result ≡ anchor_from slots.now }
 {
@@ -162,6 +162,7 @@ fn anchor_from(slots: &[u64; 4]) -> AnchorState
 }
 
 // Puts the state and the advance of a step where they were lent, unless it was refused, and answers with its number.
+#[tactic(auto, using(crate::proofs::Stepping::kept, crate::proofs::Stepping::put), unfolding(crate::specs::Anchored::anchor_slots))]
 fn put_step(step: AnchorStep, state: &mut [u64; 4], advance: &mut usize) -> u32
     ensures answer { result ≡ number_of step.answer }
     ensures state { state.new ≡ state_after step state.old }
@@ -169,7 +170,7 @@ fn put_step(step: AnchorStep, state: &mut [u64; 4], advance: &mut usize) -> u32
 {
     let answer = step.answer;
     if crate::steps::is_refused(answer) {
-        return answers::number(answer);
+        return u32::from(answer);
     }
     let after = step.state;
     *state = [
@@ -179,7 +180,7 @@ fn put_step(step: AnchorStep, state: &mut [u64; 4], advance: &mut usize) -> u32
         after.cycles as u64,
     ];
     *advance = step.advance;
-    answers::number(answer)
+    u32::from(answer)
 }
 
 // A lone step of the machine of anchored marks, by the kerx subtable at `start` and the choices made.
@@ -215,7 +216,7 @@ pub extern "C" fn aat_anchor_step(
         index glyph along.old x.old y.old back.old (choices_of choices)) advance.old }
 {
     let given = anchor_from(state);
-    let reading = choices_of(choices).reading;
+    let reading = Choices::from(choices).reading;
     let step = kerx::step_anchored(
         given, table, ankr, start, version, used, index, glyph, along, x, y, back, reading,
     );

@@ -12,10 +12,11 @@ ghost use Rattle.firmware.specs.Runs.{kerning_heads};
 ghost use Rattle.firmware.specs.KernSteps.{state_after, advance_after, kerx_stepped};
 
 use crate::kern_steps;
-use kerning::choices::choices_of;
+use kerning::choices::Choices;
 
 // The pass over a line, by the kern subtable at `start` and the choices made.
 #[unsafe(no_mangle)]
+#[tactic(auto, using(kerning_lists::proofs::Families::passes_same))]
 pub extern "C" fn aat_kern_pass_by(
     table: &[u8],
     start: usize,
@@ -33,7 +34,7 @@ pub extern "C" fn aat_kern_pass_by(
         (line_of glyphs.now tags.now homes.now used) along.old (choices_of choices)).additions
         along.old }
 {
-    answers::number(kern::pass_by(
+    u32::from(kern::pass_by(
         table,
         start,
         version,
@@ -42,12 +43,13 @@ pub extern "C" fn aat_kern_pass_by(
         homes,
         used,
         along,
-        choices_of(choices),
+        Choices::from(choices),
     ))
 }
 
 // The pass over a line, by the kerx subtable at `start` and the choices made.
 #[unsafe(no_mangle)]
+#[tactic(auto, using(kerning_lists::proofs::Families::passes_same))]
 pub extern "C" fn aat_kerx_pass_by(
     table: &[u8],
     start: usize,
@@ -65,7 +67,7 @@ pub extern "C" fn aat_kerx_pass_by(
         (line_of glyphs.now tags.now homes.now used) along.old (choices_of choices)).additions
         along.old }
 {
-    answers::number(kerx::pass_by(
+    u32::from(kerx::pass_by(
         table,
         start,
         version,
@@ -74,7 +76,7 @@ pub extern "C" fn aat_kerx_pass_by(
         homes,
         used,
         along,
-        choices_of(choices),
+        Choices::from(choices),
     ))
 }
 
@@ -102,7 +104,7 @@ pub extern "C" fn aat_kerx_step_by(
         along.old (choices_of choices)).step advance.old }
 {
     let given = kern_steps::kerning_from(state);
-    let reading = choices_of(choices).reading;
+    let reading = Choices::from(choices).reading;
     let step = kerx_machine::step_by(
         given, table, start, version, used, index, glyph, along, reading,
     );
@@ -111,6 +113,7 @@ pub extern "C" fn aat_kerx_step_by(
 
 // The run over a line, by the kern table at `start` and the choices made.
 #[unsafe(no_mangle)]
+#[tactic(auto, using(crate::proofs::Stepping::numbered, crate::proofs::Stepping::kept, crate::proofs::Stepping::put, crate::proofs::Stepping::run_is, kerning_lists::proofs::Families::runs_same))]
 pub extern "C" fn aat_kern_run_by(
     table: &[u8],
     start: usize,
@@ -137,18 +140,17 @@ pub extern "C" fn aat_kern_run_by(
         homes,
         used,
         along,
-        choices_of(choices),
+        Choices::from(choices),
     );
-    let answer = run.answer;
-    if crate::steps::is_refused(answer) {
-        return answers::number(answer);
+    if !crate::steps::is_refused(run.answer) {
+        *heads = run.heads;
     }
-    *heads = run.heads;
-    answers::number(answer)
+    u32::from(run.answer)
 }
 
 // The run over a line, by the kerx table at `start` and the choices made.
 #[unsafe(no_mangle)]
+#[tactic(auto, using(crate::proofs::Stepping::numbered, crate::proofs::Stepping::kept, crate::proofs::Stepping::put, crate::proofs::Stepping::run_is, kerning_lists::proofs::Families::runs_same))]
 pub extern "C" fn aat_kerx_run_by(
     table: &[u8],
     start: usize,
@@ -179,12 +181,10 @@ pub extern "C" fn aat_kerx_run_by(
         homes,
         used,
         along,
-        choices_of(choices),
+        Choices::from(choices),
     );
-    let answer = run.answer;
-    if crate::steps::is_refused(answer) {
-        return answers::number(answer);
+    if !crate::steps::is_refused(run.answer) {
+        *heads = run.heads;
     }
-    *heads = run.heads;
-    answers::number(answer)
+    u32::from(run.answer)
 }

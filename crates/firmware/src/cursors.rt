@@ -7,10 +7,7 @@ ghost use Rattle.firmware.specs.Cursors.{cursor_from, cursor_slots, start_cursor
 ghost use Rattle.firmware.specs.Cursors.{cursor_behind_feature, fields_of_feature, subtable_after, subtable_cursor, subtable_fields, cursor_behind_subtable, fields_of_subtable, reversed_number};
 
 use answers::Answer;
-use chains::{
-    ChainReply, ChainStart, Cursor, Edition, FeatureReply, NextChain, NextFeature, NextSubtable,
-    SubtableReply,
-};
+use chains::{Chain, Cursor, Edition, Feature, Subtable};
 
 // The numbers of a cursor: the place of its next element, and how many are left.
 fn put_cursor(slots: &mut [u64; 2], cursor: Cursor)
@@ -36,35 +33,33 @@ pub extern "C" fn aat_morx_chains(table: &[u8], start: usize, cursor: &mut [u64;
     ensures cursor { cursor.new ≡ start_cursor (chains_call table.now start) cursor.old }
 {
     match chains::chains(table, start) {
-        ChainStart::From(first) => {
+        Ok(first) => {
             put_cursor(cursor, first);
             0
         }
-        ChainStart::Refused(why) => answers::refusal_number(why),
+        Err(why) => u32::from(why),
     }
 }
 
 // The numbers of a chain and the cursor behind it; at the end 0 each, and the cursor stays.
-fn put_chain(cursor: &mut [u64; 2], fields: &mut [u64; 6], next: NextChain)
+#[tactic(auto)]
+fn put_chain(cursor: &mut [u64; 2], fields: &mut [u64; 6], next: Option<Chain>)
     ensures cursor { cursor.new ≡ cursor_behind_chain next cursor.old }
     ensures fields { fields.new ≡ fields_of_chain next }
 {
-    let NextChain::At(chain) = next else {
-        *fields = [0, 0, 0, 0, 0, 0];
+    let Some(chain) = next else {
+        *fields = [0; 6];
         return;
     };
-    let features = chain.features;
-    let subtables = chain.subtables;
-    let behind = chain.next;
     *fields = [
         1,
         chain.flags as u64,
-        features.place as u64,
-        features.left as u64,
-        subtables.place as u64,
-        subtables.left as u64,
+        chain.features.place as u64,
+        chain.features.left as u64,
+        chain.subtables.place as u64,
+        chain.subtables.left as u64,
     ];
-    put_cursor(cursor, behind);
+    put_cursor(cursor, chain.next);
 }
 
 // The next chain of a list of an edition.
@@ -80,11 +75,11 @@ pub fn next_chain(
 {
     let given = cursor_from(cursor);
     match chains::next_chain(edition, table, given) {
-        ChainReply::Next(next) => {
+        Ok(next) => {
             put_chain(cursor, fields, next);
             0
         }
-        ChainReply::Refused(why) => answers::refusal_number(why),
+        Err(why) => u32::from(why),
     }
 }
 
@@ -103,15 +98,15 @@ pub extern "C" fn aat_morx_next_chain(
 }
 
 // The numbers of a feature and the cursor behind it; at the end 0 each, and the cursor stays.
-fn put_feature(cursor: &mut [u64; 2], fields: &mut [u64; 5], next: NextFeature)
+#[tactic(auto)]
+fn put_feature(cursor: &mut [u64; 2], fields: &mut [u64; 5], next: Option<Feature>)
     ensures cursor { cursor.new ≡ cursor_behind_feature next cursor.old }
     ensures fields { fields.new ≡ fields_of_feature next }
 {
-    let NextFeature::At(feature) = next else {
-        *fields = [0, 0, 0, 0, 0];
+    let Some(feature) = next else {
+        *fields = [0; 5];
         return;
     };
-    let behind = feature.next;
     *fields = [
         1,
         feature.selector as u64,
@@ -119,7 +114,7 @@ fn put_feature(cursor: &mut [u64; 2], fields: &mut [u64; 5], next: NextFeature)
         feature.enable as u64,
         feature.disable as u64,
     ];
-    put_cursor(cursor, behind);
+    put_cursor(cursor, feature.next);
 }
 
 // The next feature of a list.
@@ -135,34 +130,33 @@ pub extern "C" fn aat_morx_next_feature(
 {
     let given = cursor_from(cursor);
     match chains::next_feature(table, given) {
-        FeatureReply::Next(next) => {
+        Ok(next) => {
             put_feature(cursor, fields, next);
             0
         }
-        FeatureReply::Refused(why) => answers::refusal_number(why),
+        Err(why) => u32::from(why),
     }
 }
 
 // The numbers of a subtable's head and the cursor behind it; at the end 0 each, and the cursor stays.
-fn put_subtable(cursor: &mut [u64; 2], fields: &mut [u64; 6], next: NextSubtable)
+#[tactic(auto)]
+fn put_subtable(cursor: &mut [u64; 2], fields: &mut [u64; 6], next: Option<Subtable>)
     ensures cursor { cursor.new ≡ cursor_behind_subtable next cursor.old }
     ensures fields { fields.new ≡ fields_of_subtable next }
 {
-    let NextSubtable::At(subtable) = next else {
-        *fields = [0, 0, 0, 0, 0, 0];
+    let Some(subtable) = next else {
+        *fields = [0; 6];
         return;
     };
-    let order = subtable.order;
-    let behind = subtable.next;
     *fields = [
         1,
         subtable.place as u64,
         subtable.coverage as u64,
         subtable.flags as u64,
         subtable.kind as u64,
-        chains::order_number(order) as u64,
+        chains::order_number(subtable.order) as u64,
     ];
-    put_cursor(cursor, behind);
+    put_cursor(cursor, subtable.next);
 }
 
 // The next subtable of a list of an edition.
@@ -178,11 +172,11 @@ pub fn next_subtable(
 {
     let given = cursor_from(cursor);
     match chains::next_subtable(edition, table, given) {
-        SubtableReply::Next(next) => {
+        Ok(next) => {
             put_subtable(cursor, fields, next);
             0
         }
-        SubtableReply::Refused(why) => answers::refusal_number(why),
+        Err(why) => u32::from(why),
     }
 }
 
@@ -213,6 +207,7 @@ pub extern "C" fn aat_morx_order(coverage: u32, order: &mut u32) -> u32
 }
 
 // Whether a line of this direction is turned for a subtable of this coverage.
+#[tactic(auto, unfolding(crate::specs::Cursors::reversed_number))]
 #[unsafe(no_mangle)]
 pub extern "C" fn aat_morx_should_reverse(
     coverage: u32,
@@ -223,10 +218,6 @@ pub extern "C" fn aat_morx_should_reverse(
     ensures reversed { reversed.new ≡ reversed_number coverage right_to_left }
 {
     let order = chains::order_of(coverage);
-    *reversed = if chains::should_reverse(order, right_to_left != 0) {
-        1
-    } else {
-        0
-    };
+    *reversed = u32::from(chains::should_reverse(order, right_to_left != 0));
     0
 }

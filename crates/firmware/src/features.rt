@@ -9,6 +9,7 @@ use chains::Edition;
 use morx::Choices;
 
 // The run over a line, by the table at `start` of an edition, with the features that are asked for.
+#[tactic(auto, using(crate::proofs::Stepping::numbered, crate::proofs::Stepping::kept, crate::proofs::Stepping::put), unfolding(crate::specs::Features::run_of, crate::specs::Features::leaves_of, morx::specs::Calls::run_leaves))]
 pub fn run_of(
     edition: Edition,
     table: &[u8],
@@ -40,16 +41,15 @@ pub fn run_of(
     };
     let reply = morx::run(table, start, choices, glyphs, tags, homes, *used, requests);
     *used = reply.used;
-    let answer = reply.answer;
-    if crate::steps::is_refused(answer) {
-        return answers::number(answer);
+    if !crate::steps::is_refused(reply.answer) {
+        *heads = reply.heads;
     }
-    *heads = reply.heads;
-    answers::number(answer)
+    u32::from(reply.answer)
 }
 
 // The run over a line, by the morx table at `start`, with the features that are asked for.
 #[unsafe(no_mangle)]
+#[tactic(auto, unfolding(crate::specs::Features::morx_run_with, crate::specs::Features::morx_leaves_with))]
 pub extern "C" fn aat_morx_run_with(
     table: &[u8],
     start: usize,

@@ -9,10 +9,11 @@ ghost use Rattle.anchor_machine.specs.Writes.{write_x, write_y, write_back};
 ghost use Rattle.morx.specs.Indexed as Morx;
 ghost use Rattle.kerx.specs.Indexed as Kerx;
 
-use kerning::choices::choices_of;
+use kerning::choices::Choices;
 
 // Fills an index with the classes of the extended state table at `start`, in the reading chosen, and tells where its class table begins.
 #[unsafe(no_mangle)]
+#[tactic(auto, using(crate::proofs::Indexing::fill_known))]
 pub extern "C" fn aat_index_classes(
     table: &[u8],
     start: usize,
@@ -27,12 +28,13 @@ pub extern "C" fn aat_index_classes(
     ensures start { class_start.new ≡ (fill_call table.now start (choices_of choices).reading index.old
         class_start.old).start }
 {
-    let reading = choices_of(choices).reading;
-    answers::number(indexes::fill_index(table, start, reading, index, class_start))
+    let reading = Choices::from(choices).reading;
+    u32::from(indexes::fill_index(table, start, reading, index, class_start))
 }
 
 // The pass over a line, by the morx subtable at `start` and an index of the class table that begins at `class_start`.
 #[unsafe(no_mangle)]
+#[tactic(auto, unfolding(morx::specs::Indexed::indexed_leaves))]
 pub extern "C" fn aat_morx_pass_indexed(
     table: &[u8],
     start: usize,
@@ -56,8 +58,7 @@ pub extern "C" fn aat_morx_pass_indexed(
 {
     let reply = morx::pass_indexed(table, start, glyphs, tags, homes, *used, index, class_start);
     *used = reply.used;
-    let answer = reply.answer;
-    answers::number(answer)
+    u32::from(reply.answer)
 }
 
 // The pass over a line, by the kerx subtable at `start` and the choices made, with marks anchored by an ankr table, and an index of the class table
@@ -96,8 +97,8 @@ pub extern "C" fn aat_kerx_pass_indexed(
         (line_of glyphs.now tags.now homes.now used) along.old x.old y.old back.old
         (choices_of choices).reading index.now class_start).writes back.old }
 {
-    let reading = choices_of(choices).reading;
-    answers::number(kerx::pass_indexed(
+    let reading = Choices::from(choices).reading;
+    u32::from(kerx::pass_indexed(
         table,
         ankr,
         start,

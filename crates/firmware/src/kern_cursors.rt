@@ -5,10 +5,10 @@ ghost use Rattle.kerning_lists.specs.Cursors.{start_answer, reply_answer};
 ghost use Rattle.kerning_lists.specs.Family.{list_call};
 ghost use Rattle.kern.specs.Kern.{kern};
 ghost use Rattle.kerx.specs.Kerx.{kerx};
-ghost use Rattle.firmware.specs.Steps.{flag_number};
 ghost use Rattle.firmware.specs.KernCursors.{version_from, cursor_from, cursor_slots, start_cursor, cursor_behind, fields_of, reply_cursor, reply_fields, next_after};
 
-use kerning_lists::{Cursor, ListStart, NextSubtable, SubtableReply};
+use answers::Refusal;
+use kerning_lists::{Cursor, NextSubtable};
 
 // The numbers of a cursor: the place of its next subtable, how many are left, and the list's version.
 fn put_cursor(slots: &mut [u64; 3], cursor: Cursor)
@@ -22,86 +22,77 @@ fn put_cursor(slots: &mut [u64; 3], cursor: Cursor)
 }
 
 // The version that a number says; a wider one counts as the last.
+#[tactic(auto, unfolding(crate::specs::KernCursors::version_from))]
 fn version_from(number: u64) -> u16
     ensures { result ≡ version_from number }
 {
-    if crate::steps::WIDEST < number {
-        return 0xFFFF;
-    }
-    number as u16
+    number.min(crate::steps::WIDEST) as u16
 }
 
 // The cursor that three numbers say.
+#[tactic(auto)]
 fn cursor_from(slots: &[u64; 3]) -> Cursor
     ensures { result ≡ cursor_from slots.now }
 {
-    let version = version_from(slots[2]);
     Cursor {
         place: slots[0] as usize,
         left: slots[1] as usize,
-        version,
+        version: version_from(slots[2]),
     }
 }
 
 // The cursor at a list's start, and the number of the answer.
-fn put_start(cursor: &mut [u64; 3], start: ListStart) -> u32
+fn put_start(cursor: &mut [u64; 3], start: Result<Cursor, Refusal>) -> u32
     ensures answer { result ≡ number_of (start_answer start) }
     ensures cursor { cursor.new ≡ start_cursor start cursor.old }
 {
     match start {
-        ListStart::From(first) => {
+        Ok(first) => {
             put_cursor(cursor, first);
             0
         }
-        ListStart::Refused(why) => answers::refusal_number(why),
+        Err(why) => u32::from(why),
     }
-}
-
-// The number of a flag.
-fn flag_number(flag: bool) -> u64
-    ensures { result ≡ flag_number flag }
-{
-    if flag {
-        return 1;
-    }
-    0
 }
 
 // The numbers of a subtable's head and the cursor behind it; at the end 0 each, and the cursor stays.
-fn put_subtable(cursor: &mut [u64; 3], fields: &mut [u64; 5], next: NextSubtable)
+#[tactic(auto)]
+fn put_subtable(cursor: &mut [u64; 3], fields: &mut [u64; 5], next: Option<NextSubtable>)
     ensures cursor { cursor.new ≡ cursor_behind next cursor.old }
     ensures fields { fields.new ≡ fields_of next }
 {
-    let NextSubtable::At {
-        subtable,
-        next: behind,
-    } = next
-    else {
-        *fields = [0, 0, 0, 0, 0];
+    let Some(next) = next else {
+        *fields = [0; 5];
         return;
     };
+    let subtable = next.subtable;
     *fields = [
         1,
         subtable.body as u64,
         subtable.format as u64,
-        flag_number(subtable.passed_over),
-        flag_number(subtable.turned),
+        u64::from(subtable.passed_over),
+        u64::from(subtable.turned),
     ];
-    put_cursor(cursor, behind);
+    put_cursor(cursor, next.next);
 }
 
 // What a list goes on with, and the number of the answer.
-fn put_next(cursor: &mut [u64; 3], fields: &mut [u64; 5], reply: SubtableReply) -> u32
+#[tactic(auto)]
+fn put_next(
+    cursor: &mut [u64; 3],
+    fields: &mut [u64; 5],
+    reply: Result<Option<NextSubtable>, Refusal>,
+) -> u32
     ensures answer { result ≡ number_of (reply_answer reply) }
     ensures cursor { cursor.new ≡ reply_cursor reply cursor.old }
     ensures fields { fields.new ≡ reply_fields reply fields.old }
 {
     match reply {
-        SubtableReply::Next(next) => {
+        Ok(next) => {
             put_subtable(cursor, fields, next);
             0
         }
-        SubtableReply::Refused(why) => answers::refusal_number(why),
+        Err(why) => u32::from(why),
     }
 }
 
@@ -134,8 +125,11 @@ pub extern "C" fn aat_kern_next_subtable(
     ensures cursor { cursor.new ≡ reply_cursor (next_after kern table.now cursor.old) cursor.old }
     ensures fields { fields.new ≡ reply_fields (next_after kern table.now cursor.old) fields.old }
 {
-    let given = cursor_from(cursor);
-    put_next(cursor, fields, kern::next_subtable(table, given))
+    put_next(
+        cursor,
+        fields,
+        kern::next_subtable(table, cursor_from(cursor)),
+    )
 }
 
 // The next subtable of a kerx list.
@@ -149,6 +143,9 @@ pub extern "C" fn aat_kerx_next_subtable(
     ensures cursor { cursor.new ≡ reply_cursor (next_after kerx table.now cursor.old) cursor.old }
     ensures fields { fields.new ≡ reply_fields (next_after kerx table.now cursor.old) fields.old }
 {
-    let given = cursor_from(cursor);
-    put_next(cursor, fields, kerx::next_subtable(table, given))
+    put_next(
+        cursor,
+        fields,
+        kerx::next_subtable(table, cursor_from(cursor)),
+    )
 }

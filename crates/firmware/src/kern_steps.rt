@@ -10,22 +10,24 @@ ghost use Rattle.kerning.specs.Choices.{unchosen};
 ghost use Rattle.firmware.specs.KernSteps.{no_kerning, kerning_from, kerning_slots, state_after, advance_after, kern_stepped, kerx_stepped};
 ghost use Rattle.firmware.specs.Small.{IsSmall};
 
+use answers::Refusal;
 use kerning_machine::{KerningState, KerningStep};
-use pairs::PairReply;
+use tables::lookup::Why;
 
 // Puts the number of a pair where it was lent, and answers with the reply's number.
-pub fn put_pair(reply: PairReply, value: &mut i32) -> u32
+#[tactic(auto, using(crate::proofs::KernPairs::pair_widens, crate::proofs::KernPairs::pair_answered, crate::proofs::KernPairs::pair_put))]
+pub fn put_pair(reply: Result<Result<i16, Why>, Refusal>, value: &mut i32) -> u32
     requires { IsSmall reply }
     ensures answer { result ≡ number_of (answer_of reply) }
     ensures value { value.new ≡ value_of reply value.old }
 {
     match reply {
-        PairReply::Number(number) => {
+        Ok(Ok(number)) => {
             *value = number as i32;
             0
         }
-        PairReply::Nothing(_) => 1,
-        PairReply::Refused(why) => answers::refusal_number(why),
+        Ok(Err(_)) => 1,
+        Err(why) => u32::from(why),
     }
 }
 
@@ -62,6 +64,7 @@ pub extern "C" fn aat_kerx_pair(
 }
 
 // The state that STATE refuses.
+#[tactic(auto, unfolding(laws::specs::Lists::tab))]
 fn no_kerning() -> KerningState
     ensures { result ≡ no_kerning }
 {
@@ -74,6 +77,7 @@ fn no_kerning() -> KerningState
 }
 
 // The state that eleven numbers say: state, depth, cycles, 8 places of the stack.
+#[tactic(auto, unfolding(crate::specs::KernSteps::kerning_from, laws::specs::Lists::tab))]
 pub fn kerning_from(slots: &[u64; 11]) -> KerningState
     ensures { result ≡ kerning_from slots.now }
 {
@@ -103,6 +107,7 @@ pub fn kerning_from(slots: &[u64; 11]) -> KerningState
 }
 
 // The numbers of a state: state, depth, cycles, 8 places of the stack.
+#[tactic(auto, unfolding(crate::specs::KernSteps::kerning_slots, laws::specs::Lists::tab))]
 fn put_kerning(slots: &mut [u64; 11], state: KerningState)
     ensures { slots.new ≡ kerning_slots state }
 {
@@ -123,6 +128,7 @@ fn put_kerning(slots: &mut [u64; 11], state: KerningState)
 }
 
 // Puts the state and the advance of a step where they were lent, unless it was refused, and answers with its number.
+#[tactic(auto, using(crate::proofs::KernSteps::state_put, crate::proofs::KernSteps::advance_put))]
 pub fn put_step(step: KerningStep, state: &mut [u64; 11], advance: &mut usize) -> u32
     ensures answer { result ≡ number_of step.answer }
     ensures state { state.new ≡ state_after step state.old }
@@ -130,12 +136,12 @@ pub fn put_step(step: KerningStep, state: &mut [u64; 11], advance: &mut usize) -
 {
     let answer = step.answer;
     if crate::steps::is_refused(answer) {
-        return answers::number(answer);
+        return u32::from(answer);
     }
     let after = step.state;
     put_kerning(state, after);
     *advance = step.advance;
-    answers::number(answer)
+    u32::from(answer)
 }
 
 // A lone step of kern's machine.

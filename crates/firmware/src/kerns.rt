@@ -27,7 +27,7 @@ pub extern "C" fn aat_kern_pass(
     ensures along { along.new ≡ add_all (List.pass_call kern table.now start version
         (line_of glyphs.now tags.now homes.now used) along.old unchosen).additions along.old }
 {
-    answers::number(kern::pass(table, start, version, glyphs, tags, homes, used, along))
+    u32::from(kern::pass(table, start, version, glyphs, tags, homes, used, along))
 }
 
 // The pass over a line, by the kerx subtable at `start`.
@@ -47,11 +47,12 @@ pub extern "C" fn aat_kerx_pass(
     ensures along { along.new ≡ add_all (List.pass_call kerx table.now start version
         (line_of glyphs.now tags.now homes.now used) along.old unchosen).additions along.old }
 {
-    answers::number(kerx::pass(table, start, version, glyphs, tags, homes, used, along))
+    u32::from(kerx::pass(table, start, version, glyphs, tags, homes, used, along))
 }
 
 // The run over a line, by the kern table at `start`.
 #[unsafe(no_mangle)]
+#[tactic(auto, using(crate::proofs::Stepping::numbered, crate::proofs::Stepping::kept, crate::proofs::Stepping::put, crate::proofs::Stepping::run_is))]
 pub extern "C" fn aat_kern_run(
     table: &[u8],
     start: usize,
@@ -72,14 +73,15 @@ pub extern "C" fn aat_kern_run(
     let run = kern::run(table, start, glyphs, tags, homes, used, along);
     let answer = run.answer;
     if crate::steps::is_refused(answer) {
-        return answers::number(answer);
+        return u32::from(answer);
     }
     *heads = run.heads;
-    answers::number(answer)
+    u32::from(answer)
 }
 
 // The run over a line, by the kerx table at `start`.
 #[unsafe(no_mangle)]
+#[tactic(auto, using(crate::proofs::Stepping::numbered, crate::proofs::Stepping::kept, crate::proofs::Stepping::put, crate::proofs::Stepping::run_is))]
 pub extern "C" fn aat_kerx_run(
     table: &[u8],
     start: usize,
@@ -112,8 +114,8 @@ pub extern "C" fn aat_kerx_run(
     );
     let answer = run.answer;
     if crate::steps::is_refused(answer) {
-        return answers::number(answer);
+        return u32::from(answer);
     }
     *heads = run.heads;
-    answers::number(answer)
+    u32::from(answer)
 }

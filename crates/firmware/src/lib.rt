@@ -19,9 +19,8 @@ ghost use Rattle.insertion.specs.Lone.{insert_call, insert_leaves};
 ghost use Rattle.ligature.specs.Calls.{ligature};
 ghost use Rattle.firmware.specs.Survey.{survey_answer, verdict_of, bad_record};
 
-use answers::Reply;
-use line::FreshLine;
-use tables::lookup::LookupReply;
+use answers::Refusal;
+use tables::lookup::Why;
 use tables::survey::Surveyed;
 
 mod anchored;
@@ -42,32 +41,32 @@ mod runs;
 mod steps;
 
 // Puts the value of a reply where it was lent, and answers with its number.
-fn put_reply(reply: Reply, value: &mut u32) -> u32
+fn put_reply(reply: Result<Option<u32>, Refusal>, value: &mut u32) -> u32
     ensures answer { result ≡ number_of (answer_of reply) }
     ensures value { value.new ≡ value_of reply value.old }
 {
     match reply {
-        Reply::Value(number) => {
+        Ok(Some(number)) => {
             *value = number;
             0
         }
-        Reply::Nothing => 1,
-        Reply::Refused(why) => answers::refusal_number(why),
+        Ok(None) => 1,
+        Err(why) => u32::from(why),
     }
 }
 
 // Puts the element of a lookup's reply where it was lent, and answers with the reply's number.
-pub fn put_element(reply: LookupReply, value: &mut u32) -> u32
+pub fn put_element(reply: Result<Result<u16, Why>, Refusal>, value: &mut u32) -> u32
     ensures answer { result ≡ number_of (Lookup.answer_of reply) }
     ensures value { value.new ≡ Lookup.value_of reply value.old }
 {
     match reply {
-        LookupReply::Element(element) => {
+        Ok(Ok(element)) => {
             *value = element as u32;
             0
         }
-        LookupReply::Nothing(_) => 1,
-        LookupReply::Refused(why) => answers::refusal_number(why),
+        Ok(Err(_)) => 1,
+        Err(why) => u32::from(why),
     }
 }
 
@@ -125,27 +124,26 @@ pub extern "C" fn aat_survey(table: &[u8], start: usize, verdict: &mut u32, bad:
     ensures verdict { verdict.new ≡ verdict_of (surveyed table.now start) verdict.old }
     ensures bad { bad.new ≡ bad_record (surveyed table.now start) bad.old }
 {
-    let surveyed = tables::survey::survey(table, start);
-    match surveyed {
-        Surveyed::NoRecords => {
+    match tables::survey::survey(table, start) {
+        Ok(Surveyed::NoRecords) => {
             *verdict = 0;
             0
         }
-        Surveyed::Sorted => {
+        Ok(Surveyed::Sorted) => {
             *verdict = 1;
             0
         }
-        Surveyed::Bad(index) => {
+        Ok(Surveyed::Bad(index)) => {
             *verdict = 2;
             *bad = index;
             0
         }
-        Surveyed::UnitSize(_) => {
+        Ok(Surveyed::UnitSize(_)) => {
             *verdict = 3;
             0
         }
-        Surveyed::Nothing => 1,
-        Surveyed::Refused(why) => answers::refusal_number(why),
+        Ok(Surveyed::Nothing) => 1,
+        Err(why) => u32::from(why),
     }
 }
 
@@ -162,13 +160,12 @@ pub extern "C" fn aat_fresh(
     ensures homes { homes.new ≡ (fresh_call glyphs.now tags.old homes.old).homes }
     ensures used { used.new ≡ fresh_used (fresh_call glyphs.now tags.old homes.old).reply used.old }
 {
-    let reply = line::fresh(glyphs, tags, homes);
-    match reply {
-        FreshLine::Used(count) => {
+    match line::fresh(glyphs, tags, homes) {
+        Ok(count) => {
             *used = count;
             0
         }
-        FreshLine::Refused(why) => answers::refusal_number(why),
+        Err(why) => u32::from(why),
     }
 }
 
@@ -189,7 +186,7 @@ pub extern "C" fn aat_verb(
     ensures tags { tags.new ≡ (verb_call (line_of glyphs.old tags.old homes.now used) verb start
         end).line.tags }
 {
-    answers::number(line::lone_verb(glyphs, tags, homes, used, verb, start, end))
+    u32::from(line::lone_verb(glyphs, tags, homes, used, verb, start, end))
 }
 
 // Inserts glyphs that lie in the table from `start` on at a place of a line.
@@ -215,8 +212,7 @@ pub extern "C" fn aat_insert(
 {
     let inserted = insertion::insert(table, start, count, glyphs, tags, homes, *used, place);
     *used = inserted.used;
-    let answer = inserted.answer;
-    answers::number(answer)
+    u32::from(inserted.answer)
 }
 
 // The rearrangement pass over a line, by the subtable at `start`.
@@ -236,7 +232,7 @@ pub extern "C" fn aat_rearrangement_pass(
     ensures tags { tags.new ≡ (call_leaves (subtable_of rearrangement) table.now start
         (line_of glyphs.old tags.old homes.now used)).tags }
 {
-    answers::number(rearrangement::pass(table, start, glyphs, tags, homes, used))
+    u32::from(rearrangement::pass(table, start, glyphs, tags, homes, used))
 }
 
 // The non-contextual pass over a line, by the subtable at `start`.
@@ -254,7 +250,7 @@ pub extern "C" fn aat_noncontextual_pass(
     ensures glyphs { glyphs.new ≡ (call_leaves noncontextual table.now start
         (line_of glyphs.old tags.now homes.now used)).glyphs }
 {
-    answers::number(noncontextual::pass(table, start, glyphs, tags, homes, used))
+    u32::from(noncontextual::pass(table, start, glyphs, tags, homes, used))
 }
 
 // The contextual pass over a line, by the subtable at `start`.
@@ -272,7 +268,7 @@ pub extern "C" fn aat_contextual_pass(
     ensures glyphs { glyphs.new ≡ (call_leaves (subtable_of contextual) table.now start
         (line_of glyphs.old tags.now homes.now used)).glyphs }
 {
-    answers::number(contextual::pass(table, start, glyphs, tags, homes, used))
+    u32::from(contextual::pass(table, start, glyphs, tags, homes, used))
 }
 
 // The insertion pass over a line, by the subtable at `start`.
@@ -296,8 +292,7 @@ pub extern "C" fn aat_insertion_pass(
 {
     let passed = insertion::pass(table, start, glyphs, tags, homes, *used);
     *used = passed.used;
-    let answer = passed.answer;
-    answers::number(answer)
+    u32::from(passed.answer)
 }
 
 // The ligature pass over a line, by the subtable at `start`.
@@ -317,5 +312,5 @@ pub extern "C" fn aat_ligature_pass(
     ensures homes { homes.new ≡ (call_leaves (subtable_of ligature) table.now start
         (line_of glyphs.old tags.now homes.old used)).homes }
 {
-    answers::number(ligature::pass(table, start, glyphs, tags, homes, used))
+    u32::from(ligature::pass(table, start, glyphs, tags, homes, used))
 }

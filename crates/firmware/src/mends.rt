@@ -19,5 +19,5 @@ pub extern "C" fn aat_mend(
         start).numbers }
     ensures size { size.new ≡ (mend_call buffer.old numbers.old size.old table.now start).size }
 {
-    answers::number(mend::mend(table, start, buffer, numbers, size))
+    u32::from(mend::mend(table, start, buffer, numbers, size))
 }

@@ -67,6 +67,7 @@ pub extern "C" fn aat_mort_pass(
 
 // The run over a line, by the mort table at `start`, with the features that are asked for.
 #[unsafe(no_mangle)]
+#[tactic(auto, unfolding(crate::specs::Features::mort_run, crate::specs::Features::mort_leaves))]
 pub extern "C" fn aat_mort_run(
     table: &[u8],
     start: usize,

@@ -7,10 +7,10 @@ ghost use Rattle.pairs.specs.Reply as Pair;
 ghost use Rattle.kerning_lists.specs.Family as List;
 ghost use Rattle.kern.specs.Kern.{kern};
 ghost use Rattle.kerx.specs.Kerx.{kerx};
-ghost use Rattle.firmware.specs.Reasons.{why_number, lookup_why, pair_why};
+ghost use Rattle.firmware.specs.Reasons.{why_number, why_of, lookup_why, pair_why};
 
-use pairs::PairReply;
-use tables::lookup::{LookupReply, Why};
+use answers::Refusal;
+use tables::lookup::Why;
 
 // The number of a reason.
 fn why_number(why: Why) -> u32
@@ -23,25 +23,12 @@ fn why_number(why: Why) -> u32
     }
 }
 
-// Puts the reason of a lookup's reply where it was lent.
-fn put_lookup_why(reply: LookupReply, why: &mut u32)
-    ensures { why.new ≡ lookup_why reply why.old }
+// Puts the reason of a lookup's or a pair's reply where it was lent.
+fn put_why<T: Copy>(reply: Result<Result<T, Why>, Refusal>, why: &mut u32)
+    ensures { why.new ≡ why_of reply why.old }
 {
-    match reply {
-        LookupReply::Element(_) => {}
-        LookupReply::Nothing(reason) => *why = why_number(reason),
-        LookupReply::Refused(_) => {}
-    }
-}
-
-// Puts the reason of a pair's reply where it was lent.
-fn put_pair_why(reply: PairReply, why: &mut u32)
-    ensures { why.new ≡ pair_why reply why.old }
-{
-    match reply {
-        PairReply::Number(_) => {}
-        PairReply::Nothing(reason) => *why = why_number(reason),
-        PairReply::Refused(_) => {}
+    if let Ok(Err(reason)) = reply {
+        *why = why_number(reason);
     }
 }
 
@@ -59,7 +46,7 @@ pub extern "C" fn aat_lookup_why(
     ensures why { why.new ≡ lookup_why (lookup_reply table.now start glyph) why.old }
 {
     let reply = tables::lookup::lookup(table, start, glyph);
-    put_lookup_why(reply, why);
+    put_why(reply, why);
     crate::put_element(reply, value)
 }
 
@@ -79,7 +66,7 @@ pub extern "C" fn aat_kern_pair_why(
     ensures why { why.new ≡ pair_why (List.pair_call kern table.now start version left right) why.old }
 {
     let reply = kern::pair(table, start, version, left, right);
-    put_pair_why(reply, why);
+    put_why(reply, why);
     crate::kern_steps::put_pair(reply, value)
 }
 
@@ -99,6 +86,6 @@ pub extern "C" fn aat_kerx_pair_why(
     ensures why { why.new ≡ pair_why (List.pair_call kerx table.now start version left right) why.old }
 {
     let reply = kerx::pair(table, start, version, left, right);
-    put_pair_why(reply, why);
+    put_why(reply, why);
     crate::kern_steps::put_pair(reply, value)
 }

@@ -4,8 +4,6 @@ ghost use Rattle.answers.specs.Numbers.{number_of};
 ghost use Rattle.line.specs.Line.{line_of};
 ghost use Rattle.stored.specs.Entries.{store_call, store_answer, store_size, newest_version, read_call, read_answer, read_used, read_characters};
 
-use stored::{ReadLine, StoredLine};
-
 // Writes the record of a line to the buffer's start.
 #[unsafe(no_mangle)]
 pub extern "C" fn aat_store_line(
@@ -23,13 +21,12 @@ pub extern "C" fn aat_store_line(
     ensures size { size.new ≡ store_size (store_call (line_of glyphs.now tags.now homes.now used)
         buffer.old).reply size.old }
 {
-    let reply = stored::store_line(glyphs, tags, homes, used, buffer);
-    match reply {
-        StoredLine::Size(count) => {
+    match stored::store_line(glyphs, tags, homes, used, buffer) {
+        Ok(count) => {
             *size = count;
             0
         }
-        StoredLine::Refused(why) => answers::refusal_number(why),
+        Err(why) => u32::from(why),
     }
 }
 
@@ -56,13 +53,12 @@ pub extern "C" fn aat_read_line(
     ensures characters { characters.new ≡ read_characters (read_call newest_version bytes.now glyphs.old tags.old
         homes.old).reply characters.old }
 {
-    let reply = stored::read_line(bytes, glyphs, tags, homes);
-    match reply {
-        ReadLine::Lengths(lengths) => {
+    match stored::read_line(bytes, glyphs, tags, homes) {
+        Ok(lengths) => {
             *used = lengths.used;
             *characters = lengths.characters;
             0
         }
-        ReadLine::Refused(why) => answers::refusal_number(why),
+        Err(why) => u32::from(why),
     }
 }

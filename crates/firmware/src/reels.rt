@@ -9,6 +9,7 @@ use morx::Choices;
 
 // The run of every line of a reel, by the morx table at `start`, with the features that are asked for.
 #[unsafe(no_mangle)]
+#[tactic(auto, unfolding(crate::specs::Reels::morx_reel, crate::specs::Features::morx_run_with, crate::specs::Features::run_of, reel::specs::Morx::table_leaves))]
 pub extern "C" fn aat_morx_reel(
     table: &[u8],
     start: usize,
@@ -48,15 +49,15 @@ pub extern "C" fn aat_morx_reel(
         right_to_left: right_to_left != 0,
         edition: Edition::Morx,
     };
-    let answer = reel::run(
+    u32::from(reel::run(
         table, start, choices, requests, rooms, characters, used, answers, heads, glyphs, tags,
         homes,
-    );
-    answers::number(answer)
+    ))
 }
 
 // The run of every line of a reel, by the mort table at `start`, with the features that are asked for.
 #[unsafe(no_mangle)]
+#[tactic(auto, unfolding(crate::specs::Reels::mort_reel, crate::specs::Features::mort_run, crate::specs::Features::run_of, reel::specs::Morx::table_leaves))]
 pub extern "C" fn aat_mort_reel(
     table: &[u8],
     start: usize,
@@ -96,9 +97,8 @@ pub extern "C" fn aat_mort_reel(
         right_to_left: right_to_left != 0,
         edition: Edition::Mort,
     };
-    let answer = reel::run(
+    u32::from(reel::run(
         table, start, choices, requests, rooms, characters, used, answers, heads, glyphs, tags,
         homes,
-    );
-    answers::number(answer)
+    ))
 }

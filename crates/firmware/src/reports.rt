@@ -34,8 +34,7 @@ pub extern "C" fn aat_kerning_report(
         glyphs.now tags.now homes.now along.now)
         (page_of sums.old largest.old smallest.old totals.old)).totals }
 {
-    let answer = report::report(
+    u32::from(report::report(
         rooms, characters, used, glyphs, tags, homes, along, sums, largest, smallest, totals,
-    );
-    answers::number(answer)
+    ))
 }

@@ -10,6 +10,7 @@ use chains::Edition;
 use morx::Choices;
 
 // The pass over a line, by the subtable at `start` of an edition, of whatever kind.
+#[tactic(auto, unfolding(machine::specs::Machine::call_leaves))]
 pub fn pass_of(
     edition: Edition,
     table: &[u8],
@@ -32,8 +33,7 @@ pub fn pass_of(
 {
     let reply = morx::pass(edition, table, start, glyphs, tags, homes, *used);
     *used = reply.used;
-    let answer = reply.answer;
-    answers::number(answer)
+    u32::from(reply.answer)
 }
 
 // The pass over a line, by the morx subtable at `start`, of whatever kind.
@@ -62,6 +62,7 @@ pub extern "C" fn aat_morx_pass(
 
 // The run over a line, by the morx table at `start`.
 #[unsafe(no_mangle)]
+#[tactic(auto, using(crate::proofs::Stepping::numbered, crate::proofs::Stepping::kept, crate::proofs::Stepping::put), unfolding(crate::specs::Runs::morx_run, crate::specs::Runs::morx_leaves, crate::specs::Features::morx_run_with, crate::specs::Features::morx_leaves_with, crate::specs::Features::run_of, crate::specs::Features::leaves_of, morx::specs::Calls::run_leaves))]
 pub extern "C" fn aat_morx_run(
     table: &[u8],
     start: usize,
@@ -91,10 +92,8 @@ pub extern "C" fn aat_morx_run(
     };
     let reply = morx::run(table, start, choices, glyphs, tags, homes, *used, &[]);
     *used = reply.used;
-    let answer = reply.answer;
-    if crate::steps::is_refused(answer) {
-        return answers::number(answer);
+    if !crate::steps::is_refused(reply.answer) {
+        *heads = reply.heads;
     }
-    *heads = reply.heads;
-    answers::number(answer)
+    u32::from(reply.answer)
 }

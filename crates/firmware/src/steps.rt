@@ -1,5 +1,5 @@
 // The exported steps: a state crosses as numbers, and comes back in the same place.
-ghost use Rattle.std.specs.Prelude.{◌≡◌, ◌+◌, ◌≤◌, true, length};
+ghost use Rattle.std.specs.Prelude.{◌≡◌, ◌+◌, ◌≤◌, true, length, None};
 ghost use Rattle.answers.specs.Numbers.{number_of};
 ghost use Rattle.line.specs.Line.{line_of};
 ghost use Rattle.firmware.specs.Steps.{is_refused, no_rearrangement, rearrangement_from, window_slots, rearrangement_stepped, flag_number, no_context, contextual_from, contextual_stepped, contextual_leaves};
@@ -10,7 +10,7 @@ ghost use Rattle.std.proofs.Math.Seq.{paste};
 
 use answers::Answer;
 use contextual::ContextualState;
-use insertion::{Inserted, InsertionState};
+use insertion::{Insertion, InsertionState};
 use ligature::LigatureState;
 use rearrangement::{RearrangementState, Window};
 
@@ -30,14 +30,7 @@ const NUMBERS: usize = GLYPHS + SLOTS;
 pub fn is_refused(answer: Answer) -> bool
     ensures { result ≡ is_refused answer }
 {
-    match answer {
-        Answer::Refused(_) => true,
-        Answer::Done => false,
-        Answer::Nothing => false,
-        Answer::Full => false,
-        Answer::Ended => false,
-        Answer::Limit => false,
-    }
+    matches!(answer, Answer::Refused(_))
 }
 
 // The state that STATE refuses.
@@ -53,6 +46,7 @@ fn no_rearrangement() -> RearrangementState
 }
 
 // The state that four numbers say: state, first, last, cycles.
+#[tactic(auto, unfolding(crate::specs::Steps::rearrangement_from))]
 fn rearrangement_from(slots: &[u64; 4]) -> RearrangementState
     ensures { result ≡ rearrangement_from slots.now }
 {
@@ -73,18 +67,19 @@ fn rearrangement_from(slots: &[u64; 4]) -> RearrangementState
 }
 
 // The numbers of a window: first, last, verb; without an edit 0 each.
-fn put_window(slots: &mut [u64; 3], window: Window)
+#[tactic(auto)]
+fn put_window(slots: &mut [u64; 3], window: Option<Window>)
     ensures { slots.new ≡ window_slots window }
 {
-    let Window::At { first, last, verb } = window else {
-        *slots = [0, 0, 0];
-        return;
+    *slots = match window {
+        Some(window) => [window.first as u64, window.last as u64, window.verb as u64],
+        None => [0; 3],
     };
-    *slots = [first as u64, last as u64, verb as u64];
 }
 
 // A lone step of the rearrangement machine.
 #[unsafe(no_mangle)]
+#[tactic(auto, using(crate::proofs::Stepping::numbered, crate::proofs::Stepping::kept, crate::proofs::Stepping::put, crate::proofs::Stepping::rearrangement_is))]
 pub extern "C" fn aat_rearrangement_step(
     state: &mut [u64; 4],
     table: &[u8],
@@ -108,7 +103,7 @@ pub extern "C" fn aat_rearrangement_step(
     let step = given.step(table, start, used, index, glyph, ends != 0);
     let answer = step.answer;
     if is_refused(answer) {
-        return answers::number(answer);
+        return u32::from(answer);
     }
     let after = step.state;
     *state = [
@@ -118,16 +113,8 @@ pub extern "C" fn aat_rearrangement_step(
         after.cycles as u64,
     ];
     *advance = step.advance;
-    let edit = step.edit;
-    put_window(window, edit);
-    answers::number(answer)
-}
-
-// A flag as a number.
-fn flag_number(flag: bool) -> u64
-    ensures { result ≡ flag_number flag }
-{
-    if flag { 1 } else { 0 }
+    put_window(window, step.edit);
+    u32::from(answer)
 }
 
 // The state that STATE refuses: its mark is above every length.
@@ -143,6 +130,7 @@ fn no_context() -> ContextualState
 }
 
 // The state that four numbers say: state, whether a mark is set, its place, its glyph.
+#[tactic(auto, unfolding(crate::specs::Steps::contextual_from))]
 fn contextual_from(slots: &[u64; 4]) -> ContextualState
     ensures { result ≡ contextual_from slots.now }
 {
@@ -204,17 +192,17 @@ pub extern "C" fn aat_contextual_step(
     );
     let answer = step.answer;
     if is_refused(answer) {
-        return answers::number(answer);
+        return u32::from(answer);
     }
     let after = step.state;
     *state = [
         after.state as u64,
-        flag_number(after.mark_set),
+        u64::from(after.mark_set),
         after.mark_index as u64,
         after.mark_id as u64,
     ];
     *advance = step.advance;
-    answers::number(answer)
+    u32::from(answer)
 }
 
 // The state that STATE refuses.
@@ -229,6 +217,7 @@ fn no_insertion() -> InsertionState
 }
 
 // The state that three numbers say: state, mark, cycles.
+#[tactic(auto, unfolding(crate::specs::Steps::insertion_from))]
 fn insertion_from(slots: &[u64; 3]) -> InsertionState
     ensures { result ≡ insertion_from slots.now }
 {
@@ -248,56 +237,52 @@ fn insertion_from(slots: &[u64; 3]) -> InsertionState
 }
 
 // The numbers of one insertion, the other places 0.
-fn put_insertion(slots: &mut [u64; 7], edit: Inserted)
-    ensures { slots.new ≡ edit_slots edit Inserted.None }
+#[tactic(auto, unfolding(crate::specs::Steps::edit_slots))]
+fn put_insertion(slots: &mut [u64; 7], edit: Option<Insertion>)
+    ensures { slots.new ≡ edit_slots edit None }
 {
-    let Inserted::At {
-        place,
-        count,
-        glyphs,
-    } = edit
-    else {
-        *slots = [0, 0, 0, 0, 0, 0, 0];
+    let Some(edit) = edit else {
+        *slots = [0; 7];
         return;
     };
-    *slots = [1, place as u64, count as u64, glyphs as u64, 0, 0, 0];
+    *slots = [
+        1,
+        edit.place as u64,
+        edit.count as u64,
+        edit.glyphs as u64,
+        0,
+        0,
+        0,
+    ];
 }
 
 // The numbers of a step's insertions: how many, then for each its place, its count and where its glyphs lie.
-fn put_insertions(slots: &mut [u64; 7], marked: Inserted, current: Inserted)
+#[tactic(auto, using(crate::proofs::Stepping::one_edit), unfolding(crate::specs::Steps::edit_slots))]
+fn put_insertions(slots: &mut [u64; 7], marked: Option<Insertion>, current: Option<Insertion>)
     ensures { slots.new ≡ edit_slots marked current }
 {
-    let Inserted::At {
-        place,
-        count,
-        glyphs,
-    } = marked
-    else {
+    let Some(first) = marked else {
         put_insertion(slots, current);
         return;
     };
-    let Inserted::At {
-        place: place2,
-        count: count2,
-        glyphs: glyphs2,
-    } = current
-    else {
+    let Some(second) = current else {
         put_insertion(slots, marked);
         return;
     };
     *slots = [
         2,
-        place as u64,
-        count as u64,
-        glyphs as u64,
-        place2 as u64,
-        count2 as u64,
-        glyphs2 as u64,
+        first.place as u64,
+        first.count as u64,
+        first.glyphs as u64,
+        second.place as u64,
+        second.count as u64,
+        second.glyphs as u64,
     ];
 }
 
 // A lone step of the insertion machine.
 #[unsafe(no_mangle)]
+#[tactic(auto, using(crate::proofs::Stepping::numbered, crate::proofs::Stepping::kept, crate::proofs::Stepping::put, crate::proofs::Stepping::insertion_is))]
 pub extern "C" fn aat_insertion_step(
     state: &mut [u64; 3],
     table: &[u8],
@@ -322,18 +307,17 @@ pub extern "C" fn aat_insertion_step(
     let step = given.step(table, start, used, room, index, glyph, ends != 0);
     let answer = step.answer;
     if is_refused(answer) {
-        return answers::number(answer);
+        return u32::from(answer);
     }
     let after = step.state;
     *state = [after.state as u64, after.mark as u64, after.cycles as u64];
     *advance = step.advance;
-    let marked = step.marked;
-    let current = step.current;
-    put_insertions(edits, marked, current);
-    answers::number(answer)
+    put_insertions(edits, step.marked, step.current);
+    u32::from(answer)
 }
 
 // The state that STATE refuses: more slots are used than there are.
+#[tactic(auto, unfolding(laws::specs::Lists::tab))]
 fn no_ligature() -> LigatureState
     ensures { result ≡ no_ligature }
 {
@@ -350,12 +334,10 @@ fn are_glyphs(slots: &[u64; NUMBERS], from: usize) -> bool
     requires { from ≤ glyphs_begin }
     ensures { result ≡ are_glyphs slots.now from }
 {
-    let mut slot = 0;
-    while slot < SLOTS {
+    for slot in 0..SLOTS {
         if WIDEST < slots[from + slot] {
             return false;
         }
-        slot += 1;
     }
     true
 }
@@ -365,10 +347,8 @@ fn places_from(slots: &[u64; NUMBERS]) -> [usize; SLOTS]
     ensures { result ≡ slots_from slots.now places_begin }
 {
     let mut places = [0; SLOTS];
-    let mut slot = 0;
-    while slot < SLOTS {
+    for slot in 0..SLOTS {
         places[slot] = slots[PLACES + slot] as usize;
-        slot += 1;
     }
     places
 }
@@ -379,15 +359,14 @@ fn glyphs_from(slots: &[u64; NUMBERS]) -> [u16; SLOTS]
     ensures { result ≡ slots_from slots.now glyphs_begin }
 {
     let mut glyphs = [0; SLOTS];
-    let mut slot = 0;
-    while slot < SLOTS {
+    for slot in 0..SLOTS {
         glyphs[slot] = slots[GLYPHS + slot] as u16;
-        slot += 1;
     }
     glyphs
 }
 
 // The state that numbers say.
+#[tactic(auto, unfolding(crate::specs::Steps::ligature_from))]
 fn ligature_from(slots: &[u64; NUMBERS]) -> LigatureState
     ensures { result ≡ ligature_from slots.now }
 {
@@ -411,10 +390,8 @@ fn put_places(slots: &mut [u64], from: usize, places: &[usize])
     requires { (from + slot_count ≤ length slots.old) × (length places.now ≡ slot_count) }
     ensures { slots.new ≡ paste slots.old from places.now slot_count }
 {
-    let mut slot = 0;
-    while slot < SLOTS {
+    for slot in 0..SLOTS {
         slots[from + slot] = places[slot] as u64;
-        slot += 1;
     }
 }
 
@@ -428,23 +405,20 @@ fn put_glyphs(slots: &mut [u64], from: usize, glyphs: &[u16])
     requires { (from + slot_count ≤ length slots.old) × (length glyphs.now ≡ slot_count) }
     ensures { slots.new ≡ paste slots.old from glyphs.now slot_count }
 {
-    let mut slot = 0;
-    while slot < SLOTS {
+    for slot in 0..SLOTS {
         slots[from + slot] = wide(glyphs[slot]);
-        slot += 1;
     }
 }
 
 // The numbers of a state.
+#[tactic(auto, using(crate::proofs::Stepping::put_both))]
 fn put_ligature(slots: &mut [u64; NUMBERS], state: LigatureState)
     ensures { slots.new ≡ ligature_slots slots.old state }
 {
     slots[0] = state.state as u64;
     slots[1] = state.depth as u64;
-    let places = state.places;
-    let glyphs = state.glyphs;
-    put_places(slots, PLACES, &places);
-    put_glyphs(slots, GLYPHS, &glyphs);
+    put_places(slots, PLACES, &state.places);
+    put_glyphs(slots, GLYPHS, &state.glyphs);
 }
 
 // A lone step of the ligature machine.
@@ -487,10 +461,10 @@ pub extern "C" fn aat_ligature_step(
     );
     let answer = step.answer;
     if is_refused(answer) {
-        return answers::number(answer);
+        return u32::from(answer);
     }
     let after = step.state;
     put_ligature(state, after);
     *advance = step.advance;
-    answers::number(answer)
+    u32::from(answer)
 }

@@ -1,18 +1,13 @@
 -- Laws of the classes by an index, and of its tests.
-use Prim.Native.Nat.{ℕ, ◌+◌, ◌-◌, ◌<◌, ◌≤◌}
-use mathlib.Core.Path.{◌≡◌, refl, sym, ◌∙◌, ap}
-use mathlib.Core.Bool.{Bool, true, false, not}
+use Prim.Native.Nat.{ℕ, ◌<◌, ◌≤◌}
+use mathlib.Core.Path.{◌≡◌, sym, ◌∙◌, ap}
+use mathlib.Core.Bool.{Bool, true, false}
 use mathlib.Core.List.{List}
 use native.Mathlib.Omega.{arith}
-use lib.Dec.{eqb}
 use lib.ListN.{length, get_or}
-use borrow.Author.Tests.{lt-ltb, le-ltb, eq-eqb, ne_eqb, eqb-true, eqb-false}
 use Rattle.laws.proofs.Choices.{if_lt_yes, if_lt_no}
 use Rattle.laws.proofs.Numbers.{lt-or-ge}
 use mathlib.Core.Logic.{⊎_elim}
-use Rattle.parse.specs.Reads.{read_u32}
-use Rattle.parse.specs.declared.ReadU32.{ReadU32}
-use Rattle.parse.specs.declared.ReadU32.TheVariants as U32
 use Rattle.state_tables.specs.declared.States.{States}
 use Rattle.state_tables.specs.declared.opened.Classes.{Classes}
 use Rattle.state_tables.specs.Classes.{class_of}
@@ -20,7 +15,7 @@ use Rattle.state_tables.specs.Opened.{opened_classes, class_by}
 use Rattle.state_tables.proofs.Openings.{classes-same}
 use Rattle.machine.specs.Machine.{Machine}
 use Rattle.machine.specs.Entry.{class_here}
-use Rattle.indexes.specs.Index.{classes_by, indexed, index_limit, index_test, is_another}
+use Rattle.indexes.specs.Index.{classes_by, indexed}
 
 module _ (index : List ℕ) (classes : ℕ → ℕ) (glyph : ℕ) where
   pub by_index : glyph < length index → get_or index glyph 0 ≡ classes_by index classes glyph
@@ -77,45 +72,3 @@ pub opened-index : (index bytes : List ℕ) (states : States) {opened : Classes}
     → classes_by index (class_by bytes opened) ≡ classes_by index (class_of bytes states)
 opened-index index bytes states {opened} o =
     ap (λ (t : Classes). classes_by index (class_by bytes t)) o ∙ ap (classes_by index) (λ i glyph. classes-same bytes states glyph i)
-
--- INDEX
-module _ (entries : ℕ) (another : Bool) where
-  pub refused_many : index_limit < entries → true ≡ (index_test entries another).holds
-  unfolding index_test
-  refused_many h = rw (lt-ltb _ _ h)
-
-  pub refused_by : entries ≤ index_limit → another ≡ (index_test entries another).holds
-  unfolding index_test
-  refused_by h = rw (le-ltb _ _ h)
-
-has_some : (has : Bool) → not has ≡ false → has ≡ true
-has_some true e = refl
-has_some false e = sym e
-
-module _ (has : Bool) (body : List ℕ) (start class_start : ℕ) where
-  pub another-none : not has ≡ true → true ≡ is_another has body start class_start
-  unfolding is_another
-  another-none e = go has e
-    where
-      go : (b : Bool) → not b ≡ true → true ≡ is_another b body start class_start
-      go false e = refl
-      go true e = absurd (let z : ◌≡◌ {A = ℕ} 0 1 = cc in omega arith)
-
-  module _ {read : ReadU32} (h : not has ≡ false) (r : read ≡ read_u32 body 4) where
-    pub another_unread : read ≡ U32.Short → true ≡ is_another has body start class_start
-    unfolding is_another
-    another_unread e = rw (has_some has h, sym r ∙ e, is_another)
-
-    module _ {offset : ℕ} (e : read ≡ U32.Got offset) where
-      pub another-below : class_start < start → true ≡ is_another has body start class_start
-      unfolding is_another
-      another-below l = rw (has_some has h, sym r ∙ e, ne_eqb class_start (start + 12 + offset) (λ p. omega (arith, p, l)), is_another)
-
-      pub another-told : start ≤ class_start → not (eqb (class_start - start) (12 + offset)) ≡ is_another has body start class_start
-      unfolding is_another
-      another-told l = rw (has_some has h, sym r ∙ e, is_another) (ap not (go (eqb (class_start - start) (12 + offset)) refl))
-        where
-          go : (b : Bool) → eqb (class_start - start) (12 + offset) ≡ b → b ≡ eqb class_start (start + 12 + offset)
-          go true t = sym (eq-eqb class_start (start + 12 + offset) (omega (arith, eqb-true (class_start - start) (12 + offset) t, l)))
-          go false t =
-              sym (ne_eqb class_start (start + 12 + offset) (λ p. eqb-false (class_start - start) (12 + offset) t (omega (arith, p, l))))

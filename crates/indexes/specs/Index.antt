@@ -1,5 +1,5 @@
 -- An index kept beside a class table: a class for each glyph below its length.
-use Rattle.std.specs.Prelude.{ℕ, ◌+◌, Bool, true, false, not, List, [], ◌∷◌, ltb, eqb, length, get_or, drop}
+use Rattle.std.specs.Prelude.{ℕ, ◌+◌, Bool, true, false, not, List, [], ◌∷◌, ltb, eqb, length, get_or, drop, Option, Some, None, Result, Ok, Err}
 use Rattle.laws.specs.Choose.{if_lt}
 use Rattle.laws.specs.Lists.{either, tab}
 use Rattle.answers.specs.Refuse.{Test, refuse, table_test}
@@ -7,16 +7,12 @@ use Rattle.answers.specs.declared.Answer.{Answer}
 use Rattle.answers.specs.declared.Answer.TheVariants as Answer'
 use Rattle.answers.specs.declared.Refusal.{Refusal}
 use Rattle.answers.specs.declared.Refusal.TheVariants as Refusal'
-use Rattle.answers.specs.declared.Check.{Check}
-use Rattle.answers.specs.declared.Check.TheVariants as Check'
 use Rattle.parse.specs.Reads.{read_u32}
 use Rattle.parse.specs.Use.{on_u32}
 use Rattle.tables.specs.declared.units.Reading.{Reading}
 use Rattle.state_tables.specs.Classes.{class_of, head_test}
 use Rattle.state_tables.specs.States.{extended_by}
 use Rattle.state_tables.specs.declared.States.{States}
-use Rattle.state_tables.specs.declared.Made.{Made}
-use Rattle.state_tables.specs.declared.Made.TheVariants.{Ready, Short}
 use Rattle.machine.specs.Machine.{Machine}
 
 -- the classes by an index: its number for a glyph below its length, and otherwise the class that the glyph has
@@ -62,24 +58,24 @@ abbrev pub refused_fill : (index : List ℕ) → (was : ℕ) → Refusal → Fil
 refused_fill index was why = record { answer = Answer'.Refused why; index = index; start = was }
 
 -- by the state table at `start`; without a head the call is refused before, so that HEAD here is never reached
-unfoldable pub filled_by : List ℕ → (start : ℕ) → Made → (index : List ℕ) → (was : ℕ) → Filled
-filled_by bytes start (Ready states) index was =
+unfoldable pub filled_by : List ℕ → (start : ℕ) → Option States → (index : List ℕ) → (was : ℕ) → Filled
+filled_by bytes start (Some states) index was =
     on_u32 (read_u32 bytes 4)
     (λ offset. record { answer = Answer'.Done; index = classes_below bytes states (length index); start = start + offset })
     (refused_fill index was Refusal'.Head)
-filled_by bytes start Short index was = refused_fill index was Refusal'.Head
+filled_by bytes start None index was = refused_fill index was Refusal'.Head
 
-abbrev pub unless_refused : Check → (index : List ℕ) → (was : ℕ) → Filled → Filled
-unless_refused Check'.Passed index was filled = filled
-unless_refused (Check'.Refused why) index was filled = refused_fill index was why
+abbrev pub unless_refused : Result Unit Refusal → (index : List ℕ) → (was : ℕ) → Filled → Filled
+unless_refused (Ok tt) index was filled = filled
+unless_refused (Err why) index was filled = refused_fill index was why
 
 -- TABLE, HEAD, INDEX
-unfoldable pub fill_tests : (table_length start entries : ℕ) → Made → List Test
+unfoldable pub fill_tests : (table_length start entries : ℕ) → Option States → List Test
 fill_tests table_length start entries made = table_test table_length ∷ head_test table_length start made ∷ index_test entries false ∷ []
 
 -- a call that fills an index by the extended state table at `start`, in a reading
 unfoldable pub fill_call : List ℕ → (start : ℕ) → Reading → (index : List ℕ) → (was : ℕ) → Filled
 fill_call table start reading index was =
     let bytes : List ℕ = drop start table in
-    let made : Made = extended_by reading bytes in
+    let made : (Option States) = extended_by reading bytes in
     unless_refused (refuse (fill_tests (length table) start (length index) made)) index was (filled_by bytes start made index was)

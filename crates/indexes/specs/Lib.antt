@@ -1,2 +1,3 @@
 -- Indexes of classes.
 pub mod Index
+pub mod Work

@@ -1,6 +1,6 @@
 -- What an entry that the pass has found does is the step; and one that is quiet leads to its state alone.
-use Prim.Native.Nat.{ℕ, ◌+◌, ◌≤◌}
-use lib.ListN.{length}
+use Rattle.std.specs.Prelude.{Option, Some, None}
+use Prim.Native.Nat.{ℕ, ◌+◌}
 use mathlib.Core.Path.{◌≡◌, sym, ◌∙◌, ap}
 use mathlib.Core.Bool.{Bool, true, false, not}
 use mathlib.Core.List.{List}
@@ -15,24 +15,21 @@ use Rattle.state_tables.specs.Entries.{entry_of}
 use Rattle.state_tables.specs.Opened.{opened_classes, class_by}
 use Rattle.state_tables.specs.declared.States.{States}
 use Rattle.state_tables.specs.declared.entries.Entry.{Entry}
-use Rattle.state_tables.specs.declared.entries.Entered.{Entered}
-use Rattle.state_tables.specs.declared.entries.Entered.TheVariants as Entered'
 use Rattle.state_tables.specs.declared.opened.Classes.{Classes}
 use Rattle.machine.specs.Entry.{class_here}
 use Rattle.machine.specs.Stall.{stalled}
 use Rattle.indexes.specs.Index.{classes_by}
-use Rattle.indexes.proofs.Laws.{opened-index, here_past}
+use Rattle.indexes.proofs.Laws.{opened-index}
 use Rattle.insertion.specs.Lists.{glyph_list, entered_by}
 use Rattle.insertion.specs.Insertion.{stopped, finished, after_marked, acted, next}
 use Rattle.insertion.specs.Work.{is_quiet, led_by}
-use Rattle.insertion.specs.declared.Inserted.TheVariants as Inserted'
 use Rattle.insertion.specs.declared.InsertionState.{InsertionState}
 use Rattle.insertion.specs.declared.InsertionStep.{InsertionStep}
 
 -- a step that inserts nothing and advances
 abbrev pub quiet_step : InsertionState → Entry → (place : ℕ) → InsertionStep
 quiet_step s entry place =
-    record { answer = Answer'.Done; state = led_by s entry place; advance = 1; marked = Inserted'.None; current = Inserted'.None }
+    record { answer = Answer'.Done; state = led_by s entry place; advance = 1; marked = None; current = None }
 
 module _ (bytes : List ℕ) (s : InsertionState) (entry : Entry) (place used room : ℕ) where
   pub quiet_acts : is_quiet bytes entry ≡ true → acted bytes s entry place used room ≡ quiet_step s entry place
@@ -44,14 +41,9 @@ module _ (bytes : List ℕ) (s : InsertionState) (entry : Entry) (place used roo
       let goes : is_set entry.flags 0x4000 ≡ false = not-true _ (both_left _ _ e) in
       rw (current, marked, goes)
 
--- past the index a class is what it was, and the end of text is none
-pub still_past : (index : List ℕ) (classes : ℕ → ℕ) (glyph : ℕ) (ends : Bool) → ends ≡ false → length index ≤ glyph
-    → class_here classes glyph ends ≡ class_here (classes_by index classes) glyph ends
-still_past index classes glyph ends e h = ap (class_here classes glyph) e ∙ here_past index classes glyph ends e h
-
 -- what the code reads at a place: a class, then an entry
 module _ (index bytes : List ℕ) (states : States) (s : InsertionState) (used room place glyph : ℕ) (ends : Bool) {opened : Classes} {class : ℕ}
-    {entered : Entered} (o : opened ≡ opened_classes bytes states.edition) (k : class ≡ class_here (classes_by index (class_by bytes opened)) glyph ends)
+    {entered : (Option Entry)} (o : opened ≡ opened_classes bytes states.edition) (k : class ≡ class_here (classes_by index (class_by bytes opened)) glyph ends)
     (r : entered ≡ entry_of bytes states s.state class 4) where
   abbrev due : InsertionStep
   due = next (classes_by index (class_of bytes states)) bytes states s used room place glyph ends
@@ -61,13 +53,13 @@ module _ (index bytes : List ℕ) (states : States) (s : InsertionState) (used r
       r
       ∙ ap (λ (n : ℕ). entry_of bytes states s.state n 4) (k ∙ ap (λ (classes : ℕ → ℕ). class_here classes glyph ends) (opened-index index bytes states o))
 
-  pub found_none : entered ≡ Entered'.Ended → stopped Answer'.Ended s Inserted'.None ≡ due
+  pub found_none : entered ≡ None → stopped Answer'.Ended s None ≡ due
   unfolding next
   found_none e = rw (sym found ∙ e, next)
 
-  pub found-entry : {entry : Entry} {step : InsertionStep} → entered ≡ Entered'.At entry → step ≡ acted bytes s entry place used room → step ≡ due
+  pub found-entry : {entry : Entry} {step : InsertionStep} → entered ≡ Some entry → step ≡ acted bytes s entry place used room → step ≡ due
   unfolding next
   found-entry e a = a ∙ sym (rw (sym found ∙ e, next))
 
-  pub found_quiet : {entry : Entry} {quiet : Bool} → entered ≡ Entered'.At entry → quiet ≡ is_quiet bytes entry → quiet ≡ true → quiet_step s entry place ≡ due
+  pub found_quiet : {entry : Entry} {quiet : Bool} → entered ≡ Some entry → quiet ≡ is_quiet bytes entry → quiet ≡ true → quiet_step s entry place ≡ due
   found_quiet {entry} e q t = found-entry e (sym (quiet_acts bytes s entry place used room (sym q ∙ t)))

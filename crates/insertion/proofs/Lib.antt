@@ -6,6 +6,7 @@ mod Entries
 pub mod Passes
 mod Steps
 mod Lone
+mod Calls
 pub mod Honesty
 pub mod Manual
 pub mod Turns

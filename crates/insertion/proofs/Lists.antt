@@ -1,5 +1,6 @@
 -- A list that can be read lies in the bytes, and an insertion that is made fits the room.
-use Prim.Native.Nat.{ℕ, ◌+◌, ◌-◌, ◌*◌, ◌/◌, ◌<◌, ◌≤◌, min}
+use Rattle.std.specs.Prelude.{Option, Some, None, Result, Ok, Err}
+use Prim.Native.Nat.{ℕ, ◌+◌, ◌-◌, ◌*◌, ◌/◌, ◌<◌, ◌≤◌}
 use mathlib.Core.Path.{◌≡◌, refl, sym, ◌∙◌, ap, ap₂}
 use mathlib.Core.Bool.{Bool, true, false, cond}
 use mathlib.Core.List.{List}
@@ -14,20 +15,14 @@ use Rattle.answers.specs.declared.Answer.{Answer}
 use Rattle.answers.specs.declared.Answer.TheVariants as Answer'
 use Rattle.parse.specs.Reads.{inside, u16_at, read_u32}
 use Rattle.parse.specs.Use.{on_u32}
-use Rattle.parse.specs.declared.ReadU32.{ReadU32}
-use Rattle.parse.specs.declared.ReadU32.TheVariants as U32
 use Rattle.parse.proofs.Laws.{inside-fits}
 use Rattle.line.specs.Changes.{glyphs_of}
 use Rattle.machine.specs.Pass.{is_done}
 use Rattle.insertion.specs.Lists.{list_from, glyph_list, entered_by, insertion_of, count_of, glyphs_at}
 use Rattle.insertion.specs.Work.{end_of}
-use Rattle.insertion.specs.Insertion.{insertion_place}
 use Rattle.insertion.specs.declared.Listed.{Listed}
 use Rattle.insertion.specs.declared.Listed.TheVariants as Listed'
-use Rattle.insertion.specs.declared.Inserted.{Inserted}
-use Rattle.insertion.specs.declared.Inserted.TheVariants as Inserted'
-use Rattle.insertion.specs.declared.Tried.{Tried}
-use Rattle.insertion.specs.declared.Tried.TheVariants as Tried'
+use Rattle.insertion.specs.declared.Insertion.{Insertion}
 
 -- where a list that can be read lies
 pub data Lies (bytes : List ℕ) (count : ℕ) : Listed → Type 0 where
@@ -46,36 +41,36 @@ list-lies : (bytes : List ℕ) (number count : ℕ) → Lies bytes count (glyph_
 unfolding glyph_list
 list-lies bytes number count = go (eqb number 0xFFFF) (read_u32 bytes 16)
   where
-    go : (t : Bool) (r : ReadU32)
+    go : (t : Bool) (r : Option ℕ)
         → Lies bytes count (cond t Listed'.None (on_u32 r (λ glyphs. list_from bytes (glyphs + number * 2) count) Listed'.Short))
     go true r = none
-    go false U32.Short = short
-    go false (U32.Got glyphs) = lies_from bytes (glyphs + number * 2) count
+    go false None = short
+    go false (Some glyphs) = lies_from bytes (glyphs + number * 2) count
 
 -- an insertion whose glyphs lie in the bytes, and for which a line of this length has room
-pub record Fitting (bytes : List ℕ) (used room : ℕ) (edit : Inserted) : Type 0 where
+pub record Fitting (bytes : List ℕ) (used room : ℕ) (edit : Option Insertion) : Type 0 where
   pub inside : end_of edit ≤ length bytes
   pub within : used + count_of edit ≤ room
 
-pub fitting_none : {bytes : List ℕ} {used room : ℕ} → used ≤ room → Fitting bytes used room Inserted'.None
+pub fitting_none : {bytes : List ℕ} {used room : ℕ} → used ≤ room → Fitting bytes used room None
 fitting_none h = record { inside = omega arith; within = omega arith }
 
 -- an insertion is made where it fits; what ends the step before it is not DONE
-pub data Tries (bytes : List ℕ) (used room : ℕ) : Tried → Type 0 where
-  made : (edit : Inserted) → Fitting bytes used room edit → Tries bytes used room (Tried'.Made edit)
-  over : (answer : Answer) → is_done answer ≡ false → Tries bytes used room (Tried'.Over answer)
+pub data Tries (bytes : List ℕ) (used room : ℕ) : Result (Option Insertion) Answer → Type 0 where
+  made : (edit : Option Insertion) → Fitting bytes used room edit → Tries bytes used room (Ok edit)
+  over : (answer : Answer) → is_done answer ≡ false → Tries bytes used room (Err answer)
 
 pub entered_tries : (bytes : List ℕ) {listed : Listed} (place count used room : ℕ) → used ≤ room → Lies bytes count listed
     → Tries bytes used room (entered_by listed place count used room)
 unfolding entered_by
-entered_tries bytes place count used room h none = made Inserted'.None (fitting_none h)
+entered_tries bytes place count used room h none = made None (fitting_none h)
 entered_tries bytes place count used room h short = over Answer'.Ended refl
 entered_tries bytes place count used room h (here glyphs lies) = go (ltb room (used + count)) refl
   where
     go : (t : Bool) → ltb room (used + count) ≡ t
-        → Tries bytes used room (cond t (Tried'.Over Answer'.Full) (Tried'.Made (Inserted'.At place count glyphs)))
+        → Tries bytes used room (cond t (Err Answer'.Full) (Ok (Some (record { place = place; count = count; glyphs = glyphs }))))
     go true e = over Answer'.Full refl
-    go false e = made (Inserted'.At place count glyphs) (record { inside = lies; within = ltb-false room (used + count) e })
+    go false e = made (Some (record { place = place; count = count; glyphs = glyphs })) (record { inside = lies; within = ltb-false room (used + count) e })
 
 pub insertion_tries : (bytes : List ℕ) (number count place used room : ℕ) → used ≤ room
     → Tries bytes used room (insertion_of bytes number count place used room)
@@ -83,17 +78,17 @@ insertion_tries bytes number count place used room h =
     entered_tries bytes place count used room h (list-lies bytes number count)
 
 -- the same of what the code has
-pub made-fits : (bytes : List ℕ) (used room : ℕ) {t : Tried} (edit : Inserted) → Tries bytes used room t → t ≡ Tried'.Made edit
+pub made-fits : (bytes : List ℕ) (used room : ℕ) {t : Result (Option Insertion) Answer} (edit : Option Insertion) → Tries bytes used room t → t ≡ Ok edit
     → Fitting bytes used room edit
 made-fits bytes used room edit (made e f) p = rw (same e p) f
   where
-    same : (e : Inserted) → Tried'.Made e ≡ Tried'.Made edit → edit ≡ e
+    same : (e : Option Insertion) → ◌≡◌ {A = Result (Option Insertion) Answer} (Ok e) (Ok edit) → edit ≡ e
     same e p = cc
 made-fits bytes used room edit (over answer n) p = let z : ◌≡◌ {A = ℕ} 0 1 = cc in absurd (omega arith)
 
-pub insertion-fits : (bytes : List ℕ) (number count place used room : ℕ) {t : Tried} (edit : Inserted) → used ≤ room
-    → t ≡ insertion_of bytes number count place used room → t ≡ Tried'.Made edit → Fitting bytes used room edit
-insertion-fits bytes number count place used room edit h e p =
+pub insertion_fits : (bytes : List ℕ) (number count place used room : ℕ) {t : Result (Option Insertion) Answer} (edit : Option Insertion) → used ≤ room
+    → t ≡ insertion_of bytes number count place used room → t ≡ Ok edit → Fitting bytes used room edit
+insertion_fits bytes number count place used room edit h e p =
     made-fits bytes used room edit (insertion_tries bytes number count place used room h) (sym e ∙ p)
 
 -- the glyphs of a part of the bytes are those that lie there
@@ -125,21 +120,3 @@ length-glyphs_at bytes from count = length-tab _ count
 
 pub part_until : (from size : ℕ) (bytes : List ℕ) → take (from + size - from) (drop from bytes) ≡ take size (drop from bytes)
 part_until from size bytes = let e : from + size - from ≡ size = omega arith in ap (λ (n : ℕ). take n (drop from bytes)) e
-
--- the place of an insertion, by the code's tests
-module _ (at : ℕ) (before : Bool) (used : ℕ) where
-  pub place-past : used ≤ at → used ≡ insertion_place at before used
-  unfolding insertion_place
-  place-past h = go before
-    where
-      go : (b : Bool) → used ≡ min (cond b at (at + 1)) used
-      go true = omega arith
-      go false = omega arith
-
-  pub place-before : at < used → before ≡ true → at ≡ insertion_place at before used
-  unfolding insertion_place
-  place-before h e = rw e (omega arith)
-
-  pub place-behind : at < used → before ≡ false → at + 1 ≡ insertion_place at before used
-  unfolding insertion_place
-  place-behind h e = rw e (omega arith)

@@ -1,4 +1,5 @@
 -- The pass's loop: the shared laws of passes at this machine.
+use Rattle.std.specs.Prelude.{Option, Some, None}
 use Prim.Native.Nat.{ℕ, ◌+◌, ◌*◌, ◌-◌, ◌<◌, ◌≤◌}
 use mathlib.Core.Path.{◌≡◌, refl, sym, ◌∙◌, ap, subst, subst⁻¹}
 use mathlib.Core.Bool.{Bool, true, false}
@@ -17,8 +18,6 @@ use Rattle.state_tables.specs.Entries.{entry_of}
 use Rattle.state_tables.specs.Opened.{opened_classes, class_by, LiesIn, Remembers, nothing_found}
 use Rattle.state_tables.specs.declared.States.{States}
 use Rattle.state_tables.specs.declared.entries.Entry.{Entry}
-use Rattle.state_tables.specs.declared.entries.Entered.{Entered}
-use Rattle.state_tables.specs.declared.entries.Entered.TheVariants as Entered'
 use Rattle.state_tables.specs.declared.opened.Classes.{Classes}
 use Rattle.state_tables.proofs.Openings.{classes-lie, deleted-class, nothing_remembered}
 use Rattle.line.specs.Line.{Line, line_of}
@@ -26,16 +25,15 @@ use Rattle.line.specs.Changes.{apply_all}
 use Rattle.machine.specs.Entry.{class_here}
 use Rattle.machine.specs.Pass.{deleted, is_done}
 use Rattle.machine.specs.Machine.{passed_by, passed}
-use Rattle.machine.specs.Work.{passed_leaves}
 use Rattle.machine.proofs.Passing.{Passing, Over, passing_start, passing_step, passing_stop, passing_end}
 use Rattle.indexes.specs.Index.{classes_by, indexed}
 use Rattle.insertion.specs.Lists.{both_changes}
 use Rattle.insertion.specs.Insertion.{fresh, acted, next}
 use Rattle.insertion.specs.Calls.{insertion}
-use Rattle.insertion.specs.Work.{is_quiet, led_by}
+use Rattle.insertion.specs.Work.{Left, Ends, is_quiet, led_by}
 use Rattle.insertion.specs.declared.InsertionState.{InsertionState}
 use Rattle.insertion.specs.declared.InsertionStep.{InsertionStep}
-use Rattle.insertion.proofs.Edits.{Left, put_none, both_grow, both-line}
+use Rattle.insertion.proofs.Edits.{put_none, both_grow, both-line}
 use Rattle.insertion.proofs.Entries.{quiet_step, found_none, found-entry, found_quiet}
 use Rattle.insertion.proofs.Shapes.{Both, Advances, next_shape, next_fits, shape_advances}
 
@@ -61,11 +59,8 @@ module _ (index bytes : List ℕ) (states : States) (l₀ : Line) where
     pub limited : length l₀.glyphs ≤ Limits.room_limit
 
   -- what a pass that ends here answers and leaves
-  pub record Ends (answer : Answer) (glyphs tags : List ℕ) (used : ℕ) : Type 0 where
-    pub answers : answer ≡ (passed (indexed index insertion) bytes states l₀).answer
-    pub used-left : used ≡ (passed_leaves (indexed index insertion) bytes states l₀).used
-    pub glyphs-left : glyphs ≡ (passed_leaves (indexed index insertion) bytes states l₀).glyphs
-    pub tags-left : tags ≡ (passed_leaves (indexed index insertion) bytes states l₀).tags
+  abbrev Over-here : Answer → (glyphs tags : List ℕ) → (used : ℕ) → Type 0
+  Over-here = Ends (passed (indexed index insertion) bytes states l₀) l₀
 
   module _ {opened : Classes} {memo glyphs tags homes : List ℕ} {used : ℕ} {s : InsertionState} {i : ℕ} (g : Going opened memo glyphs tags homes used s i) where
     abbrev here : Line
@@ -76,14 +71,15 @@ module _ (index bytes : List ℕ) (states : States) (l₀ : Line) where
 
     ends : {answer : Answer} {glyphs' tags' : List ℕ} {used' : ℕ} (step : InsertionStep)
         → Over (insertion.step classes bytes states) insertion.rest l₀ (passed (indexed index insertion) bytes states l₀) answer (apply_all (both_changes bytes step.marked step.current) here)
-        → LeftBy bytes here step glyphs' tags' used' → Ends answer glyphs' tags' used'
-    unfolding passed_leaves
+        → LeftBy bytes here step glyphs' tags' used' → Over-here answer glyphs' tags' used'
     ends step o p =
         record {
           answers = o.answers;
-          used-left = p.used-left ∙ ap (λ (l : Line). l.used) o.leaves;
-          glyphs-left = p.glyphs-left ∙ ap (λ (l : Line). l.glyphs) o.leaves;
-          tags-left = p.tags-left ∙ ap (λ (l : Line). l.tags) o.leaves;
+          left = record {
+            glyphs-left = p.glyphs-left ∙ ap (λ (l : Line). l.glyphs) o.leaves;
+            tags-left = p.tags-left ∙ ap (λ (l : Line). l.tags) o.leaves;
+            used-left = p.used-left ∙ ap (λ (l : Line). l.used) o.leaves;
+          };
         }
 
     -- the step at place i
@@ -165,13 +161,13 @@ module _ (index bytes : List ℕ) (states : States) (l₀ : Line) where
         OverBy r =
             Over (insertion.step classes bytes states) insertion.rest l₀ (passed (indexed index insertion) bytes states l₀) r.answer (apply_all (both_changes bytes r.marked r.current) here)
 
-        due_ends : used ≤ i → Ends step.answer glyphs' tags' used'
+        due_ends : used ≤ i → Over-here step.answer glyphs' tags' used'
         due_ends h =
             ends step
             (subst⁻¹ OverBy (e ∙ due_last h) (passing_end (insertion.step classes bytes states) insertion.rest l₀ (passed (indexed index insertion) bytes states l₀) g.passing some h))
             p
 
-        due_stops : is_done step.answer ≡ false → Ends step.answer glyphs' tags' used'
+        due_stops : is_done step.answer ≡ false → Over-here step.answer glyphs' tags' used'
         due_stops done =
             ⊎_elim
             (λ (h : i < used).
@@ -188,20 +184,20 @@ module _ (index bytes : List ℕ) (states : States) (l₀ : Line) where
     going_lies = subst⁻¹ (LiesIn bytes) g.table (classes-lie bytes states.edition)
 
     -- what is due, by what the code reads at place i
-    module _ {class : ℕ} {entered : Entered} (k : class ≡ class_here (classes_by index (class_by bytes opened)) (get_or glyphs i 0) (eqb i used))
+    module _ {class : ℕ} {entered : (Option Entry)} (k : class ≡ class_here (classes_by index (class_by bytes opened)) (get_or glyphs i 0) (eqb i used))
         (r : entered ≡ entry_of bytes states s.state class 4) where
       -- no entry
-      pub going_ended : entered ≡ Entered'.Ended → Ends Answer'.Ended glyphs tags used
+      pub going_ended : entered ≡ None → Over-here Answer'.Ended glyphs tags used
       going_ended f =
           due_stops (found_none index bytes states s used (length glyphs) i (get_or glyphs i 0) (eqb i used) g.table k r f) (put_none bytes here) refl
 
-      module _ {entry : Entry} (f : entered ≡ Entered'.At entry) where
+      module _ {entry : Entry} (f : entered ≡ Some entry) where
         -- one that inserts nothing and advances
         module _ {quiet : Bool} (q : quiet ≡ is_quiet bytes entry) (t : quiet ≡ true) where
           quiet_due : quiet_step s entry i ≡ due
           quiet_due = found_quiet index bytes states s used (length glyphs) i (get_or glyphs i 0) (eqb i used) g.table k r f q t
 
-          pub quiet_ends : i ≡ used → Ends Answer'.Done glyphs tags used
+          pub quiet_ends : i ≡ used → Over-here Answer'.Done glyphs tags used
           quiet_ends e = due_ends quiet_due (put_none bytes here) (omega arith)
 
           pub quiet_goes : {memo' : List ℕ} {s' : InsertionState} → Remembers (class_by bytes opened) memo' → (i ≡ used → ⊥) → s' ≡ led_by s entry i
@@ -225,10 +221,10 @@ module _ (index bytes : List ℕ) (states : States) (l₀ : Line) where
           act_fits = due_fits act_due
 
           module _ {glyphs' tags' : List ℕ} {used' : ℕ} (p : LeftBy bytes here step glyphs' tags' used') where
-            pub act_ends : i ≡ used → Ends step.answer glyphs' tags' used'
+            pub act_ends : i ≡ used → Over-here step.answer glyphs' tags' used'
             act_ends e = due_ends act_due p (omega arith)
 
-            pub act_stops : is_done step.answer ≡ false → Ends step.answer glyphs' tags' used'
+            pub act_stops : is_done step.answer ≡ false → Over-here step.answer glyphs' tags' used'
             act_stops = due_stops act_due p
 
             module _ (done : is_done step.answer ≡ true) (ne : i ≡ used → ⊥) where

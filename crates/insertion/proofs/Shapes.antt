@@ -1,4 +1,5 @@
 -- A step either stops before an insertion or makes both; what it inserts fits, and a pass that is made of such steps ends.
+use Rattle.std.specs.Prelude.{Option, Some, None, Result}
 use Prim.Native.Nat.{ℕ, ◌+◌, ◌*◌, ◌-◌, ◌<◌, ◌≤◌}
 use mathlib.Core.Path.{◌≡◌, refl, subst, subst⁻¹}
 use mathlib.Core.Bool.{Bool, true, false}
@@ -12,8 +13,6 @@ use Rattle.answers.specs.declared.Answer.{Answer}
 use Rattle.answers.specs.declared.Answer.TheVariants as Answer'
 use Rattle.state_tables.specs.declared.States.{States}
 use Rattle.state_tables.specs.declared.entries.Entry.{Entry}
-use Rattle.state_tables.specs.declared.entries.Entered.{Entered}
-use Rattle.state_tables.specs.declared.entries.Entered.TheVariants as Entered'
 use Rattle.state_tables.specs.Entries.{entry_of, on_entry}
 use Rattle.parse.specs.Reads.{u16_at}
 use Rattle.laws.specs.Bits.{is_set}
@@ -24,28 +23,26 @@ use Rattle.machine.proofs.Stalls.{stall_falls}
 use Rattle.insertion.specs.Lists.{on_tried, count_of}
 use Rattle.insertion.specs.Work.{end_of}
 use Rattle.insertion.specs.Insertion.{advance_of, with_state, stopped, finished, after_marked, acted, next}
-use Rattle.insertion.specs.declared.Inserted.{Inserted}
-use Rattle.insertion.specs.declared.Inserted.TheVariants as Inserted'
-use Rattle.insertion.specs.declared.Tried.{Tried}
+use Rattle.insertion.specs.declared.Insertion.{Insertion}
 use Rattle.insertion.specs.declared.InsertionState.{InsertionState}
 use Rattle.insertion.specs.declared.InsertionStep.{InsertionStep}
 use Rattle.insertion.proofs.Lists.{Fitting, fitting_none, Tries, made, over, insertion_tries}
 
 -- the two ends of a step
 pub data Shape (bytes : List ℕ) (s : InsertionState) (used room : ℕ) : InsertionStep → Type 0 where
-  stops : (answer : Answer) (s' : InsertionState) (marked : Inserted) → is_done answer ≡ false → Fitting bytes used room marked
+  stops : (answer : Answer) (s' : InsertionState) (marked : Option Insertion) → is_done answer ≡ false → Fitting bytes used room marked
       → Shape bytes s used room (stopped answer s' marked)
-  finishes : (s' : InsertionState) (flags : ℕ) (marked current : Inserted) → s'.cycles ≡ s.cycles → Fitting bytes used room marked
+  finishes : (s' : InsertionState) (flags : ℕ) (marked current : Option Insertion) → s'.cycles ≡ s.cycles → Fitting bytes used room marked
       → Fitting bytes (used + count_of marked) room current → Shape bytes s used room (finished s' flags marked current)
 
 module _ (bytes : List ℕ) (s : InsertionState) (index used room : ℕ) where
-  second_shape : {t : Tried} (s' : InsertionState) (flags : ℕ) (marked : Inserted) → s'.cycles ≡ s.cycles → Fitting bytes used room marked
+  second_shape : {t : Result (Option Insertion) Answer} (s' : InsertionState) (flags : ℕ) (marked : Option Insertion) → s'.cycles ≡ s.cycles → Fitting bytes used room marked
       → Tries bytes (used + count_of marked) room t
       → Shape bytes s used room (on_tried t (λ current. finished s' flags marked current) (λ answer. stopped answer s' marked))
   second_shape s' flags marked c f (made current g) = finishes s' flags marked current c f g
   second_shape s' flags marked c f (over answer n) = stops answer s' marked n f
 
-  followed_shape : (s' : InsertionState) (flags number : ℕ) (marked : Inserted) → s'.cycles ≡ s.cycles → Fitting bytes used room marked
+  followed_shape : (s' : InsertionState) (flags number : ℕ) (marked : Option Insertion) → s'.cycles ≡ s.cycles → Fitting bytes used room marked
       → Shape bytes s used room (after_marked bytes s' flags number marked index used room)
   unfolding after_marked
   followed_shape s' flags number marked c f =
@@ -55,22 +52,22 @@ module _ (bytes : List ℕ) (s : InsertionState) (index used room : ℕ) where
   unfolding acted
   acted_shape entry h = go _ (insertion_tries bytes _ _ _ used room h)
     where
-      go : (t : Tried) → Tries bytes used room t
+      go : (t : Result (Option Insertion) Answer) → Tries bytes used room t
           → Shape bytes s used room
           (on_tried t
           (λ marked. after_marked bytes (with_state s entry.state) entry.flags (u16_at bytes entry.payload) marked index used room)
-          (λ answer. stopped answer (with_state s entry.state) Inserted'.None))
+          (λ answer. stopped answer (with_state s entry.state) None))
       go _ (made marked g) = followed_shape (with_state s entry.state) entry.flags (u16_at bytes entry.payload) marked refl g
-      go _ (over answer n) = stops answer _ Inserted'.None n (fitting_none h)
+      go _ (over answer n) = stops answer _ None n (fitting_none h)
 
 pub next_shape : (classes : ℕ → ℕ) (bytes : List ℕ) (states : States) (s : InsertionState) (used room index glyph : ℕ) (ends : Bool) → used ≤ room
     → Shape bytes s used room (next classes bytes states s used room index glyph ends)
 unfolding next
 next_shape classes bytes states s used room index glyph ends h = go (entry_of bytes states s.state (class_here classes glyph ends) 4)
   where
-    go : (e : Entered) → Shape bytes s used room (on_entry e (λ entry. acted bytes s entry index used room) (stopped Answer'.Ended s Inserted'.None))
-    go (Entered'.At entry) = acted_shape bytes s index used room entry h
-    go Entered'.Ended = stops Answer'.Ended s Inserted'.None refl (fitting_none h)
+    go : (e : Option Entry) → Shape bytes s used room (on_entry e (λ entry. acted bytes s entry index used room) (stopped Answer'.Ended s None))
+    go (Some entry) = acted_shape bytes s index used room entry h
+    go None = stops Answer'.Ended s None refl (fitting_none h)
 
 -- both insertions of a step lie in the bytes and fit the room
 pub record Both (bytes : List ℕ) (used room : ℕ) (step : InsertionStep) : Type 0 where
@@ -108,7 +105,7 @@ nearer : (room i less more left bound : ℕ) → less ≤ more → (room - (i + 
 nearer room i less more left bound h k = omega arith
 
 module _ (used room i : ℕ) (h : i < used) (k : used ≤ room) where
-  finished_advances : (s s' : InsertionState) (flags : ℕ) (marked current : Inserted) → s'.cycles ≡ s.cycles → s.cycles ≤ 17
+  finished_advances : (s s' : InsertionState) (flags : ℕ) (marked current : Option Insertion) → s'.cycles ≡ s.cycles → s.cycles ≤ 17
       → Advances used room i s (finished s' flags marked current)
   unfolding finished
   finished_advances s s' flags marked current c sound =

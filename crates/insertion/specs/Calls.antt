@@ -1,26 +1,24 @@
 -- The insertion machine on a subtable: how that is opened, which states are refused, and the call of a lone step, which is told lengths alone.
-use Rattle.std.specs.Prelude.{ℕ, ◌+◌, ◌*◌, ◌-◌, Bool, List, [], ◌∷◌, ltb, length}
+use Rattle.state_tables.specs.declared.States.{States}
+use Rattle.std.specs.Prelude.{ℕ, ◌+◌, ◌*◌, ◌-◌, Bool, List, [], ◌∷◌, ltb, length, Option, None}
 use Rattle.answers.specs.Limits as Limits
 use Rattle.answers.specs.Refuse.{Test}
 use Rattle.answers.specs.declared.Refusal.TheVariants as Refusal'
 use Rattle.answers.specs.declared.Answer.TheVariants as Answer'
 use Rattle.parse.specs.Reads.{read_u32}
 use Rattle.parse.specs.Use.{on_u32}
-use Rattle.state_tables.specs.declared.Made.{Made}
-use Rattle.state_tables.specs.declared.Made.TheVariants as Made'
 use Rattle.machine.specs.Head.{body_of}
 use Rattle.machine.specs.Call as Call'
 use Rattle.machine.specs.Call.{lone_step}
 use Rattle.machine.specs.Machine.{Machine}
 use Rattle.insertion.specs.Lists.{moved_by}
 use Rattle.insertion.specs.Insertion.{fresh, stopped, next, stepped}
-use Rattle.insertion.specs.declared.Inserted.TheVariants as Inserted'
 use Rattle.insertion.specs.declared.InsertionState.{InsertionState}
 use Rattle.insertion.specs.declared.InsertionStep.{InsertionStep}
 
 -- the state table of an insertion subtable, where the number at 16, behind its head, can be read too
-unfoldable pub opened : List ℕ → Made
-opened bytes = on_u32 (read_u32 (body_of bytes) 16) (λ glyphs. Call'.opened bytes 5) Made'.Short
+unfoldable pub opened : List ℕ → Option States
+opened bytes = on_u32 (read_u32 (body_of bytes) 16) (λ glyphs. Call'.opened bytes 5) None
 
 -- STATE: the mark is above the length, or the cycle count above 17
 unfoldable pub state_tests : InsertionState → (used : ℕ) → List Test
@@ -58,5 +56,5 @@ from_table by step =
 -- a lone step by the subtable at `start`, on a line of this length in this room; a refused one hands the state back as given
 unfoldable pub step_call : List ℕ → (start : ℕ) → InsertionState → (used room index glyph : ℕ) → (ends : Bool) → InsertionStep
 step_call table start s used room index glyph ends =
-    lone_step opened (λ why. stopped (Answer'.Refused why) s Inserted'.None) table start (room_tests used room) used index (state_tests s used)
+    lone_step opened (λ why. stopped (Answer'.Refused why) s None) table start (room_tests used room) used index (state_tests s used)
     (λ classes bytes states. from_table (start + 12) (next classes bytes states s used room index glyph ends))

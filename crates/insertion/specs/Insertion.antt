@@ -1,5 +1,5 @@
 -- The insertion machine's step, as the crate's `next`.
-use Rattle.std.specs.Prelude.{ℕ, ◌+◌, ◌/◌, ◌%◌, min, Bool, cond, List}
+use Rattle.std.specs.Prelude.{ℕ, ◌+◌, ◌/◌, ◌%◌, min, Bool, cond, List, Option, None}
 use Rattle.laws.specs.Choose.{if_eq}
 use Rattle.answers.specs.declared.Answer.{Answer}
 use Rattle.answers.specs.declared.Answer.TheVariants as Answer'
@@ -13,8 +13,7 @@ use Rattle.machine.specs.Stall.{stalled}
 use Rattle.machine.specs.declared.Stalled.{Stalled}
 use Rattle.machine.specs.Pass.{Stepped}
 use Rattle.insertion.specs.Lists.{insertion_of, on_tried, count_of, both_changes}
-use Rattle.insertion.specs.declared.Inserted.{Inserted}
-use Rattle.insertion.specs.declared.Inserted.TheVariants as Inserted'
+use Rattle.insertion.specs.declared.Insertion.{Insertion}
 use Rattle.insertion.specs.declared.InsertionState.{InsertionState}
 use Rattle.insertion.specs.declared.InsertionStep.{InsertionStep}
 
@@ -47,11 +46,11 @@ abbrev pub with_mark : InsertionState → (sets : Bool) → (index : ℕ) → In
 with_mark s sets index = record { state = s.state; mark = cond sets index s.mark; cycles = s.cycles }
 
 -- an answer before the insertion that would have been next
-abbrev pub stopped : Answer → InsertionState → Inserted → InsertionStep
-stopped answer s marked = record { answer = answer; state = s; advance = 0; marked = marked; current = Inserted'.None }
+abbrev pub stopped : Answer → InsertionState → Option Insertion → InsertionStep
+stopped answer s marked = record { answer = answer; state = s; advance = 0; marked = marked; current = None }
 
 -- after both insertions the stall rule
-unfoldable pub finished : InsertionState → (flags : ℕ) → (marked current : Inserted) → InsertionStep
+unfoldable pub finished : InsertionState → (flags : ℕ) → (marked current : Option Insertion) → InsertionStep
 finished s flags marked current =
     let to : Stalled = stalled s.cycles (is_set flags 0x4000) in
     record {
@@ -64,7 +63,7 @@ finished s flags marked current =
 
 -- after the marked glyphs the mark may be set, to the index as given; the current glyphs then go where the index stands after the
 -- marked ones, in a line that is longer by them
-unfoldable pub after_marked : List ℕ → InsertionState → (flags number : ℕ) → Inserted → (index used room : ℕ) → InsertionStep
+unfoldable pub after_marked : List ℕ → InsertionState → (flags number : ℕ) → Option Insertion → (index used room : ℕ) → InsertionStep
 after_marked bytes s flags number marked index used room =
     let s' : InsertionState = with_mark s (is_set flags 0x8000) index in
     on_tried
@@ -82,14 +81,14 @@ acted bytes s entry index used room =
     (insertion_of bytes (u16_at bytes (entry.payload + 2)) (marked_count entry.flags)
     (insertion_place s.mark (is_set entry.flags 0x400) used) used room)
     (λ marked. after_marked bytes s' entry.flags (u16_at bytes entry.payload) marked index used room)
-    (λ answer. stopped answer s' Inserted'.None)
+    (λ answer. stopped answer s' None)
 
 -- a step: class, then entry, then what the entry does; without an entry it is ENDED and the state as it was
 unfoldable pub next : (classes : ℕ → ℕ) → List ℕ → States → InsertionState → (used room index glyph : ℕ) → (ends : Bool) → InsertionStep
 next classes bytes states s used room index glyph ends =
     on_entry (entry_of bytes states s.state (class_here classes glyph ends) 4)
     (λ entry. acted bytes s entry index used room)
-    (stopped Answer'.Ended s Inserted'.None)
+    (stopped Answer'.Ended s None)
 
 -- as a step that changes a line
 abbrev pub stepped : List ℕ → InsertionStep → Stepped InsertionState

@@ -1,6 +1,7 @@
 -- A lone insertion, of glyphs that lie anywhere in a table: its tests, what it answers and what it leaves.
-use Rattle.std.specs.Prelude.{ℕ, List, [], ◌∷◌, length}
+use Rattle.std.specs.Prelude.{ℕ, List, [], ◌∷◌, length, Option, Result, Ok, Err}
 use Rattle.answers.specs.Refuse.{Test, refuse, table_test}
+use Rattle.answers.specs.declared.Answer.{Answer}
 use Rattle.answers.specs.declared.Answer.TheVariants as Answer'
 use Rattle.line.specs.Line.{Line}
 use Rattle.line.specs.Test.{line_test}
@@ -9,13 +10,12 @@ use Rattle.machine.specs.Pass.{Passed}
 use Rattle.machine.specs.Call.{place_test, if_passed}
 use Rattle.machine.specs.Machine.{refused_pass}
 use Rattle.insertion.specs.Lists.{list_from, entered_by, changes_of}
-use Rattle.insertion.specs.declared.Tried.{Tried}
-use Rattle.insertion.specs.declared.Tried.TheVariants as Tried'
+use Rattle.insertion.specs.declared.Insertion.{Insertion}
 
 -- an insertion that is made is DONE, and one that is not changes nothing
-abbrev pub on_line : List ℕ → Tried → Passed
-on_line table (Tried'.Made edit) = record { answer = Answer'.Done; changes = changes_of table edit }
-on_line table (Tried'.Over answer) = record { answer = answer; changes = [] }
+abbrev pub on_line : List ℕ → Result (Option Insertion) Answer → Passed
+on_line table (Ok edit) = record { answer = Answer'.Done; changes = changes_of table edit }
+on_line table (Err answer) = record { answer = answer; changes = [] }
 
 -- so many glyphs from the byte `start` of the table on, at a place of the line: made, or ENDED or FULL, as in a pass
 unfoldable pub lone_insertion : List ℕ → (start count place : ℕ) → Line → Passed

@@ -17,12 +17,12 @@ ghost use Rattle.insertion.specs.Lists.{list_from, glyph_list, entered_by, inser
 ghost use Rattle.insertion.specs.Insertion.{fresh, insertion_place, advance_of, with_state, with_mark, stopped, finished, after_marked, acted, next};
 ghost use Rattle.insertion.specs.Calls.{opened, state_tests, insertion, room_tests, from_table, step_call};
 ghost use Rattle.insertion.specs.Lone.{insert_tests, insert_call, insert_leaves};
-ghost use Rattle.insertion.specs.Work.{end_of, is_quiet, led_by};
+ghost use Rattle.insertion.specs.Work.{Left, Ends, end_of, is_quiet, led_by};
 
-use answers::{Answer, Check, Refusal};
-use state_tables::entries::{Entered, Entry};
+use answers::{Answer, Refusal};
+use state_tables::entries::Entry;
 use state_tables::opened::Classes;
-use state_tables::{Made, States, entries, opened};
+use state_tables::{States, entries, opened};
 
 // The state of a pass: the state table's state, the marked place, and how many steps in a row did not advance.
 #[derive(Clone, Copy)]
@@ -32,15 +32,12 @@ pub struct InsertionState {
     pub cycles: u16,
 }
 
-// What is put into the line: nothing, or `count` glyphs at a place. They lie in the table from `glyphs` on, two bytes each.
+// `count` glyphs that are put into the line at a place. They lie in the table from `glyphs` on, two bytes each.
 #[derive(Clone, Copy)]
-pub enum Inserted {
-    None,
-    At {
-        place: usize,
-        count: u16,
-        glyphs: usize,
-    },
+pub struct Insertion {
+    pub place: usize,
+    pub count: u16,
+    pub glyphs: usize,
 }
 
 // What a step answers: DONE with the advance, FULL, ENDED or a refusal; the state that it hands back; and the insertions that it makes, at
@@ -50,8 +47,8 @@ pub struct InsertionStep {
     pub answer: Answer,
     pub state: InsertionState,
     pub advance: usize,
-    pub marked: Inserted,
-    pub current: Inserted,
+    pub marked: Option<Insertion>,
+    pub current: Option<Insertion>,
 }
 
 // What a pass answers, and the used length afterwards.
@@ -69,58 +66,62 @@ pub enum Listed {
     Short,
 }
 
-// What becomes of an insertion: it is made, or the step ends before it.
-#[derive(Clone, Copy)]
-pub enum Tried {
-    Made(Inserted),
-    Over(Answer),
-}
-
 // A list of `count` glyphs that lies at a place, where it can be read.
+#[tactic(auto, using(parse::proofs::Laws::part_short, parse::proofs::Laws::part_inside))]
 fn list_from(bytes: &[u8], from: usize, count: u16) -> Listed
     ensures { result ≡ list_from bytes.now from count }
 {
-    let parse::ReadPart::Until(_) = parse::read_part(bytes, from, count as usize * 2) else {
-        return Listed::Short;
-    };
-    Listed::At(from)
+    match parse::read_part(bytes, from, count as usize * 2) {
+        Some(_) => Listed::At(from),
+        None => Listed::Short,
+    }
 }
 
 // Where a list of `count` glyphs lies, from the glyph of this number on. The bytes are those from the state table on.
+#[tactic(auto, unfolding(crate::specs::Lists::glyph_list))]
 fn list_of(bytes: &[u8], number: u16, count: u16) -> Listed
     ensures { result ≡ glyph_list bytes.now number count }
 {
     if number == InsertionState::NO_ACTION {
         return Listed::None;
     }
-    let parse::ReadU32::Got(glyphs) = parse::read_u32(bytes, 16) else {
+    let Some(glyphs) = parse::read_u32(bytes, 16) else {
         return Listed::Short;
     };
     list_from(bytes, glyphs as usize + number as usize * 2, count)
 }
 
-// What becomes of an insertion of the glyphs of such a list at a place; FULL where the length would exceed the room.
-fn enter(listed: Listed, place: usize, count: u16, used: usize, room: usize) -> Tried
+// What becomes of an insertion of the glyphs of such a list at a place, or how the step ends before it: FULL where the length would
+// exceed the room.
+#[tactic(auto, using(line::proofs::Room::room_small), unfolding(crate::specs::Lists::entered_by))]
+fn enter(
+    listed: Listed,
+    place: usize,
+    count: u16,
+    used: usize,
+    room: usize,
+) -> Result<Option<Insertion>, Answer>
     requires { (used ≤ room) × (room ≤ Limits.room_limit) }
     ensures { result ≡ entered_by listed place count used room }
 {
     match listed {
-        Listed::None => Tried::Made(Inserted::None),
-        Listed::Short => Tried::Over(Answer::Ended),
+        Listed::None => Ok(None),
+        Listed::Short => Err(Answer::Ended),
         Listed::At(glyphs) => {
             if room < used + count as usize {
-                return Tried::Over(Answer::Full);
+                return Err(Answer::Full);
             }
-            Tried::Made(Inserted::At {
+            Ok(Some(Insertion {
                 place,
                 count,
                 glyphs,
-            })
+            }))
         }
     }
 }
 
 // What becomes of an insertion of the glyphs that an entry names.
+#[tactic(auto)]
 fn insertion_of(
     bytes: &[u8],
     number: u16,
@@ -128,7 +129,7 @@ fn insertion_of(
     place: usize,
     used: usize,
     room: usize,
-) -> Tried
+) -> Result<Option<Insertion>, Answer>
     requires { (used ≤ room) × (room ≤ Limits.room_limit) }
     ensures { result ≡ insertion_of bytes.now number count place used room }
 {
@@ -136,52 +137,41 @@ fn insertion_of(
 }
 
 // Before a place or behind it, but not above the length.
+#[tactic(auto, unfolding(crate::specs::Insertion::insertion_place))]
 fn place_of(at: usize, before: bool, used: usize) -> usize
     ensures { result ≡ insertion_place at before used }
 {
-    if used <= at {
-        return used;
-    }
-    if before {
-        return at;
+    if before || used <= at {
+        return at.min(used);
     }
     at + 1
 }
 
 // How many glyphs are inserted.
-fn count_of(edit: Inserted) -> u16
+fn count_of(edit: Option<Insertion>) -> u16
     ensures { result ≡ count_of edit }
 {
     match edit {
-        Inserted::None => 0,
-        Inserted::At {
-            place: _,
-            count,
-            glyphs: _,
-        } => count,
+        None => 0,
+        Some(insertion) => insertion.count,
     }
 }
 
 // An insertion whose glyphs are counted from `by` bytes before.
-fn moved_by(by: usize, edit: Inserted) -> Inserted
+#[tactic(auto)]
+fn moved_by(by: usize, edit: Option<Insertion>) -> Option<Insertion>
     requires { by + end_of edit < 2 ^ 63 }
     ensures { result ≡ moved_by by edit }
 {
-    match edit {
-        Inserted::None => Inserted::None,
-        Inserted::At {
-            place,
-            count,
-            glyphs,
-        } => Inserted::At {
-            place,
-            count,
-            glyphs: by + glyphs,
-        },
-    }
+    let insertion = edit?;
+    Some(Insertion {
+        glyphs: by + insertion.glyphs,
+        ..insertion
+    })
 }
 
 // Both counts and 1, or the marked count alone.
+#[tactic(auto)]
 fn advance_of(marked: u16, current: u16, one: usize) -> usize
     ensures { result ≡ advance_of marked current one }
 {
@@ -192,7 +182,7 @@ fn advance_of(marked: u16, current: u16, one: usize) -> usize
 }
 
 // An answer before the insertion that would have been next.
-fn stopped(answer: Answer, state: InsertionState, marked: Inserted) -> InsertionStep
+fn stopped(answer: Answer, state: InsertionState, marked: Option<Insertion>) -> InsertionStep
     ensures { result ≡ stopped answer state marked }
 {
     InsertionStep {
@@ -200,7 +190,7 @@ fn stopped(answer: Answer, state: InsertionState, marked: Inserted) -> Insertion
         state,
         advance: 0,
         marked,
-        current: Inserted::None,
+        current: None,
     }
 }
 
@@ -235,7 +225,13 @@ impl InsertionState {
     }
 
     // The end of a step that has made both insertions.
-    fn finish(self, flags: u16, marked: Inserted, current: Inserted) -> InsertionStep
+    #[tactic(auto, unfolding(crate::specs::Insertion::finished))]
+    fn finish(
+        self,
+        flags: u16,
+        marked: Option<Insertion>,
+        current: Option<Insertion>,
+    ) -> InsertionStep
         ensures { result ≡ finished self flags marked current }
     {
         let stalled = machine::stall(
@@ -245,9 +241,8 @@ impl InsertionState {
         InsertionStep {
             answer: Answer::Done,
             state: InsertionState {
-                state: self.state,
-                mark: self.mark,
                 cycles: stalled.cycles,
+                ..self
             },
             advance: advance_of(count_of(marked), count_of(current), stalled.advance),
             marked,
@@ -259,34 +254,31 @@ impl InsertionState {
     fn with_state(self, state: u16) -> InsertionState
         ensures { result ≡ with_state self state }
     {
-        InsertionState {
-            state,
-            mark: self.mark,
-            cycles: self.cycles,
-        }
+        InsertionState { state, ..self }
     }
 
     // The mark is set to the index as given where its flag says so.
+    #[tactic(auto)]
     fn with_mark(self, sets: bool, index: usize) -> InsertionState
         ensures { result ≡ with_mark self sets index }
     {
         if sets {
             return InsertionState {
-                state: self.state,
                 mark: index,
-                cycles: self.cycles,
+                ..self
             };
         }
         self
     }
 
     // What comes after the marked glyphs: the mark, the current glyphs, and the stall rule.
+    #[tactic(auto, unfolding(crate::specs::Insertion::after_marked))]
     fn follow(
         self,
         bytes: &[u8],
         flags: u16,
         number: u16,
-        marked: Inserted,
+        marked: Option<Insertion>,
         index: usize,
         used: usize,
         room: usize,
@@ -307,12 +299,13 @@ impl InsertionState {
             room,
         );
         match tried {
-            Tried::Made(current) => state.finish(flags, marked, current),
-            Tried::Over(answer) => stopped(answer, state, marked),
+            Ok(current) => state.finish(flags, marked, current),
+            Err(answer) => stopped(answer, state, marked),
         }
     }
 
     // What an entry does: the marked glyphs are inserted first.
+    #[tactic(auto, unfolding(crate::specs::Insertion::acted))]
     fn act(
         self,
         bytes: &[u8],
@@ -338,20 +331,13 @@ impl InsertionState {
             room,
         );
         match tried {
-            Tried::Made(marked) => state.follow(
-                bytes,
-                flags,
-                numbers.first,
-                marked,
-                index,
-                used,
-                room,
-            ),
-            Tried::Over(answer) => stopped(answer, state, Inserted::None),
+            Ok(marked) => state.follow(bytes, flags, numbers.first, marked, index, used, room),
+            Err(answer) => stopped(answer, state, None),
         }
     }
 
     // The state that an entry which inserts nothing and advances leads to.
+    #[tactic(auto)]
     fn led_by(self, entry: Entry, place: usize) -> InsertionState
         ensures { result ≡ led_by self entry place }
     {
@@ -367,6 +353,7 @@ impl InsertionState {
     }
 
     // The crate's `next`, over the bytes from the state table on, at an index of a line of this length in this room.
+    #[tactic(auto, using(state_tables::proofs::Laws::entry_payload), unfolding(crate::specs::Insertion::next))]
     fn next(
         self,
         bytes: &[u8],
@@ -381,48 +368,42 @@ impl InsertionState {
         ensures { result ≡ next (class_of bytes.now states) bytes.now states self used room index glyph ends }
     {
         let class = machine::class_at(bytes, states, glyph, ends);
-        let Entered::At(entry) = entries::entry_of(bytes, states, self.state, class, 4) else {
-            return stopped(Answer::Ended, self, Inserted::None);
+        let Some(entry) = entries::entry_of(bytes, states, self.state, class, 4) else {
+            return stopped(Answer::Ended, self, None);
         };
         self.act(bytes, entry, index, used, room)
     }
 
     // The tests before a lone step: TABLE, LINE, PLACE, STATE, HEAD.
+    #[tactic(auto, unfolding(crate::specs::Calls::room_tests, crate::specs::Calls::state_tests, machine::specs::Call::step_tests, machine::specs::Call::place_test, machine::specs::Call::head_test, answers::specs::Refuse::refuse))]
     fn refuse_step(
         self,
         table_length: usize,
         used: usize,
         room: usize,
         index: usize,
-        made: Made,
-    ) -> Check
+        made: Option<States>,
+    ) -> Result<(), Refusal>
         ensures { result ≡ refuse (step_tests table_length (room_tests used room) used index (state_tests self used) made) }
     {
-        if let Check::Refused(why) = answers::refuse_table(table_length) {
-            return Check::Refused(why);
-        }
-        if answers::above_room(room) {
-            return Check::Refused(Refusal::Line);
-        }
-        if room < used {
-            return Check::Refused(Refusal::Line);
+        answers::refuse_table(table_length)?;
+        if answers::above_room(room) || room < used {
+            return Err(Refusal::Line);
         }
         if used < index {
-            return Check::Refused(Refusal::Place);
+            return Err(Refusal::Place);
         }
-        if used < self.mark {
-            return Check::Refused(Refusal::State);
+        if used < self.mark || InsertionState::MOST_CYCLES < self.cycles {
+            return Err(Refusal::State);
         }
-        if InsertionState::MOST_CYCLES < self.cycles {
-            return Check::Refused(Refusal::State);
+        if made.is_none() {
+            return Err(Refusal::Head);
         }
-        if let Made::Short = made {
-            return Check::Refused(Refusal::Head);
-        }
-        Check::Passed
+        Ok(())
     }
 
     // A lone step by the subtable at `start`, on a line of this length in this room; a refused one hands the state back as given.
+    #[tactic(auto, using(crate::proofs::Steps::step_told), unfolding(crate::specs::Calls::step_call, machine::specs::Call::lone_step))]
     pub fn step(
         self,
         table: &[u8],
@@ -437,11 +418,11 @@ impl InsertionState {
     {
         let bytes = parse::from(table, start);
         let made = open(bytes);
-        if let Check::Refused(why) = self.refuse_step(table.len(), used, room, index, made) {
-            return stopped(Answer::Refused(why), self, Inserted::None);
+        if let Err(why) = self.refuse_step(table.len(), used, room, index, made) {
+            return stopped(Answer::Refused(why), self, None);
         }
-        let Made::Ready(states) = made else {
-            return stopped(Answer::Refused(Refusal::Head), self, Inserted::None);
+        let Some(states) = made else {
+            return stopped(Answer::Refused(Refusal::Head), self, None);
         };
         let step = self.next(
             parse::from(bytes, 12),
@@ -452,138 +433,81 @@ impl InsertionState {
             glyph,
             ends,
         );
-        let answer = step.answer;
-        let state = step.state;
-        let marked = step.marked;
-        let current = step.current;
+        let body = start + 12;
         InsertionStep {
-            answer,
-            state,
-            advance: step.advance,
-            marked: moved_by(start + 12, marked),
-            current: moved_by(start + 12, current),
+            marked: moved_by(body, step.marked),
+            current: moved_by(body, step.current),
+            ..step
         }
     }
 }
 
 // The state table of the subtable that the bytes begin with; the number at 16, where the glyphs begin, can be read too.
-pub fn open(bytes: &[u8]) -> Made
+#[tactic(auto, unfolding(crate::specs::Calls::opened))]
+pub fn open(bytes: &[u8]) -> Option<States>
     ensures { result ≡ opened bytes.now }
 {
-    let parse::ReadU32::Got(_) = parse::read_u32(parse::from(bytes, 12), 16) else {
-        return Made::Short;
-    };
+    parse::read_u32(parse::from(bytes, 12), 16)?;
     machine::open(bytes, InsertionState::KIND)
 }
 
-// The bytes of `count` glyphs that lie at a place.
-fn list_at(bytes: &[u8], from: usize, count: u16) -> &[u8]
-    requires { from + count * 2 ≤ length bytes.now }
-    ensures { result.now ≡ take (count * 2) (drop from bytes.now) }
+// The bytes of an insertion's glyphs.
+#[tactic(auto, using(crate::proofs::Lists::part_until))]
+fn list_at(bytes: &[u8], insertion: Insertion) -> &[u8]
+    requires { insertion.glyphs + insertion.count * 2 ≤ length bytes.now }
+    ensures { result.now ≡ take (insertion.count * 2) (drop insertion.glyphs bytes.now) }
 {
-    let end = from + count as usize * 2;
-    &bytes[from..end]
-}
-
-// `count` glyphs that lie at `from`, inserted at a place of the line; the used length afterwards.
-fn put_at(
-    bytes: &[u8],
-    glyphs: &mut [u16],
-    tags: &mut [u16],
-    homes: &[u16],
-    used: usize,
-    place: usize,
-    count: u16,
-    from: usize,
-) -> usize
-    requires { (from + count * 2 ≤ length bytes.now) × (used + count ≤ length glyphs.old) × (length tags.old ≡ length glyphs.old) ×
-        (length glyphs.old ≤ Limits.room_limit) }
-    ensures glyphs { glyphs.new ≡ (apply_all (changes_of bytes.now (Inserted.At place count from))
-        (line_of glyphs.old tags.old homes.now used)).glyphs }
-    ensures tags { tags.new ≡ (apply_all (changes_of bytes.now (Inserted.At place count from))
-        (line_of glyphs.old tags.old homes.now used)).tags }
-    ensures used { result ≡ (apply_all (changes_of bytes.now (Inserted.At place count from))
-        (line_of glyphs.old tags.old homes.now used)).used }
-{
-    line::edits::insert(glyphs, tags, used, place, list_at(bytes, from, count))
+    &bytes[insertion.glyphs..insertion.glyphs + insertion.count as usize * 2]
 }
 
 // An insertion, made on the line; the used length afterwards.
+// kept: C lends a line slice by slice (`aat_insertion_pass`), and so it stands in the work of every crate.
+#[tactic(auto, using(crate::proofs::Edits::put_part, crate::proofs::Edits::part_half))]
 fn put(
     bytes: &[u8],
     glyphs: &mut [u16],
     tags: &mut [u16],
     homes: &[u16],
     used: usize,
-    edit: Inserted,
+    edit: Option<Insertion>,
 ) -> usize
     requires { (end_of edit ≤ length bytes.now) × (used + count_of edit ≤ length glyphs.old) × (length tags.old ≡ length glyphs.old) ×
         (length glyphs.old ≤ Limits.room_limit) }
-    ensures glyphs { glyphs.new ≡ (apply_all (changes_of bytes.now edit)
-        (line_of glyphs.old tags.old homes.now used)).glyphs }
-    ensures tags { tags.new ≡ (apply_all (changes_of bytes.now edit)
-        (line_of glyphs.old tags.old homes.now used)).tags }
-    ensures used { result ≡ (apply_all (changes_of bytes.now edit)
-        (line_of glyphs.old tags.old homes.now used)).used }
+    ensures { Left (changes_of bytes.now edit) (line_of glyphs.old tags.old homes.now used) glyphs.new tags.new result }
 {
-    let Inserted::At {
-        place,
-        count,
-        glyphs: from,
-    } = edit
-    else {
+    let Some(insertion) = edit else {
         return used;
     };
-    put_at(bytes, glyphs, tags, homes, used, place, count, from)
+    line::edits::insert(
+        glyphs,
+        tags,
+        used,
+        insertion.place,
+        list_at(bytes, insertion),
+    )
 }
 
 // A step's insertions, made on the line; the used length afterwards.
+#[tactic(auto, using(crate::proofs::Edits::used_grows))]
 fn edit(
     bytes: &[u8],
     glyphs: &mut [u16],
     tags: &mut [u16],
     homes: &[u16],
     used: usize,
-    marked: Inserted,
-    current: Inserted,
+    marked: Option<Insertion>,
+    current: Option<Insertion>,
 ) -> usize
     requires { (end_of marked ≤ length bytes.now) × (end_of current ≤ length bytes.now) × (used + count_of marked + count_of current ≤ length glyphs.old) ×
         (length tags.old ≡ length glyphs.old) × (length glyphs.old ≤ Limits.room_limit) }
-    ensures glyphs { glyphs.new ≡ (apply_all (both_changes bytes.now marked current)
-        (line_of glyphs.old tags.old homes.now used)).glyphs }
-    ensures tags { tags.new ≡ (apply_all (both_changes bytes.now marked current)
-        (line_of glyphs.old tags.old homes.now used)).tags }
-    ensures used { result ≡ (apply_all (both_changes bytes.now marked current)
-        (line_of glyphs.old tags.old homes.now used)).used }
+    ensures { Left (both_changes bytes.now marked current) (line_of glyphs.old tags.old homes.now used) glyphs.new tags.new result }
 {
     let between = put(bytes, glyphs, tags, homes, used, marked);
     put(bytes, glyphs, tags, homes, between, current)
 }
 
-// The class of a place of the line, or of the end of text behind it.
-fn class_now(
-    bytes: &[u8],
-    opened: Classes,
-    memo: &mut [u32; 64],
-    glyphs: &[u16],
-    used: usize,
-    place: usize,
-) -> u16
-    requires { LiesIn bytes.now opened × Remembers (class_by bytes.now opened) memo.old × (place ≤ used) × (used ≤ length glyphs.now) }
-    ensures class { result ≡ class_here (class_by bytes.now opened) (get_or glyphs.now place 0) (eqb place used) }
-    ensures memo { Remembers (class_by bytes.now opened) memo.new }
-{
-    if place == used {
-        return 0;
-    }
-    let glyph = glyphs[place];
-    let Classes::Words { base, first, count } = opened else {
-        return opened::remembered(bytes, opened, memo, glyph);
-    };
-    opened::class_in_words(bytes, base, first, count, glyph)
-}
-
-// The same by an index, where that reaches the glyph.
+// The class of a place of the line, by an index where that reaches the glyph, or of the end of text behind it.
+#[tactic(auto, unfolding(machine::specs::Entry::class_here))]
 fn class_by(
     bytes: &[u8],
     opened: Classes,
@@ -601,14 +525,11 @@ fn class_by(
     if place == used {
         return 0;
     }
-    let glyph = glyphs[place] as usize;
-    if glyph < index.len() {
-        return index[glyph];
-    }
-    class_now(bytes, opened, memo, glyphs, used, place)
+    indexes::class_by(bytes, opened, memo, glyphs[place], index)
 }
 
 // Whether an entry inserts nothing and advances.
+#[tactic(auto, unfolding(crate::specs::Work::is_quiet))]
 fn is_quiet(bytes: &[u8], entry: Entry) -> bool
     requires { entry.payload + 4 ≤ length bytes.now }
     ensures { result ≡ is_quiet bytes.now entry }
@@ -617,13 +538,11 @@ fn is_quiet(bytes: &[u8], entry: Entry) -> bool
         return false;
     }
     let numbers = entries::two_numbers(bytes, entry.payload);
-    if numbers.first != InsertionState::NO_ACTION {
-        return false;
-    }
-    numbers.second == InsertionState::NO_ACTION
+    numbers.first == InsertionState::NO_ACTION && numbers.second == InsertionState::NO_ACTION
 }
 
 // The pass over a line that LINE has taken, with the bytes from the state table on.
+#[tactic(auto, using(crate::proofs::Passes::quiet_goes, crate::proofs::Passes::quiet_less, state_tables::proofs::Laws::entry_payload, line::proofs::Room::room_small))]
 fn pass_line(
     bytes: &[u8],
     states: States,
@@ -634,23 +553,18 @@ fn pass_line(
     index: &[u16],
 ) -> InsertionPass
     requires { (used ≤ length glyphs.old) × (length tags.old ≡ length glyphs.old) × (length glyphs.old ≤ Limits.room_limit) }
-    ensures answer { result.answer ≡ (passed (indexed index.now insertion) bytes.now states
-        (line_of glyphs.old tags.old homes.now used)).answer }
-    ensures used { result.used ≡ (passed_leaves (indexed index.now insertion) bytes.now states
-        (line_of glyphs.old tags.old homes.now used)).used }
-    ensures glyphs { glyphs.new ≡ (passed_leaves (indexed index.now insertion) bytes.now states
-        (line_of glyphs.old tags.old homes.now used)).glyphs }
-    ensures tags { tags.new ≡ (passed_leaves (indexed index.now insertion) bytes.now states
-        (line_of glyphs.old tags.old homes.now used)).tags }
+    ensures { Ends (passed (indexed index.now insertion) bytes.now states (line_of glyphs.old tags.old homes.now used))
+        (line_of glyphs.old tags.old homes.now used) result.answer glyphs.new tags.new result.used }
 {
     let opened = opened::open(bytes, states);
     let mut memo = opened::nothing_found();
     let mut state = InsertionState::new();
     let mut place = 0;
     let mut end = used;
+    // kept: a place stays or moves by what is put in, and the end moves with it, so that no range counts the turns.
     loop {
         let class = class_by(bytes, opened, &mut memo, glyphs, end, place, index);
-        let Entered::At(entry) = entries::entry_of(bytes, states, state.state, class, 4) else {
+        let Some(entry) = entries::entry_of(bytes, states, state.state, class, 4) else {
             return InsertionPass {
                 answer: Answer::Ended,
                 used: end,
@@ -668,24 +582,16 @@ fn pass_line(
             continue;
         }
         let step = state.act(bytes, entry, place, end, glyphs.len());
-        let marked = step.marked;
-        let current = step.current;
         let answer = step.answer;
-        let longer = edit(bytes, glyphs, tags, homes, end, marked, current);
-        if place == end {
-            return InsertionPass {
-                answer,
-                used: longer,
-            };
-        }
-        if !machine::is_done(answer) {
+        let longer = edit(bytes, glyphs, tags, homes, end, step.marked, step.current);
+        if place == end || !machine::is_done(answer) {
             return InsertionPass {
                 answer,
                 used: longer,
             };
         }
         let after = step.state;
-        // Field by field: a copy as a whole would wait for the stores that the step has just made.
+        // kept: field by field, since a copy as a whole was slower: it waits for the stores that the step has just made.
         state = InsertionState {
             state: after.state,
             mark: after.mark,
@@ -697,6 +603,7 @@ fn pass_line(
 }
 
 // The pass over a line that LINE has taken, by the subtable that the bytes begin with and the classes of an index.
+#[tactic(auto, unfolding(machine::specs::Work::work_leaves, line::specs::Changes::apply_all))]
 pub fn work_by(
     bytes: &[u8],
     glyphs: &mut [u16],
@@ -715,7 +622,7 @@ pub fn work_by(
     ensures tags { tags.new ≡ (work_leaves (subtable_of (indexed index.now insertion)) bytes.now
         (line_of glyphs.old tags.old homes.now used)).tags }
 {
-    let Made::Ready(states) = open(bytes) else {
+    let Some(states) = open(bytes) else {
         return InsertionPass {
             answer: Answer::Refused(Refusal::Head),
             used,
@@ -755,6 +662,7 @@ pub fn work(
 }
 
 // The pass over a line, by the subtable at `start`.
+#[tactic(auto, using(crate::proofs::Calls::taken_fits), unfolding(machine::specs::Machine::pass_call, machine::specs::Machine::call_leaves, machine::specs::Work::work_leaves, line::specs::Changes::apply_all))]
 pub fn pass(
     table: &[u8],
     start: usize,
@@ -773,7 +681,7 @@ pub fn pass(
         (line_of glyphs.old tags.old homes.now used)).tags }
 {
     let bytes = parse::from(table, start);
-    if let Check::Refused(why) = machine::refuse_pass(
+    if let Err(why) = machine::refuse_pass(
         table.len(),
         glyphs,
         tags,
@@ -790,6 +698,7 @@ pub fn pass(
 }
 
 // The tests before a lone insertion: TABLE, LINE, PLACE.
+#[tactic(auto, unfolding(crate::specs::Lone::insert_tests, machine::specs::Call::place_test, line::specs::Test::line_test, answers::specs::Refuse::refuse))]
 fn refuse_insert(
     table_length: usize,
     glyphs: &[u16],
@@ -797,22 +706,21 @@ fn refuse_insert(
     homes: &[u16],
     used: usize,
     place: usize,
-) -> Check
+) -> Result<(), Refusal>
     ensures { result ≡ refuse (insert_tests table_length (line_of glyphs.now tags.now homes.now used) place) }
 {
-    if let Check::Refused(why) = answers::refuse_table(table_length) {
-        return Check::Refused(why);
-    }
+    answers::refuse_table(table_length)?;
     if !line::valid::takes(glyphs, tags, homes, used) {
-        return Check::Refused(Refusal::Line);
+        return Err(Refusal::Line);
     }
     if used < place {
-        return Check::Refused(Refusal::Place);
+        return Err(Refusal::Place);
     }
-    Check::Passed
+    Ok(())
 }
 
 // Inserts `count` glyphs, which lie in the table from `start` on, at a place of a line: an edit that a step hands over.
+#[tactic(auto, using(crate::proofs::Lone::insert_valid), unfolding(crate::specs::Lone::insert_call, crate::specs::Lone::insert_leaves, crate::specs::Lone::lone_insertion, line::specs::Changes::apply_all))]
 pub fn insert(
     table: &[u8],
     start: usize,
@@ -832,7 +740,7 @@ pub fn insert(
     ensures tags { tags.new ≡ (insert_leaves table.now start count place
         (line_of glyphs.old tags.old homes.now used)).tags }
 {
-    if let Check::Refused(why) = refuse_insert(table.len(), glyphs, tags, homes, used, place) {
+    if let Err(why) = refuse_insert(table.len(), glyphs, tags, homes, used, place) {
         return InsertionPass {
             answer: Answer::Refused(why),
             used,
@@ -841,10 +749,10 @@ pub fn insert(
     let listed = list_from(table, start, count);
     let tried = enter(listed, place, count, used, glyphs.len());
     match tried {
-        Tried::Made(edit) => InsertionPass {
+        Ok(edit) => InsertionPass {
             answer: Answer::Done,
             used: put(table, glyphs, tags, homes, used, edit),
         },
-        Tried::Over(answer) => InsertionPass { answer, used },
+        Err(answer) => InsertionPass { answer, used },
     }
 }

@@ -1,4 +1,5 @@
 -- The walk of a list as its cursor repeated, in the places of the whole table.
+use Rattle.std.specs.Prelude.{Option, Some, None}
 use Prim.Native.Nat.{ℕ, ◌+◌, ◌≤◌}
 use mathlib.Core.Path.{◌≡◌, refl, ap}
 use mathlib.Core.Bool.{Bool, true, false}
@@ -7,10 +8,6 @@ use native.Mathlib.Nat.{add_assoc}
 use native.Mathlib.Omega.{arith}
 use lib.Dec.{eqb}
 use Rattle.parse.specs.Reads.{read_u16, read_u32}
-use Rattle.parse.specs.declared.ReadU16.{ReadU16}
-use Rattle.parse.specs.declared.ReadU16.TheVariants as U16
-use Rattle.parse.specs.declared.ReadU32.{ReadU32}
-use Rattle.parse.specs.declared.ReadU32.TheVariants as U32
 use Rattle.parse.proofs.Laws.{read_u16-short}
 use Rattle.kerning_lists.specs.Walk.{u16_or_zero, list_bytes}
 use Rattle.kerning_lists.specs.Cursors.{followed, moved}
@@ -38,14 +35,14 @@ head-moved : (version before at : ℕ) (part : List ℕ) → head_in version (be
 unfolding head_in old_subtable new_subtable
 head-moved version before at part = go (eqb version 0) (read_u16 part 2) (read_u32 part 0) (read_u16 part 4) refl refl refl refl
   where
-    go : (t : Bool) (a : ReadU16) (b : ReadU32) (c : ReadU16) → eqb version 0 ≡ t → read_u16 part 2 ≡ a → read_u32 part 0 ≡ b → read_u16 part 4 ≡ c
+    go : (t : Bool) (a : Option ℕ) (b : Option ℕ) (c : Option ℕ) → eqb version 0 ≡ t → read_u16 part 2 ≡ a → read_u32 part 0 ≡ b → read_u16 part 4 ≡ c
         → head_in version (before + at) part ≡ map_head (moved before) (head_in version at part)
-    go true (U16.Got size) b (U16.Got coverage) p e f g = rw (p, e, g, head_in, old_subtable, add_assoc before at size)
-    go true (U16.Got size) b U16.Short p e f g = rw (p, e, g, head_in)
-    go true U16.Short b c p e f g = rw (p, e, head_in)
-    go false a (U32.Got size) (U16.Got coverage) p e f g = rw (p, f, g, head_in, new_subtable, add_assoc before at size)
-    go false a (U32.Got size) U16.Short p e f g = rw (p, f, g, head_in)
-    go false a U32.Short c p e f g = rw (p, f, head_in)
+    go true (Some size) b (Some coverage) p e f g = rw (p, e, g, head_in, old_subtable, add_assoc before at size)
+    go true (Some size) b None p e f g = rw (p, e, g, head_in)
+    go true None b c p e f g = rw (p, e, head_in)
+    go false a (Some size) (Some coverage) p e f g = rw (p, f, g, head_in, new_subtable, add_assoc before at size)
+    go false a (Some size) None p e f g = rw (p, f, g, head_in)
+    go false a None c p e f g = rw (p, f, head_in)
 
 none-counted : (list_of []).count ≡ 0
 unfolding list_of

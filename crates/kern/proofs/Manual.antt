@@ -1,4 +1,7 @@
 -- kern's subtables begin where the manual says, and the answer for a pair is the manual's.
+use Rattle.std.specs.Prelude.{Option, Some, None, Result, ℤ}
+use Rattle.answers.specs.declared.Refusal.{Refusal}
+use Rattle.tables.specs.declared.lookup.Why.{Why}
 use Prim.Native.Nat.{ℕ, ◌+◌, ◌<◌, ◌≤◌, ◌/◌, ◌%◌}
 use mathlib.Core.Path.{◌≡◌, refl, sym, ◌∙◌, ap, subst}
 use mathlib.Core.Bool.{false}
@@ -10,24 +13,18 @@ use lib.ListN.{length, drop, length-drop}
 use borrow.Author.Tests.{eq-eqb}
 use Rattle.laws.proofs.Numbers.{lt-or-ge}
 use Rattle.parse.specs.Reads.{u16_at, u32_at, read_u16, read_u32}
-use Rattle.parse.specs.declared.ReadU16.{ReadU16}
-use Rattle.parse.specs.declared.ReadU16.TheVariants as U16
-use Rattle.parse.specs.declared.ReadU32.{ReadU32}
-use Rattle.parse.specs.declared.ReadU32.TheVariants as U32
 use Rattle.parse.proofs.Laws.{read_u16_got, read_u16-short, read_u32_got, read_u32-short, u16_from, u32_from}
 use Rattle.pairs.specs.Pairs.{ordered_kern}
 use Rattle.pairs.specs.Reply.{reply_of}
 use Rattle.pairs.specs.Manual.{Rising, OrderedValue}
 use Rattle.pairs.specs.Manual as Pairs'
-use Rattle.pairs.specs.declared.PairReply.{PairReply}
 use Rattle.tables.specs.declared.lookup.Why.TheVariants.{NotCovered}
 use Rattle.pairs.specs.declared.PairTable.TheVariants.{Ordered}
-use Rattle.pairs.specs.declared.Opened.TheVariants.{Ready}
+use Rattle.std.specs.Prelude.{Ok}
 use Rattle.pairs.proofs.Manual.{ordered_as_manual}
 use Rattle.kerning_lists.specs.Walk.{heads_from}
 use Rattle.kerning_lists.specs.Manual.{told, NoneInPart, AsManual}
 use Rattle.kerning_lists.specs.declared.Subtable.{Subtable}
-use Rattle.kerning_lists.specs.declared.Head.TheVariants.{At, Cut}
 use Rattle.kerning_lists.proofs.Manual.{no_head, walk_read, walk_as_manual}
 use Rattle.kerning_lists.specs.Family.{head_at, walk_of, pair_in}
 use Rattle.kern.specs.Heads.{old_subtable, new_subtable, head_in, list_of}
@@ -41,33 +38,33 @@ read_at new bytes at = new_subtable at (u32_at bytes at) (u16_at bytes (at + 4))
 
 -- are read where they lie in the table, and only there
 module _ (bytes : List ℕ) (at : ℕ) where
-  u16_there : (i : ℕ) → at + i + 2 ≤ length bytes → read_u16 (drop at bytes) i ≡ U16.Got (u16_at bytes (at + i))
-  u16_there i h = read_u16_got (drop at bytes) i (omega (arith, h, length-drop at bytes)) ∙ ap U16.Got (u16_from bytes at i)
+  u16_there : (i : ℕ) → at + i + 2 ≤ length bytes → read_u16 (drop at bytes) i ≡ Some (u16_at bytes (at + i))
+  u16_there i h = read_u16_got (drop at bytes) i (omega (arith, h, length-drop at bytes)) ∙ ap Some (u16_from bytes at i)
 
-  u32_there : at + 4 ≤ length bytes → read_u32 (drop at bytes) 0 ≡ U32.Got (u32_at bytes at)
+  u32_there : at + 4 ≤ length bytes → read_u32 (drop at bytes) 0 ≡ Some (u32_at bytes at)
   u32_there h =
-      read_u32_got (drop at bytes) 0 (omega (arith, h, length-drop at bytes)) ∙ ap U32.Got (u32_from bytes at 0 ∙ ap (u32_at bytes) (add-zero at))
+      read_u32_got (drop at bytes) 0 (omega (arith, h, length-drop at bytes)) ∙ ap Some (u32_from bytes at 0 ∙ ap (u32_at bytes) (add-zero at))
 
-  head_reads : (edition : Edition) → at + 6 ≤ length bytes → head_at kern false bytes (version_number edition) at ≡ At (read_at edition bytes at)
+  head_reads : (edition : Edition) → at + 6 ≤ length bytes → head_at kern false bytes (version_number edition) at ≡ Some (read_at edition bytes at)
   unfolding head_in read_at
   head_reads old h = rw (u16_there 2 (omega (arith, h)), u16_there 4 (omega (arith, h)))
   head_reads new h = rw (u32_there (omega (arith, h)), u16_there 4 (omega (arith, h)))
 
-  head-cut : (edition : Edition) → length bytes < at + 6 → head_at kern false bytes (version_number edition) at ≡ Cut
+  head-cut : (edition : Edition) → length bytes < at + 6 → head_at kern false bytes (version_number edition) at ≡ None
   unfolding head_in
   head-cut edition h = go edition (read_u16 (drop at bytes) 2) (read_u32 (drop at bytes) 0) refl refl
     where
-      short : read_u16 (drop at bytes) 4 ≡ U16.Short
+      short : read_u16 (drop at bytes) 4 ≡ None
       short = read_u16-short (drop at bytes) 4 (omega (arith, h, length-drop at bytes))
 
-      go : (edition : Edition) (a : ReadU16) (b : ReadU32) → read_u16 (drop at bytes) 2 ≡ a → read_u32 (drop at bytes) 0 ≡ b
-          → head_at kern false bytes (version_number edition) at ≡ Cut
-      go old (U16.Got size) b e f = rw (head_in, e, short)
-      go old U16.Short b e f = rw (head_in, e)
-      go new a (U32.Got size) e f = rw (head_in, f, short)
-      go new a U32.Short e f = rw (head_in, f)
+      go : (edition : Edition) (a : Option ℕ) (b : Option ℕ) → read_u16 (drop at bytes) 2 ≡ a → read_u32 (drop at bytes) 0 ≡ b
+          → head_at kern false bytes (version_number edition) at ≡ None
+      go old (Some size) b e f = rw (head_in, e, short)
+      go old None b e f = rw (head_in, e)
+      go new a (Some size) e f = rw (head_in, f, short)
+      go new a None e f = rw (head_in, f)
 
-  head-only : (edition : Edition) (s : Subtable) → head_at kern false bytes (version_number edition) at ≡ At s → at + 6 ≤ length bytes
+  head-only : (edition : Edition) (s : Subtable) → head_at kern false bytes (version_number edition) at ≡ Some s → at + 6 ≤ length bytes
   head-only edition s e =
       ⊎_elim (λ (h : length bytes < at + 6). no_head e (head-cut edition h)) (λ (h : at + 6 ≤ length bytes). h) (lt-or-ge (length bytes) (at + 6))
 
@@ -119,7 +116,7 @@ kern_without_list edition bytes v k h = rw (nothing-counted edition bytes v k h,
 -- the answer for a pair
 module _ (bytes : List ℕ) (left right : ℕ) where
   pair_is : (edition : Edition) → HasPairs edition bytes
-      → pair_in kern bytes (version_number edition) left right ≡ reply_of bytes (Ready (Ordered (first_pair edition) (pair_count edition bytes))) left right
+      → pair_in kern bytes (version_number edition) left right ≡ reply_of bytes (Ok (Ordered (first_pair edition) (pair_count edition bytes))) left right
   unfolding pair_in pair_by ordered_kern read_at old_subtable new_subtable
   pair_is old has =
       let h = has.head in
@@ -133,6 +130,6 @@ pub kern_pair_as_manual : (edition : Edition) (bytes : List ℕ) (left right : �
     → Pairs'.AsManual (pair_in kern bytes (version_number edition) left right)
     (OrderedValue bytes 0 (first_pair edition) (pair_count edition bytes) left right) NotCovered
 kern_pair_as_manual edition bytes left right has rising =
-    subst (λ (r : PairReply). Pairs'.AsManual r (OrderedValue bytes 0 (first_pair edition) (pair_count edition bytes) left right) NotCovered)
+    subst (λ (r : Result (Result ℤ Why) Refusal). Pairs'.AsManual r (OrderedValue bytes 0 (first_pair edition) (pair_count edition bytes) left right) NotCovered)
     (sym (pair_is bytes left right edition has))
     (ordered_as_manual bytes 0 (first_pair edition) (pair_count edition bytes) left right refl rising)

@@ -1,5 +1,5 @@
 -- kern's list and the heads of its subtables, in both editions, over the bytes from the table's own start on.
-use Rattle.std.specs.Prelude.{ℕ, ◌+◌, ◌/◌, ◌%◌, false, not, List}
+use Rattle.std.specs.Prelude.{ℕ, ◌+◌, ◌/◌, ◌%◌, false, not, List, Option, Some, None}
 use Rattle.laws.specs.Lists.{either}
 use Rattle.laws.specs.Choose.{if_eq}
 use Rattle.parse.specs.Reads.{read_u16, read_u32}
@@ -7,8 +7,6 @@ use Rattle.parse.specs.Use.{on_u16, on_u32}
 use Rattle.laws.specs.Bits.{is_set}
 use Rattle.kerning_lists.specs.Walk.{u16_or_zero, u32_or_zero}
 use Rattle.kerning_lists.specs.declared.Subtable.{Subtable}
-use Rattle.kerning_lists.specs.declared.Head.{Head}
-use Rattle.kerning_lists.specs.declared.Head.TheVariants.{At, Cut}
 use Rattle.kerning_lists.specs.declared.ListHead.{ListHead}
 
 -- old edition: a run passes over what is not horizontal (bit 0 clear) and what is cross-stream (bit 2); the high byte is the format
@@ -34,11 +32,11 @@ new_subtable at size coverage =
     }
 
 -- the head at a place, by the bytes from there on: its size is at 2 or at 0, its coverage at 4; the new edition's tuple index isn't looked at
-unfoldable pub head_in : (version at : ℕ) → (part : List ℕ) → Head
+unfoldable pub head_in : (version at : ℕ) → (part : List ℕ) → Option Subtable
 head_in version at part =
     if_eq version 0
-    (on_u16 (read_u16 part 2) (λ size. on_u16 (read_u16 part 4) (λ coverage. At (old_subtable at size coverage)) Cut) Cut)
-    (on_u32 (read_u32 part 0) (λ size. on_u16 (read_u16 part 4) (λ coverage. At (new_subtable at size coverage)) Cut) Cut)
+    (on_u16 (read_u16 part 2) (λ size. on_u16 (read_u16 part 4) (λ coverage. Some (old_subtable at size coverage)) None) None)
+    (on_u32 (read_u32 part 0) (λ size. on_u16 (read_u16 part 4) (λ coverage. Some (new_subtable at size coverage)) None) None)
 
 -- the list: its version; in the old edition a 16-bit count at 2 and the first subtable at 4, in the new one a 32-bit count at 4 and the first at 8
 unfoldable pub list_of : List ℕ → ListHead

@@ -7,32 +7,30 @@ ghost use Rattle.line.specs.Line.{line_of};
 ghost use Rattle.kerning.specs.Additions.{add_all};
 ghost use Rattle.kerning.specs.Bounds.{Within};
 ghost use Rattle.kerning.specs.Choices.{unchosen};
-ghost use Rattle.kerning_lists.specs.Family.{head_at, walk_of, passed, pass_call, pair_in, pair_call, adds, run_call, list_from, list_call, subtable_call};
+ghost use Rattle.kerning_lists.specs.Family.{head_at, walk_of, pass_call, pair_call, adds, run_call, list_call, subtable_call};
 ghost use Rattle.kerning_lists.specs.Walk.{walk_answer, visited, heads_from};
 ghost use Rattle.kerning_lists.specs.Run.{contribution, contributions, used_part};
-ghost use Rattle.kern.specs.Heads.{old_subtable, new_subtable, head_in, list_of};
-ghost use Rattle.kern.specs.Kern.{worked, pair_by, kern};
+ghost use Rattle.kern.specs.Heads.{old_subtable, new_subtable, list_of};
+ghost use Rattle.kern.specs.Kern.{kern};
 
-use answers::{Answer, Check, Refusal};
-use kerning::choices;
+use answers::{Answer, Refusal};
 use kerning::choices::Choices;
-use kerning_lists::{Cursor, Head, ListHead, ListStart, Run, Subtable, SubtableReply};
-use pairs::PairReply;
+use kerning_lists::{Cursor, ListHead, Lists, NextSubtable, Run, Subtable};
+use tables::lookup::Why;
 
 // The old edition's bit for horizontal text, and the new one's for vertical text.
 const HORIZONTAL: u16 = 1;
 
 const VERTICAL: u16 = 0x8000;
 
+#[tactic(auto, unfolding(crate::specs::Heads::old_subtable))]
 fn old_subtable(at: usize, size: u16, coverage: u16) -> Subtable
     requires { at < 2 ^ 63 }
     ensures { result ≡ old_subtable at size coverage }
 {
     Subtable {
-        passed_over: kerning_lists::one_of(
-            !machine::is_set(coverage, HORIZONTAL),
-            machine::is_set(coverage, kern_machine::OLD_CROSS_STREAM),
-        ),
+        passed_over: !machine::is_set(coverage, HORIZONTAL)
+            || machine::is_set(coverage, kern_machine::OLD_CROSS_STREAM),
         turned: false,
         format: (coverage / 256) as u32,
         body: at,
@@ -40,15 +38,14 @@ fn old_subtable(at: usize, size: u16, coverage: u16) -> Subtable
     }
 }
 
+#[tactic(auto, unfolding(crate::specs::Heads::new_subtable))]
 fn new_subtable(at: usize, size: u32, coverage: u16) -> Subtable
     requires { at < 2 ^ 63 }
     ensures { result ≡ new_subtable at size coverage }
 {
     Subtable {
-        passed_over: kerning_lists::one_of(
-            machine::is_set(coverage, VERTICAL),
-            machine::is_set(coverage, kern_machine::CROSS_STREAM),
-        ),
+        passed_over: machine::is_set(coverage, VERTICAL)
+            || machine::is_set(coverage, kern_machine::CROSS_STREAM),
         turned: false,
         format: (coverage % 256) as u32,
         body: at,
@@ -56,150 +53,106 @@ fn new_subtable(at: usize, size: u32, coverage: u16) -> Subtable
     }
 }
 
-// The head at a place, by the bytes from there on.
-fn head_in(version: u16, at: usize, part: &[u8]) -> Head
-    requires { at < 2 ^ 63 }
-    ensures { result ≡ head_in version at part.now }
-{
-    if version == 0 {
-        let parse::ReadU16::Got(size) = parse::read_u16(part, 2) else {
-            return Head::Cut;
-        };
-        let parse::ReadU16::Got(coverage) = parse::read_u16(part, 4) else {
-            return Head::Cut;
-        };
-        return Head::At(old_subtable(at, size, coverage));
-    }
-    let parse::ReadU32::Got(size) = parse::read_u32(part, 0) else {
-        return Head::Cut;
-    };
-    let parse::ReadU16::Got(coverage) = parse::read_u16(part, 4) else {
-        return Head::Cut;
-    };
-    Head::At(new_subtable(at, size, coverage))
-}
+// What kern says for itself of its lists; it goes from left to right alone.
+struct Kern;
 
-// The head at a place of the list; there is none at or past the table's end.
-fn head_at(bytes: &[u8], version: u16, at: usize) -> Head
-    ensures { result ≡ head_at kern false bytes.now version at }
-{
-    if bytes.len() <= at {
-        return Head::Cut;
-    }
-    head_in(version, at, parse::from(bytes, at))
-}
+impl Lists for Kern {
+    ghost family = { kern };
 
-// The list at the start of a table's bytes.
-fn list_of(bytes: &[u8]) -> ListHead
-    ensures { result ≡ list_of bytes.now }
-{
-    let version = kerning_lists::u16_or_zero(bytes, 0);
-    if version == 0 {
-        return ListHead {
-            version: 0,
-            count: kerning_lists::u16_or_zero(bytes, 2) as u32,
-            first: 4,
-        };
+    #[tactic(auto, unfolding(crate::specs::Heads::list_of))]
+    fn list_of(bytes: &[u8]) -> ListHead {
+        let version = kerning_lists::u16_or_zero(bytes, 0);
+        if version == 0 {
+            return ListHead {
+                version,
+                count: kerning_lists::u16_or_zero(bytes, 2) as u32,
+                first: 4,
+            };
+        }
+        ListHead {
+            version,
+            count: kerning_lists::u32_or_zero(bytes, 4),
+            first: 8,
+        }
     }
-    ListHead {
-        version,
-        count: kerning_lists::u32_or_zero(bytes, 4),
-        first: 8,
-    }
-}
 
-// The list at `start`, from its first subtable on.
-fn list_from(table: &[u8], start: usize) -> Cursor
-    requires { start ≤ length table.now }
-    ensures { result ≡ list_from kern table.now start }
-{
-    let list = list_of(kerning_lists::list_bytes(table, start));
-    Cursor {
-        place: start + list.first,
-        left: list.count as usize,
-        version: list.version,
+    #[tactic(auto, using(parse::proofs::Laws::u16_inside), unfolding(crate::specs::Heads::head_in))]
+    fn head_in(_: bool, version: u16, at: usize, part: &[u8]) -> Option<Subtable> {
+        if version == 0 {
+            let size = parse::read_u16(part, 2)?;
+            let coverage = parse::read_u16(part, 4)?;
+            return Some(old_subtable(at, size, coverage));
+        }
+        let size = parse::read_u32(part, 0)?;
+        let coverage = parse::read_u16(part, 4)?;
+        Some(new_subtable(at, size, coverage))
+    }
+
+    #[tactic(auto, unfolding(crate::specs::Kern::worked, kerning::specs::Additions::add_all))]
+    fn work(
+        bytes: &[u8],
+        version: u16,
+        format: u32,
+        glyphs: &[u16],
+        used: usize,
+        along: &mut [i64],
+        choices: Choices,
+    ) -> Answer {
+        match format {
+            0 => {
+                let opened = pairs::ordered_kern(bytes, kern_machine::head_size(version));
+                pairs::work(bytes, opened, glyphs, used, along, choices.pairs)
+            }
+            1 => kern_machine::work(bytes, version, glyphs, used, along),
+            _ => Answer::Refused(Refusal::Head),
+        }
+    }
+
+    #[tactic(auto, unfolding(crate::specs::Kern::pair_by))]
+    fn pair_by(
+        bytes: &[u8],
+        version: u16,
+        format: u32,
+        left: u16,
+        right: u16,
+    ) -> Result<Result<i16, Why>, Refusal> {
+        if format != 0 {
+            return Err(Refusal::Head);
+        }
+        let opened = pairs::ordered_kern(bytes, kern_machine::head_size(version));
+        pairs::reply(bytes, opened, left, right)
     }
 }
 
 // The subtables of the list at `start`.
-pub fn subtables(table: &[u8], start: usize) -> ListStart
+pub fn subtables(table: &[u8], start: usize) -> Result<Cursor, Refusal>
     ensures { result ≡ list_call kern table.now start }
 {
-    if let Check::Refused(why) = kerning_lists::refuse_list(table.len(), start) {
-        return ListStart::Refused(why);
-    }
-    ListStart::From(list_from(table, start))
+    kerning_lists::subtables::<Kern>(table, start)
 }
 
 // The next subtable of a list, whatever the cursor's numbers are.
-pub fn next_subtable(table: &[u8], cursor: Cursor) -> SubtableReply
+pub fn next_subtable(table: &[u8], cursor: Cursor) -> Result<Option<NextSubtable>, Refusal>
     ensures { result ≡ subtable_call kern table.now cursor }
 {
-    if let Check::Refused(why) = answers::refuse_table(table.len()) {
-        return SubtableReply::Refused(why);
-    }
-    let head = head_at(table, cursor.version, cursor.place);
-    SubtableReply::Next(kerning_lists::next_by(head, cursor))
-}
-
-// The pass by the subtable that begins with `bytes`, of a format.
-fn work(
-    bytes: &[u8],
-    version: u16,
-    format: u32,
-    glyphs: &[u16],
-    used: usize,
-    along: &mut [i64],
-    choices: Choices,
-) -> Answer
-    requires { (used ≤ length glyphs.now) × (used ≤ length along.old) × (used ≤ room_limit) × Within (2 ^ 60) along.old }
-    ensures answer { result ≡ (worked bytes.now version format glyphs.now used choices).answer }
-    ensures along { along.new ≡ add_all (worked bytes.now version format glyphs.now used choices).additions
-        along.old }
-{
-    let rule = choices.pairs;
-    if format == 0 {
-        let opened = pairs::ordered_kern(bytes, kern_machine::head_size(version));
-        return pairs::work(bytes, opened, glyphs, used, along, rule);
-    }
-    if format == 1 {
-        return kern_machine::work(bytes, version, glyphs, used, along);
-    }
-    Answer::Refused(Refusal::Head)
-}
-
-// The answer for a pair by the subtable that begins with `bytes`, of a format.
-fn pair_by(bytes: &[u8], version: u16, format: u32, left: u16, right: u16) -> PairReply
-    ensures { result ≡ pair_by bytes.now version format left right }
-{
-    if format == 0 {
-        let opened = pairs::ordered_kern(bytes, kern_machine::head_size(version));
-        return pairs::reply(bytes, opened, left, right);
-    }
-    PairReply::Refused(Refusal::Head)
-}
-
-// The answer for a pair by the subtable that begins with `bytes`, its head included.
-fn pair_in(bytes: &[u8], version: u16, left: u16, right: u16) -> PairReply
-    ensures { result ≡ pair_in kern bytes.now version left right }
-{
-    let Head::At(subtable) = head_in(version, 0, bytes) else {
-        return PairReply::Refused(Refusal::Head);
-    };
-    pair_by(bytes, version, subtable.format, left, right)
+    kerning_lists::next_subtable::<Kern>(table, cursor)
 }
 
 // What a pair of glyphs adds, by the subtable at `start` of a list of this version.
-pub fn pair(table: &[u8], start: usize, version: u16, left: u16, right: u16) -> PairReply
+pub fn pair(
+    table: &[u8],
+    start: usize,
+    version: u16,
+    left: u16,
+    right: u16,
+) -> Result<Result<i16, Why>, Refusal>
     ensures { result ≡ pair_call kern table.now start version left right }
 {
-    if let Check::Refused(why) = answers::refuse_table(table.len()) {
-        return PairReply::Refused(why);
-    }
-    pair_in(parse::from(table, start), version, left, right)
+    kerning_lists::pair::<Kern>(table, start, version, left, right)
 }
 
 // A subtable of the list adds its own, unless the run passes over it.
+#[tactic(auto, unfolding(kerning_lists::specs::Run::contribution, kerning::specs::Additions::add_all))]
 fn visit(
     bytes: &[u8],
     version: u16,
@@ -217,10 +170,11 @@ fn visit(
         return;
     }
     let part = parse::from(bytes, subtable.body);
-    let _ = work(part, version, subtable.format, glyphs, used, along, choices);
+    let _ = Kern::work(part, version, subtable.format, glyphs, used, along, choices);
 }
 
 // The subtables one after the other, from the first on.
+// kept: kerx's loop over its list lends five slices more to a visit, by which one function for both would be no plainer.
 fn run_list(
     bytes: &[u8],
     list: ListHead,
@@ -235,11 +189,9 @@ fn run_list(
     ensures along { along.new ≡ add_all (contributions (adds kern bytes.now list.version used choices) glyphs.now used
         (visited (heads_from (head_at kern false bytes.now list.version) list.count list.first))) along.old }
 {
-    let mut heads = 0;
-    let mut left = list.count;
     let mut at = list.first;
-    while 0 < left {
-        let Head::At(subtable) = head_at(bytes, list.version, at) else {
+    for heads in 0..list.count {
+        let Some(subtable) = kerning_lists::head_at::<Kern>(false, bytes, list.version, at) else {
             return Run {
                 answer: Answer::Done,
                 heads,
@@ -252,17 +204,16 @@ fn run_list(
             };
         }
         visit(bytes, list.version, subtable, glyphs, used, along, choices);
-        heads += 1;
-        left -= 1;
         at = subtable.next;
     }
     Run {
         answer: Answer::Done,
-        heads,
+        heads: list.count,
     }
 }
 
 // The used adjustments, zeroed first, with what the list's subtables add.
+#[tactic(auto, unfolding(kerning_lists::specs::Run::used_part, kerning_lists::specs::Family::walk_of))]
 fn run_part(bytes: &[u8], glyphs: &[u16], along: &mut [i64], choices: Choices) -> Run
     requires { (length along.old ≤ length glyphs.now) × (length along.old ≤ room_limit) }
     ensures answer { result.answer ≡ walk_answer (walk_of kern false bytes.now) }
@@ -273,10 +224,11 @@ fn run_part(bytes: &[u8], glyphs: &[u16], along: &mut [i64], choices: Choices) -
 {
     kerning_lists::zero(along);
     let used = along.len();
-    run_list(bytes, list_of(bytes), glyphs, used, along, choices)
+    run_list(bytes, Kern::list_of(bytes), glyphs, used, along, choices)
 }
 
 // A whole run over the list at `start` by the choices made.
+#[tactic(auto, using(kerning_lists::proofs::Calls::run_ready), unfolding(kerning_lists::specs::Family::run_call, kerning_lists::specs::Family::ran, kerning_lists::specs::Run::ran_over))]
 pub fn run_by(
     table: &[u8],
     start: usize,
@@ -294,7 +246,7 @@ pub fn run_by(
     ensures along { along.new ≡ (run_call kern table.now start false
         (line_of glyphs.now tags.now homes.now used) along.old choices).along }
 {
-    if let Check::Refused(why) = kerning_lists::refuse_run(
+    if let Err(why) = kerning_lists::refuse_run(
         table.len(),
         start,
         glyphs,
@@ -341,35 +293,7 @@ pub fn run(
         homes,
         used,
         along,
-        choices::none(),
-    )
-}
-
-// The pass by the subtable that begins with `bytes`, its head included.
-fn pass_in(
-    bytes: &[u8],
-    version: u16,
-    glyphs: &[u16],
-    used: usize,
-    along: &mut [i64],
-    choices: Choices,
-) -> Answer
-    requires { (used ≤ length glyphs.now) × (used ≤ length along.old) × (used ≤ room_limit) × Within (2 ^ 60) along.old }
-    ensures answer { result ≡ (passed kern bytes.now version glyphs.now used choices).answer }
-    ensures along { along.new ≡ add_all (passed kern bytes.now version glyphs.now used choices).additions
-        along.old }
-{
-    let Head::At(subtable) = head_in(version, 0, bytes) else {
-        return Answer::Refused(Refusal::Head);
-    };
-    work(
-        bytes,
-        version,
-        subtable.format,
-        glyphs,
-        used,
-        along,
-        choices,
+        Choices::default(),
     )
 }
 
@@ -390,23 +314,8 @@ pub fn pass_by(
     ensures along { along.new ≡ add_all (pass_call kern table.now start version
         (line_of glyphs.now tags.now homes.now used) along.old choices).additions along.old }
 {
-    if let Check::Refused(why) = kerning::refuse_pass(
-        table.len(),
-        glyphs,
-        tags,
-        homes,
-        used,
-        along,
-    ) {
-        return Answer::Refused(why);
-    }
-    pass_in(
-        parse::from(table, start),
-        version,
-        glyphs,
-        used,
-        along,
-        choices,
+    kerning_lists::pass_by::<Kern>(
+        table, start, version, glyphs, tags, homes, used, along, choices,
     )
 }
 
@@ -435,6 +344,6 @@ pub fn pass(
         homes,
         used,
         along,
-        choices::none(),
+        Choices::default(),
     )
 }

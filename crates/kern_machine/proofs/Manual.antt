@@ -49,7 +49,7 @@ module _ (bytes : List ℕ) (crossed : Bool) (place : ℕ) (h : place + 2 ≤ le
           rest m k g = omega (arith, g)
 
 not_both : {A : Type 0} {b : Bool} → b ≡ true → b ≡ false → A
-not_both e f = let z : ◌≡◌ {A = ℕ} 0 1 = cc in absurd (omega arith)
+not_both e f = absurd (cc)
 
 -- the whole list
 module _ (bytes : List ℕ) (crossed : Bool) (list : ℕ) (stack : List ℕ) (depth used : ℕ) where

@@ -1,18 +1,18 @@
 -- kern format 1: the head of its subtable, and its pass and step.
-use Rattle.std.specs.Prelude.{ℕ, ◌/◌, ◌%◌, Bool, List, ℤ, length, drop}
+use Rattle.state_tables.specs.declared.States.{States}
+use Rattle.std.specs.Prelude.{ℕ, ◌/◌, ◌%◌, Bool, List, ℤ, length, drop, Option, Some, None, Result, Ok, Err}
 use Rattle.laws.specs.Choose.{if_eq}
 use Rattle.parse.specs.Reads.{read_u16}
 use Rattle.parse.specs.Use.{on_u16}
-use Rattle.state_tables.specs.declared.Made.{Made}
-use Rattle.state_tables.specs.declared.Made.TheVariants as Made'
 use Rattle.state_tables.specs.States.{classic_at}
 use Rattle.laws.specs.Bits.{is_set}
 use Rattle.kerning.specs.Additions.{Kerned}
+use Rattle.kerning.specs.declared.heads.Unready.{Unready}
+use Rattle.kerning.specs.declared.heads.Unready.TheVariants.{Short}
 use Rattle.kerning_machine.specs.Machine as Kerning'
 use Rattle.kerning_machine.specs.Machine.{Stepped}
 use Rattle.kerning_machine.specs.declared.Reading.TheVariants.{Kern}
-use Rattle.kerning_machine.specs.declared.Opened.{Opened}
-use Rattle.kerning_machine.specs.declared.Opened.TheVariants.{Ready, Short}
+use Rattle.kerning_machine.specs.declared.Kerning.{Kerning}
 use Rattle.kerning_machine.specs.declared.KerningState.{KerningState}
 
 -- version 0 of the list is the old edition, with a 6-byte head, anything else the new one, with 8 bytes
@@ -31,14 +31,14 @@ is_crossed version coverage = if_eq version 0 (is_set coverage 0x4) (is_set cove
 abbrev pub body_of : List ℕ → (version : ℕ) → List ℕ
 body_of bytes version = drop (head_size version) bytes
 
-abbrev pub on_made : Made → (version coverage : ℕ) → Opened
-on_made (Made'.Ready states) version coverage = Ready (record { states = states; reading = Kern (is_crossed version coverage) })
-on_made Made'.Short version coverage = Short
+abbrev pub on_made : Option States → (version coverage : ℕ) → Result Kerning Unready
+on_made (Some states) version coverage = Ok (record { states = states; reading = Kern (is_crossed version coverage) })
+on_made None version coverage = Err Short
 
 -- the machine of a subtable of format 1, where its head and the state table's own can be read
-unfoldable pub opened : List ℕ → (version : ℕ) → Opened
+unfoldable pub opened : List ℕ → (version : ℕ) → Result Kerning Unready
 opened bytes version =
-    on_u16 (read_u16 bytes 4) (λ coverage. if_eq (coverage_format version coverage) 1 (on_made (classic_at (body_of bytes version)) version coverage) Short) Short
+    on_u16 (read_u16 bytes 4) (λ coverage. if_eq (coverage_format version coverage) 1 (on_made (classic_at (body_of bytes version)) version coverage) (Err Short)) (Err Short)
 
 -- the pass by the subtable whose bytes begin at its head
 unfoldable pub worked : List ℕ → (version : ℕ) → (glyphs : List ℕ) → (used : ℕ) → Kerned

@@ -1,15 +1,14 @@
 // kern format 1: the kerning machine over the classic state table.
 #![tactic(auto)]
 
-ghost use Rattle.std.specs.Prelude.{◌≡◌, ◌<◌, ◌≤◌, ◌^◌, length};
-ghost use Rattle.answers.specs.Limits.{room_limit};
+ghost use Rattle.std.specs.Prelude.{◌≡◌, ◌<◌};
 ghost use Rattle.kerning.specs.Additions.{add_all};
-ghost use Rattle.kerning.specs.Bounds.{Within};
+ghost use Rattle.kerning_machine.specs.Work.{CanPass};
 ghost use Rattle.kern_machine.specs.Machine.{head_size, coverage_format, is_crossed, opened, worked, step_call};
 
 use answers::Answer;
-use kerning_machine::{Kerning, KerningState, KerningStep, Opened, Reading};
-use state_tables::Made;
+use kerning::heads::Unready;
+use kerning_machine::{Kerning, KerningState, KerningStep, Reading};
 
 // The format of this machine.
 pub const FORMAT: u16 = 1;
@@ -19,6 +18,7 @@ pub const OLD_CROSS_STREAM: u16 = 0x4;
 
 pub const CROSS_STREAM: u16 = 0x4000;
 
+// kept: C's calls and the promises name an edition by the list's version (head_size, worked), and an enum of the two would be made anew in each.
 // How many bytes a subtable's head has: the list's version 0 is the old edition, anything else the new one.
 pub fn head_size(version: u16) -> u16
     ensures { (result ≡ head_size version) × (result < 9) }
@@ -30,6 +30,7 @@ pub fn head_size(version: u16) -> u16
 }
 
 // The format, of a subtable's coverage.
+#[tactic(auto, unfolding(crate::specs::Machine::coverage_format))]
 fn format_of(version: u16, coverage: u16) -> u16
     ensures { result ≡ coverage_format version coverage }
 {
@@ -40,6 +41,7 @@ fn format_of(version: u16, coverage: u16) -> u16
 }
 
 // Whether a subtable goes across the stream, by its coverage.
+#[tactic(auto, unfolding(crate::specs::Machine::is_crossed))]
 fn is_crossed(version: u16, coverage: u16) -> bool
     ensures { result ≡ is_crossed version coverage }
 {
@@ -50,20 +52,18 @@ fn is_crossed(version: u16, coverage: u16) -> bool
 }
 
 // The machine of a subtable whose bytes begin at its head.
-pub fn open(bytes: &[u8], version: u16) -> Opened
+#[tactic(auto, unfolding(crate::specs::Machine::opened))]
+pub fn open(bytes: &[u8], version: u16) -> Result<Kerning, Unready>
     ensures { result ≡ opened bytes.now version }
 {
-    let parse::ReadU16::Got(coverage) = parse::read_u16(bytes, 4) else {
-        return Opened::Short;
-    };
+    let coverage = parse::read_u16(bytes, 4).ok_or(Unready::Short)?;
     if format_of(version, coverage) != FORMAT {
-        return Opened::Short;
+        return Err(Unready::Short);
     }
-    let Made::Ready(states) = state_tables::classic(parse::from(bytes, head_size(version) as usize))
-    else {
-        return Opened::Short;
-    };
-    Opened::Ready(Kerning {
+    let states = state_tables::classic(parse::from(bytes, head_size(version) as usize)).ok_or(
+        Unready::Short,
+    )?;
+    Ok(Kerning {
         states,
         reading: Reading::Kern {
             crossed: is_crossed(version, coverage),
@@ -72,8 +72,9 @@ pub fn open(bytes: &[u8], version: u16) -> Opened
 }
 
 // The pass by the subtable whose bytes begin at its head; HEAD where it can't be opened.
+#[tactic(auto, unfolding(crate::specs::Machine::worked))]
 pub fn work(bytes: &[u8], version: u16, glyphs: &[u16], used: usize, along: &mut [i64]) -> Answer
-    requires { (used ≤ length glyphs.now) × (used ≤ length along.old) × (used ≤ room_limit) × Within (2 ^ 60) along.old }
+    requires { CanPass glyphs.now used along.old }
     ensures answer { result ≡ (worked bytes.now version glyphs.now used).answer }
     ensures along { along.new ≡ add_all (worked bytes.now version glyphs.now used).additions along.old }
 {
@@ -88,6 +89,7 @@ pub fn work(bytes: &[u8], version: u16, glyphs: &[u16], used: usize, along: &mut
 }
 
 // A lone step by the subtable at `start` of a list of this version, on a line of so many places.
+#[tactic(auto, unfolding(crate::specs::Machine::step_call))]
 pub fn step(
     state: KerningState,
     table: &[u8],

@@ -1,48 +1,20 @@
 -- Laws of additions: what they leave, and how large it gets.
-use Prim.Native.Nat.{ℕ, ◌+◌, ◌*◌, ◌<◌, ◌≤◌, ◌^◌}
-use mathlib.Core.Path.{◌≡◌, refl, sym, ◌∙◌, ap, ap₂, subst, subst⁻¹}
+use Prim.Native.Nat.{ℕ, ◌+◌, ◌*◌, ◌<◌, ◌≤◌}
+use mathlib.Core.Path.{◌≡◌, refl, sym, ◌∙◌, ap, subst, subst⁻¹}
 use mathlib.Core.Bool.{Bool, true, false, cond}
 use mathlib.Core.Logic.{⊎_elim}
 use mathlib.Core.List.{List, [], ◌∷◌, ◌++◌}
 use native.Mathlib.Omega.{arith}
 use lib.Dec.{ltb}
 use lib.IntN.{ℤ, pos, nat_abs, ◌+ℤ◌, +ℤ_idr, +ℤ_assoc}
-use lib.ListN.{length, get_or, set, length-set}
+use lib.ListN.{length, get_or, length-set}
 use lib.Seq.{get_or-set_same, get_or-set_other}
-use mir.Syntax.{w16, w64}
-use mir.Val.{SFits, to_z, of_z}
-use mir.Facts.{to_z-of_z}
 use borrow.Author.Tests.{lt-ltb, le-ltb, eq-eqb, ne_eqb}
 use Rattle.laws.specs.Choose.{if_eq}
 use Rattle.laws.proofs.Numbers.{eq-or-ne}
 use Rattle.kerning.specs.Additions.{Addition, add_at, add_all, additions_at}
 use Rattle.kerning.specs.Bounds.{Within}
-use Rattle.kerning.proofs.Signs.{size-sum, size_16, fits_64}
-
--- the code's addition
-module _ (x : ℤ) {z w : ℤ} (small : nat_abs x ≤ 2 ^ 62) (f : SFits w16 z) (e : w ≡ to_z w16 (of_z w16 z)) where
-  number : w ≡ z
-  number = e ∙ to_z-of_z f
-
-  wide : SFits w64 w
-  wide = rw number (fits_64 (omega (arith, size_16 f)))
-
-  fits : SFits w64 x
-  fits = fits_64 (omega arith)
-
-  pub add-fits : nat_abs (to_z w64 (of_z w64 x)) + nat_abs (to_z w64 (of_z w64 w)) < 2 ^ 63
-  add-fits = rw (to_z-of_z fits, to_z-of_z wide, number) (omega (arith, size_16 f))
-
-  plain : to_z w64 (of_z w64 x) +ℤ to_z w64 (of_z w64 w) ≡ x +ℤ z
-  plain = ap₂ (λ a b. a +ℤ b) (to_z-of_z fits) (to_z-of_z wide ∙ number)
-
-  back : {r : ℤ} → r ≡ to_z w64 (of_z w64 x) +ℤ to_z w64 (of_z w64 w) → to_z w64 (of_z w64 r) ≡ x +ℤ z
-  back g = ap (λ (y : ℤ). to_z w64 (of_z w64 y)) (g ∙ plain) ∙ to_z-of_z (fits_64 (omega (arith, size-sum x z, size_16 f)))
-
-pub add_is : (along : List ℤ) (place : ℕ) {z w r : ℤ} → nat_abs (get_or along place (pos 0)) ≤ 2 ^ 62 → SFits w16 z → w ≡ to_z w16 (of_z w16 z)
-    → r ≡ to_z w64 (of_z w64 (get_or along place (pos 0))) +ℤ to_z w64 (of_z w64 w) → set along place (to_z w64 (of_z w64 r)) ≡ add_at place z along
-unfolding add_at
-add_is along place small f e g = ap (set along place) (back (get_or along place (pos 0)) small f e g)
+use Rattle.kerning.proofs.Signs.{size-sum}
 
 pub length-add_at : (p : ℕ) (z : ℤ) (along : List ℤ) → length (add_at p z along) ≡ length along
 unfolding add_at

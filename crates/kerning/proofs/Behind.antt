@@ -3,7 +3,6 @@ use Prim.Native.Nat.{ℕ, zero, suc, ◌+◌}
 use mathlib.Core.Path.{◌≡◌, refl, ap}
 use mathlib.Core.Bool.{true, false}
 use mathlib.Core.List.{List, []}
-use native.Mathlib.Omega.{arith}
 use lib.IntN.{ℤ}
 use lib.ListN.{get_or}
 use Rattle.parse.proofs.Behind.{Begins, Stays, on_u16_stays}
@@ -38,9 +37,9 @@ module _ {own whole : List ℕ} (b : Begins own whole) where
 
       go : (number : Number) → Stays Short number (number_at whole rule place) → ((later own).left.ended ≡ false → later whole ≡ later own)
           → (next number own).left.ended ≡ false → next (number_at whole rule place) whole ≡ next number own
-      go Short s again f = absurd (let z : ◌≡◌ {A = ℕ} 0 1 = cc in omega arith)
-      go Stop s again f = rw (s (λ p. let z : ◌≡◌ {A = ℕ} 0 1 = cc in omega arith))
-      go (Last amount) s again f = rw (s (λ p. let z : ◌≡◌ {A = ℕ} 0 1 = cc in omega arith))
+      go Short s again f = absurd (cc)
+      go Stop s again f = rw (s (λ p. cc))
+      go (Last amount) s again f = rw (s (λ p. cc))
       go (More amount) s again f =
-          rw (s (λ p. let z : ◌≡◌ {A = ℕ} 0 1 = cc in omega arith))
+          rw (s (λ p. cc))
           (ap (before (adds amount)) (again f))

@@ -1,19 +1,16 @@
--- The tests of a lone pass, from what the code has tested; and what a line and adjustments have that they take.
+-- What a line and adjustments have that they take.
+use Rattle.std.specs.Prelude.{Ok}
 use Prim.Native.Nat.{ℕ}
-use mathlib.Core.Path.{◌≡◌, sym, ◌∙◌, ap}
-use mathlib.Core.Bool.{Bool, true, false, not}
+use mathlib.Core.Path.{◌≡◌}
+use mathlib.Core.Bool.{true}
 use mathlib.Core.List.{List, [], ◌∷◌}
 use lib.Dec.{eqb}
 use lib.IntN.{ℤ}
 use lib.ListN.{length}
 use borrow.Author.Tests.{not-false, eqb-true}
 use Rattle.laws.proofs.Lists.{both_left, both_right}
-use Rattle.answers.proofs.Refusals.{refuse-none, refuse-here, refuse-later, passed_here, passed_later, alone_refused, alone-passed}
+use Rattle.answers.proofs.Refusals.{passed_here, passed_later}
 use Rattle.answers.specs.Refuse.{refuse, table_test}
-use Rattle.answers.specs.declared.Refusal.{Refusal}
-use Rattle.answers.specs.declared.Refusal.TheVariants as Refusal'
-use Rattle.answers.specs.declared.Check.{Check}
-use Rattle.answers.specs.declared.Check.TheVariants.{Passed, Refused}
 use Rattle.line.specs.Line.{Line, Valid}
 use Rattle.line.specs.Test.{is_valid}
 use Rattle.line.proofs.Exact.{valid_of}
@@ -44,25 +41,7 @@ taken_of l along e =
       modest = modest-within along (both_right (is_kernable l along) (is_modest along) e);
     }
 
-module _ (n : ℕ) (l : Line) (along : List ℤ) {r : Check} (e : r ≡ refuse (table_test n ∷ [])) where
-  pub pass-table : {why : Refusal} → r ≡ Refused why → Refused why ≡ refuse (kerning_tests n l along)
-  unfolding kerning_tests
-  pass-table {why} f = sym (alone_refused (table_test n) (taken_test l along ∷ []) why (sym e ∙ f))
-
-  past_table : r ≡ Passed → refuse (kerning_tests n l along) ≡ refuse (taken_test l along ∷ [])
-  unfolding kerning_tests
-  past_table f = alone-passed (table_test n) (taken_test l along ∷ []) (sym e ∙ f)
-
-  module _ {taken : Bool} (f : r ≡ Passed) (t : taken ≡ is_taken l along) where
-    pub pass-line : not taken ≡ true → Refused Refusal'.Line ≡ refuse (kerning_tests n l along)
-    unfolding taken_test
-    pass-line h = sym (past_table f ∙ refuse-here (taken_test l along) [] (ap not (sym t) ∙ h))
-
-    pub pass_all : not taken ≡ false → Passed ≡ refuse (kerning_tests n l along)
-    unfolding taken_test
-    pass_all h = sym (past_table f ∙ refuse-later (taken_test l along) [] (ap not (sym t) ∙ h) ∙ refuse-none)
-
 -- what a call that passes them has
-pub taken_pass : (n : ℕ) (l : Line) (along : List ℤ) → refuse (kerning_tests n l along) ≡ Passed → Taken l along
+pub taken_pass : (n : ℕ) (l : Line) (along : List ℤ) → refuse (kerning_tests n l along) ≡ Ok tt → Taken l along
 unfolding kerning_tests taken_test
 taken_pass n l along e = taken_of l along (not-false _ (passed_here (taken_test l along) [] (passed_later (table_test n) (taken_test l along ∷ []) e)))

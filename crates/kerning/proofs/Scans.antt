@@ -1,19 +1,17 @@
--- A test on all numbers below a bound, from the highest down.
-use Prim.Native.Nat.{ℕ, zero, suc, ◌-◌, ◌<◌, ◌≤◌, ◌^◌}
-use mathlib.Core.Path.{◌≡◌, refl, sym, ◌∙◌, ap}
+-- A test on all numbers below a bound, from the highest down, and the one on all adjustments.
+use Prim.Native.Nat.{ℕ, zero, suc, ◌-◌, ◌<◌, ◌≤◌}
+use mathlib.Core.Path.{◌≡◌, sym, ◌∙◌, ap}
 use mathlib.Core.Bool.{Bool, true, false}
 use native.Mathlib.Omega.{arith}
 use lib.Dec.{leb}
 use mathlib.Core.List.{List}
 use lib.IntN.{ℤ, pos, nat_abs}
 use lib.ListN.{length, get_or}
-use lib.Signed.{mag}
-use mir.Syntax.{w64}
-use mir.Val.{SFits, to_z, of_z}
-use mir.Facts.{to_z-of_z}
-use borrow.Author.Tests.{leb-true}
+use borrow.Author.Tests.{leb-true, le-leb, lt-leb}
+use Rattle.std.specs.Bool.{MatchBool}
+use Rattle.std.specs.List.{AllWithin, HoldsAt}
 use Rattle.laws.specs.Lists.{both, every}
-use Rattle.laws.proofs.Lists.{every-at}
+use Rattle.laws.proofs.Lists.{every-at, every-none, every_more, every_fails}
 use Rattle.kerning.specs.Bounds.{Within}
 use Rattle.kerning.specs.Line.{bound, is_modest}
 
@@ -39,19 +37,22 @@ module _ (f : ℕ → Bool) where
     unfolding every
     scanning_done h = sym (s.same ∙ ap (every f) (let z : left ≡ 0 = omega arith in z))
 
+-- a test that holds at each number below a bound
+every_all : (f : ℕ → Bool) (n : ℕ) → ((k : ℕ) → k < n → f k ≡ true) → every f n ≡ true
+every_all f zero h = every-none f
+every_all f (suc n) h = every_more f n (every_all f n (λ k l. h k (omega arith))) (h n (omega arith))
+
 -- the adjustments, one after the other
 abbrev pub small : List ℤ → ℕ → Bool
 small along p = leb (nat_abs (get_or along p (pos 0))) bound
 
-pub modest-start : (along : List ℤ) → Scanning (small along) (is_modest along) (length along) (length along)
+-- as `all` goes through them
+pub modest_is : (along : List ℤ) {r : Bool}
+    → MatchBool r (AllWithin (λ (z : ℤ). nat_abs z ≤ bound) along 0 (length along)) ((k : ℕ) × (k < length along) × HoldsAt (λ (z : ℤ). bound < nat_abs z) along k)
+    → r ≡ is_modest along
 unfolding is_modest
-modest-start along = record { within = omega arith; same = refl }
-
-pub small_of : (along : List ℤ) (p : ℕ) {r : Bool} → mag (get_or along p (pos 0)) < 2 ^ 63
-    → r ≡ leb (nat_abs (to_z w64 (of_z w64 (get_or along p (pos 0))))) bound → r ≡ small along p
-small_of along p h e =
-    let f : SFits w64 (get_or along p (pos 0)) = record { sfits = h } in
-    e ∙ ap (λ (z : ℤ). leb (nat_abs z) bound) (to_z-of_z f)
+modest_is along {r = true} h = sym (every_all (small along) (length along) (λ k l. le-leb _ _ (h k (pos 0) (omega arith) l)))
+modest_is along {r = false} (k, l, h) = sym (every_fails (small along) (length along) k (lt-leb _ _ (h (pos 0))) l)
 
 -- and none of them is beyond the bound
 pub modest-within : (along : List ℤ) → is_modest along ≡ true → Within bound along

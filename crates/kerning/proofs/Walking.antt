@@ -9,7 +9,7 @@ use lib.ListN.{length, get_or, length-append}
 use mir.Syntax.{w16}
 use mir.Val.{SFits, to_z, of_z}
 use mir.Facts.{to_z-of_z}
-use Rattle.kerning.specs.Additions.{Addition, add_at, add_all, additions_at}
+use Rattle.kerning.specs.Additions.{Addition, add_all, additions_at}
 use Rattle.kerning.specs.Bounds.{Within}
 use Rattle.kerning.specs.Lists.{number_at, on_number, Walk, leaves, before, walk}
 use Rattle.kerning.specs.declared.lists.Rule.{Rule}
@@ -17,30 +17,19 @@ use Rattle.kerning.specs.declared.lists.Number.{Number}
 use Rattle.kerning.specs.declared.lists.Number.TheVariants.{Short, Stop, Last, More}
 use Rattle.kerning.specs.declared.lists.Walked.{Walked}
 use Rattle.kerning.proofs.Signs.{size_16}
-use Rattle.kerning.proofs.Adding.{Small, small-none, small-append, small-additions, few-additions, additions_in, additions_out, length-add_all, add_all-none, add_all-one, add_all-append, within_more, within-add_all}
+use Rattle.kerning.proofs.Adding.{Small, small-none, small-append, small-additions, few-additions, length-add_all, add_all-none, add_all-append, within_more, within-add_all}
 use Rattle.kerning.proofs.Ruling.{Sized, number-sized, number-inside}
 
--- a number for a place, made or skipped
-module _ (used place : ℕ) (z : ℤ) (along : List ℤ) where
-  pub skipped : used ≤ place → along ≡ add_all (additions_at used place z) along
-  skipped h = sym (ap (λ (xs : List Addition). add_all xs along) (additions_out used place z h) ∙ add_all-none along)
-
-  pub made : {after : List ℤ} → place < used → SFits w16 z → after ≡ add_at place (to_z w16 (of_z w16 z)) along
-      → after ≡ add_all (additions_at used place z) along
-  made h f e =
-      e ∙ ap (λ (x : ℤ). add_at place x along) (to_z-of_z f)
-      ∙ sym (ap (λ (xs : List Addition). add_all xs along) (additions_in used place z h) ∙ add_all-one place z along)
-
 sized-last : {number : Number} {z : ℤ} → Sized number → number ≡ Last z → SFits w16 z
-sized-last Sized.short e = let x : ◌≡◌ {A = ℕ} 0 1 = cc in absurd (omega arith)
-sized-last Sized.stop e = let x : ◌≡◌ {A = ℕ} 0 1 = cc in absurd (omega arith)
+sized-last Sized.short e = absurd cc
+sized-last Sized.stop e = absurd cc
 sized-last {z = z} (Sized.last {z = y} f) e = let x : y ≡ z = cc in rw x at f
-sized-last (Sized.more f) e = let x : ◌≡◌ {A = ℕ} 0 1 = cc in absurd (omega arith)
+sized-last (Sized.more f) e = absurd cc
 
 sized-more : {number : Number} {z : ℤ} → Sized number → number ≡ More z → SFits w16 z
-sized-more Sized.short e = let x : ◌≡◌ {A = ℕ} 0 1 = cc in absurd (omega arith)
-sized-more Sized.stop e = let x : ◌≡◌ {A = ℕ} 0 1 = cc in absurd (omega arith)
-sized-more (Sized.last f) e = let x : ◌≡◌ {A = ℕ} 0 1 = cc in absurd (omega arith)
+sized-more Sized.short e = absurd cc
+sized-more Sized.stop e = absurd cc
+sized-more (Sized.last f) e = absurd cc
 sized-more {z = z} (Sized.more {z = y} f) e = let x : y ≡ z = cc in rw x at f
 
 module _ (bytes : List ℕ) (rule : Rule) (stride : ℕ) (stack : List ℕ) (used : ℕ) where

@@ -26,14 +26,14 @@ unfolding ruled
 never_short (Odd crossed) n e = go (eqb (n % 2) 1) e
   where
     go : (t : Bool) → cond t (Last (amount_of crossed (n - 1))) (More (amount_of crossed n)) ≡ Short → ⊥
-    go true f = let z : ◌≡◌ {A = ℕ} 0 1 = cc in omega arith
-    go false f = let z : ◌≡◌ {A = ℕ} 0 1 = cc in omega arith
-never_short Never n e = let z : ◌≡◌ {A = ℕ} 0 1 = cc in omega arith
+    go true f = cc
+    go false f = cc
+never_short Never n e = cc
 never_short Marked n e = go (eqb n 0xFFFF) e
   where
     go : (t : Bool) → cond t Stop (More (signed16 n)) ≡ Short → ⊥
-    go true f = let z : ◌≡◌ {A = ℕ} 0 1 = cc in omega arith
-    go false f = let z : ◌≡◌ {A = ℕ} 0 1 = cc in omega arith
+    go true f = cc
+    go false f = cc
 
 module _ (bytes : List ℕ) (rule : Rule) (stride list : ℕ) (stack : List ℕ) (depth used : ℕ) where
   abbrev place : (k : ℕ) → ℕ
@@ -147,13 +147,13 @@ module _ (bytes : List ℕ) (rule : Rule) (stride list : ℕ) (stack : List ℕ)
 -- the statement allows one walk
 module _ (bytes : List ℕ) (place_of : ℕ → ℕ) (rule : ℕ → Number) (stack : List ℕ) (depth used : ℕ) where
   clash : {A : Type 0} {number : Number} {a : ℤ} → number ≡ Stop → number ≡ More a → A
-  clash e f = let z : ◌≡◌ {A = ℕ} 0 1 = cc in absurd (omega arith)
+  clash e f = absurd cc
 
   clash-last : {A : Type 0} {number : Number} {a b : ℤ} → number ≡ Last a → number ≡ More b → A
-  clash-last e f = let z : ◌≡◌ {A = ℕ} 0 1 = cc in absurd (omega arith)
+  clash-last e f = absurd cc
 
   clash-stop : {A : Type 0} {number : Number} {a : ℤ} → number ≡ Stop → number ≡ Last a → A
-  clash-stop e f = let z : ◌≡◌ {A = ℕ} 0 1 = cc in absurd (omega arith)
+  clash-stop e f = absurd cc
 
   in_depth : {count : ℕ} {w : Walk} → Ends bytes place_of rule stack depth used count w → count ≤ depth
   in_depth (empty e f) = omega (arith, e)

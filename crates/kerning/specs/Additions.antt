@@ -1,10 +1,9 @@
 -- Kerning is additions: numbers added to the adjustments, of which there is one for each place of the room.
-use Rattle.std.specs.Prelude.{ℕ, List, [], ◌∷◌, ◌++◌, ℤ, pos, ◌+ℤ◌, get_or, set}
+use Rattle.answers.specs.declared.Refusal.{Refusal}
+use Rattle.std.specs.Prelude.{ℕ, List, [], ◌∷◌, ◌++◌, ℤ, pos, ◌+ℤ◌, get_or, set, Result, Ok, Err}
 use Rattle.laws.specs.Choose.{if_lt}
 use Rattle.answers.specs.declared.Answer.{Answer}
 use Rattle.answers.specs.declared.Answer.TheVariants as Answer'
-use Rattle.answers.specs.declared.Check.{Check}
-use Rattle.answers.specs.declared.Check.TheVariants as Check'
 
 -- a number that is added to the adjustment of a place
 pub record Addition : Type 0 where
@@ -38,6 +37,6 @@ abbrev pub nothing_added : Answer → Kerned
 nothing_added answer = record { answer = answer; additions = [] }
 
 -- a refused call answers so and adds nothing
-abbrev pub called_by : Check → Kerned → Kerned
-called_by Check'.Passed work = work
-called_by (Check'.Refused why) work = nothing_added (Answer'.Refused why)
+abbrev pub called_by : Result Unit Refusal → Kerned → Kerned
+called_by (Ok tt) work = work
+called_by (Err why) work = nothing_added (Answer'.Refused why)

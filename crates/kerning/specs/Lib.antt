@@ -5,3 +5,4 @@ pub mod Lists
 pub mod Walks
 pub mod Bounds
 pub mod Choices
+pub mod Heads

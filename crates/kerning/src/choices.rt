@@ -26,40 +26,53 @@ pub const JOINED_PAIRS: u32 = 1;
 // The bit of the manual's reading.
 pub const MANUAL_LISTS: u32 = 2;
 
+#[tactic(auto, unfolding(crate::specs::Choices::rule_of))]
 fn rule_of(bits: u32) -> PairRule
     ensures { result ≡ rule_of bits }
 {
-    if bits / JOINED_PAIRS % 2 == 1 {
-        return PairRule::Joined;
+    if parse::is_set(bits, JOINED_PAIRS) {
+        PairRule::Joined
+    } else {
+        PairRule::Neighbours
     }
-    PairRule::Neighbours
 }
 
+#[tactic(auto, unfolding(crate::specs::Choices::reading_of))]
 fn reading_of(bits: u32) -> Reading
     ensures { result ≡ reading_of bits }
 {
-    if bits / MANUAL_LISTS % 2 == 1 {
-        return Reading::Manual;
+    if parse::is_set(bits, MANUAL_LISTS) {
+        Reading::Manual
+    } else {
+        Reading::Crate
     }
-    Reading::Crate
 }
 
 // The choices that the bits of a number make; those without a name are not looked at.
-pub fn choices_of(bits: u32) -> Choices
-    ensures { result ≡ choices_of bits }
-{
-    Choices {
-        pairs: rule_of(bits),
-        reading: reading_of(bits),
+impl From<u32> for Choices {
+    ghost from_gives = { λ bits choices. choices ≡ choices_of bits };
+
+    #[tactic(auto, unfolding(crate::specs::Choices::choices_of))]
+    fn from(bits: u32) -> Choices
+        ensures { result ≡ choices_of bits }
+    {
+        Choices {
+            pairs: rule_of(bits),
+            reading: reading_of(bits),
+        }
     }
 }
 
 // No choice made.
-pub fn none() -> Choices
-    ensures { result ≡ unchosen }
-{
-    Choices {
-        pairs: PairRule::Neighbours,
-        reading: Reading::Crate,
+impl Default for Choices {
+    ghost is_default = { λ choices. choices ≡ unchosen };
+
+    fn default() -> Choices
+        ensures { result ≡ unchosen }
+    {
+        Choices {
+            pairs: PairRule::Neighbours,
+            reading: Reading::Crate,
+        }
     }
 }

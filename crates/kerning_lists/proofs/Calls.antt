@@ -1,4 +1,5 @@
 -- Calls of a run and of a lone pass: what a call that passes its tests may rely on, and what it answers and leaves.
+use Rattle.std.specs.Prelude.{Result, Ok, Err}
 use Prim.Native.Nat.{ℕ, ◌≤◌, ◌^◌}
 use mathlib.Core.Path.{◌≡◌, refl, sym, ◌∙◌, ap, subst}
 use mathlib.Core.List.{List, [], ◌++◌}
@@ -11,8 +12,6 @@ use Rattle.answers.specs.Refuse.{Test, refuse}
 use Rattle.answers.specs.declared.Refusal.{Refusal}
 use Rattle.answers.specs.declared.Answer.{Answer}
 use Rattle.answers.specs.declared.Answer.TheVariants as Answer'
-use Rattle.answers.specs.declared.Check.{Check}
-use Rattle.answers.specs.declared.Check.TheVariants.{Passed, Refused}
 use Rattle.line.specs.Line.{Line, line_of}
 use Rattle.kerning.specs.Additions.{Addition, Kerned, add_all, called_by}
 use Rattle.kerning.specs.Bounds.{Within}
@@ -41,14 +40,14 @@ ready_of glyphs tags homes used along k =
       limited = omega (arith, k.valid.within, k.valid.limited);
     }
 
-pub run_ready : (n start : ℕ) (glyphs tags homes : List ℕ) (used : ℕ) (along : List ℤ) {check : Check}
-    → check ≡ refuse (run_tests n start (line_of glyphs tags homes used) along) → check ≡ Passed → Ready glyphs tags used along
+pub run_ready : (n start : ℕ) (glyphs tags homes : List ℕ) (used : ℕ) (along : List ℤ) {check : (Result Unit Refusal)}
+    → check ≡ refuse (run_tests n start (line_of glyphs tags homes used) along) → check ≡ Ok tt → Ready glyphs tags used along
 run_ready n start glyphs tags homes used along e f =
     let l : Line = line_of glyphs tags homes used in
     ready_of glyphs tags homes used along (kernable_of l along (passed_kernable n start l along (sym e ∙ f)))
 
-module _ (n : ℕ) (glyphs tags homes : List ℕ) (used : ℕ) (along : List ℤ) {check : Check}
-    (e : check ≡ refuse (kerning_tests n (line_of glyphs tags homes used) along)) (f : check ≡ Passed) where
+module _ (n : ℕ) (glyphs tags homes : List ℕ) (used : ℕ) (along : List ℤ) {check : (Result Unit Refusal)}
+    (e : check ≡ refuse (kerning_tests n (line_of glyphs tags homes used) along)) (f : check ≡ (Ok tt)) where
   taken : Taken (line_of glyphs tags homes used) along
   taken = taken_pass n (line_of glyphs tags homes used) along (sym e ∙ f)
 
@@ -75,13 +74,13 @@ pub works_nothing : {kerned : Kerned} {answer : Answer} (before : List ℤ) → 
 works_nothing before e = works_same e (record { answers = refl; leaves = sym (add_all-none before) })
 
 -- a call of a lone pass
-module _ (tests : List Test) (kerned : Kerned) (before : List ℤ) {check : Check} (e : check ≡ refuse tests) where
-  pub call_refused : {why : Refusal} → check ≡ Refused why → Works (called_by (refuse tests) kerned) before (Answer'.Refused why) before
-  call_refused {why} f = works_nothing before (ap (λ (c : Check). called_by c kerned) (sym (sym e ∙ f)))
+module _ (tests : List Test) (kerned : Kerned) (before : List ℤ) {check : (Result Unit Refusal)} (e : check ≡ refuse tests) where
+  pub call_refused : {why : Refusal} → check ≡ Err why → Works (called_by (refuse tests) kerned) before (Answer'.Refused why) before
+  call_refused {why} f = works_nothing before (ap (λ (c : Result Unit Refusal). called_by c kerned) (sym (sym e ∙ f)))
 
-  pub call_passed : {answer : Answer} {after : List ℤ} → check ≡ Passed → Works kerned before answer after
+  pub call_passed : {answer : Answer} {after : List ℤ} → check ≡ Ok tt → Works kerned before answer after
       → Works (called_by (refuse tests) kerned) before answer after
-  call_passed f w = works_same (ap (λ (c : Check). called_by c kerned) (sym (sym e ∙ f))) w
+  call_passed f w = works_same (ap (λ (c : Result Unit Refusal). called_by c kerned) (sym (sym e ∙ f))) w
 
 -- what a run answers, counts and leaves
 pub record RunIs (ran : Ran) (answer : Answer) (read : ℕ) (after : List ℤ) : Type 0 where
@@ -97,14 +96,14 @@ run-same e r =
       leaves = r.leaves ∙ ap (λ (x : Ran). x.along) e;
     }
 
-module _ (tests : List Test) (along : List ℤ) (ran : Ran) {check : Check} (e : check ≡ refuse tests) where
-  pub run_refused : {why : Refusal} → check ≡ Refused why → RunIs (unless_refused (refuse tests) along ran) (Answer'.Refused why) 0 along
+module _ (tests : List Test) (along : List ℤ) (ran : Ran) {check : (Result Unit Refusal)} (e : check ≡ refuse tests) where
+  pub run_refused : {why : Refusal} → check ≡ Err why → RunIs (unless_refused (refuse tests) along ran) (Answer'.Refused why) 0 along
   run_refused f =
-      run-same (ap (λ (c : Check). unless_refused c along ran) (sym (sym e ∙ f))) (record { answers = refl; counts = refl; leaves = refl })
+      run-same (ap (λ (c : Result Unit Refusal). unless_refused c along ran) (sym (sym e ∙ f))) (record { answers = refl; counts = refl; leaves = refl })
 
-  pub run-passed : {answer : Answer} {read : ℕ} {after : List ℤ} → check ≡ Passed → RunIs ran answer read after
+  pub run-passed : {answer : Answer} {read : ℕ} {after : List ℤ} → check ≡ Ok tt → RunIs ran answer read after
       → RunIs (unless_refused (refuse tests) along ran) answer read after
-  run-passed f r = run-same (ap (λ (c : Check). unless_refused c along ran) (sym (sym e ∙ f))) r
+  run-passed f r = run-same (ap (λ (c : Result Unit Refusal). unless_refused c along ran) (sym (sym e ∙ f))) r
 
 -- a run over a walk, by what it makes of the used part
 pub ran_is : (walk : List Subtable) (work : Subtable → List ℕ → List Addition) (glyphs : List ℕ) (used : ℕ) (along : List ℤ)

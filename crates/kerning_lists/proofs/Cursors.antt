@@ -1,4 +1,5 @@
 -- A list's tests, and the walk of a list as its cursor repeated.
+use Rattle.std.specs.Prelude.{Option, Some, None, Result, Ok, Err}
 use Prim.Native.Nat.{ℕ, zero, suc, ◌-◌, ◌<◌, ◌≤◌}
 use mathlib.Core.Path.{◌≡◌, refl, sym, ◌∙◌, ap}
 use mathlib.Core.Bool.{Bool, true, false, cond}
@@ -9,37 +10,32 @@ use Rattle.answers.proofs.Refusals.{refuse-none, refuse-here, refuse-later, pass
 use Rattle.answers.specs.Refuse.{refuse, table_test}
 use Rattle.answers.specs.declared.Refusal.{Refusal}
 use Rattle.answers.specs.declared.Refusal.TheVariants as Refusal'
-use Rattle.answers.specs.declared.Check.{Check}
-use Rattle.answers.specs.declared.Check.TheVariants.{Passed, Refused}
 use Rattle.kerning_lists.specs.Walk.{heads_from}
 use Rattle.kerning_lists.specs.Run.{start_test}
 use Rattle.kerning_lists.specs.Cursors.{cursor, next_by, followed, list_tests}
 use Rattle.kerning_lists.specs.declared.Subtable.{Subtable}
-use Rattle.kerning_lists.specs.declared.Head.{Head}
-use Rattle.kerning_lists.specs.declared.Head.TheVariants.{At, Cut}
 use Rattle.kerning_lists.specs.declared.Cursor.{Cursor}
 use Rattle.kerning_lists.specs.declared.NextSubtable.{NextSubtable}
-use Rattle.kerning_lists.specs.declared.NextSubtable.TheVariants as Next'
 
-module _ (length start : ℕ) {check : Check} (e : check ≡ refuse (table_test length ∷ [])) where
-  pub list-table : {why : Refusal} → check ≡ Refused why → Refused why ≡ refuse (list_tests length start)
+module _ (length start : ℕ) {check : (Result Unit Refusal)} (e : check ≡ refuse (table_test length ∷ [])) where
+  pub list-table : {why : Refusal} → check ≡ Err why → Err why ≡ refuse (list_tests length start)
   unfolding list_tests
   list-table f = sym (alone_refused (table_test length) (start_test length start ∷ []) _ (sym e ∙ f))
 
-  pub list_past : check ≡ Passed → length < start → Refused Refusal'.Head ≡ refuse (list_tests length start)
+  pub list_past : check ≡ Ok tt → length < start → Err Refusal'.Head ≡ refuse (list_tests length start)
   unfolding list_tests start_test
   list_past f h =
       sym (alone-passed (table_test length) (start_test length start ∷ []) (sym e ∙ f) ∙ refuse-here (start_test length start) [] (rw (lt-ltb length start h)))
 
-  pub list_inside : check ≡ Passed → start ≤ length → Passed ≡ refuse (list_tests length start)
+  pub list_inside : check ≡ Ok tt → start ≤ length → Ok tt ≡ refuse (list_tests length start)
   unfolding list_tests start_test
   list_inside f h =
       sym (alone-passed (table_test length) (start_test length start ∷ []) (sym e ∙ f) ∙ refuse-later (start_test length start) [] (rw (le-ltb length start h)) ∙ refuse-none)
 
 -- a start that was taken is not past the table
-pub list-start : (length start : ℕ) {check : Check} → check ≡ refuse (list_tests length start) → check ≡ Passed → start ≤ length
+pub list_start : (length start : ℕ) {check : (Result Unit Refusal)} → check ≡ refuse (list_tests length start) → check ≡ Ok tt → start ≤ length
 unfolding list_tests start_test
-list-start length start k e =
+list_start length start k e =
     ltb-false _ _ (cond-false _ (passed_here (start_test length start) [] (passed_later (table_test length) (start_test length start ∷ []) (sym k ∙ e))))
   where
     cond-false : (t : Bool) → cond t true false ≡ false → t ≡ false
@@ -47,8 +43,8 @@ list-start length start k e =
     cond-false true h = h
 
 -- the walk of a list is its cursor repeated
-module _ (head_of : (version place : ℕ) → Head) where
-  abbrev next : Cursor → NextSubtable
+module _ (head_of : (version place : ℕ) → Option Subtable) where
+  abbrev next : Cursor → Option NextSubtable
   next c = next_by (head_of c.version c.place) c
 
   pub followed-heads : (version left place : ℕ) → followed next left (cursor place left version) ≡ heads_from (head_of version) left place
@@ -62,30 +58,30 @@ module _ (head_of : (version place : ℕ) → Head) where
       left_behind : suc left - 1 ≡ left
       left_behind = omega arith
 
-      go : (head : Head) → head_of version place ≡ head → ((at : ℕ) → followed next left (cursor at left version) ≡ heads_from (head_of version) left at)
+      go : (head : Option Subtable) → head_of version place ≡ head → ((at : ℕ) → followed next left (cursor at left version) ≡ heads_from (head_of version) left at)
           → followed next (suc left) (cursor place (suc left) version) ≡ heads_from (head_of version) (suc left) place
-      go (At s) e more =
-          let one : next (cursor place (suc left) version) ≡ Next'.At s (cursor s.next left version) = rw (ne_eqb (suc left) 0 is_more, e, left_behind, next_by) in
+      go (Some s) e more =
+          let one : next (cursor place (suc left) version) ≡ Some (record { subtable = s; next = cursor s.next left version }) = rw (ne_eqb (suc left) 0 is_more, e, left_behind, next_by) in
           rw (one, e, followed, heads_from) (ap (λ (walk : List Subtable). s ∷ walk) (more s.next))
-      go Cut e more =
-          let none : next (cursor place (suc left) version) ≡ Next'.End = rw (ne_eqb (suc left) 0 is_more, e, next_by) in
+      go None e more =
+          let none : next (cursor place (suc left) version) ≡ None = rw (ne_eqb (suc left) 0 is_more, e, next_by) in
           rw (none, e, followed, heads_from)
 
 -- a head, if its subtable is told by a rule
-abbrev pub map_head : (Subtable → Subtable) → Head → Head
-map_head f (At subtable) = At (f subtable)
-map_head f Cut = Cut
+abbrev pub map_head : (Subtable → Subtable) → Option Subtable → Option Subtable
+map_head f (Some subtable) = Some (f subtable)
+map_head f None = None
 
 -- heads that are the same but for f, at places of their own, make the same walk but for f
-module _ (near far : ℕ → Head) (f : Subtable → Subtable) (place : ℕ → ℕ) (follows : (s : Subtable) → (f s).next ≡ place s.next)
+module _ (near far : ℕ → Option Subtable) (f : Subtable → Subtable) (place : ℕ → ℕ) (follows : (s : Subtable) → (f s).next ≡ place s.next)
     (same : (at : ℕ) → far (place at) ≡ map_head f (near at)) where
   pub heads_mapped : (left at : ℕ) → heads_from far left (place at) ≡ map f (heads_from near left at)
   unfolding heads_from
   heads_mapped zero at = refl
   heads_mapped (suc left) at = go (near at) refl (heads_mapped left)
     where
-      go : (head : Head) → near at ≡ head → ((on : ℕ) → heads_from far left (place on) ≡ map f (heads_from near left on))
+      go : (head : Option Subtable) → near at ≡ head → ((on : ℕ) → heads_from far left (place on) ≡ map f (heads_from near left on))
           → heads_from far (suc left) (place at) ≡ map f (heads_from near (suc left) at)
-      go (At s) e more =
+      go (Some s) e more =
           rw (same at, e, heads_from) (ap (λ (walk : List Subtable). f s ∷ walk) (ap (heads_from far left) (follows s) ∙ more s.next))
-      go Cut e more = rw (same at, e, heads_from)
+      go None e more = rw (same at, e, heads_from)

@@ -1,4 +1,6 @@
 -- Calls of a family's pass and run, its pairs, and its list as a cursor goes through it.
+use Rattle.std.specs.Prelude.{Option, Some, None, Result, Ok, Err}
+use Rattle.tables.specs.declared.lookup.Why.{Why}
 use Prim.Native.Nat.{ℕ, ◌+◌}
 use mathlib.Core.Path.{◌≡◌, refl, sym, ◌∙◌, ap, ap₂}
 use mathlib.Core.Bool.{Bool, true, false}
@@ -13,8 +15,6 @@ use Rattle.answers.specs.declared.Refusal.{Refusal}
 use Rattle.answers.specs.declared.Refusal.TheVariants as Refusal'
 use Rattle.answers.specs.declared.Answer.{Answer}
 use Rattle.answers.specs.declared.Answer.TheVariants as Answer'
-use Rattle.answers.specs.declared.Check.{Check}
-use Rattle.answers.specs.declared.Check.TheVariants.{Passed, Refused}
 use Rattle.line.specs.Line.{Line}
 use Rattle.kerning.specs.Additions.{Addition, add_all}
 use Rattle.kerning.specs.Line.{kerning_tests}
@@ -22,40 +22,36 @@ use Rattle.kerning.specs.Choices.{choices_of, unchosen}
 use Rattle.kerning.specs.declared.choices.Choices.{Choices}
 use Rattle.kerning.proofs.Choosing.{none_chosen}
 use Rattle.kerning.proofs.Adding.{add_all-none}
-use Rattle.pairs.specs.declared.PairReply.{PairReply}
-use Rattle.pairs.specs.declared.PairReply.TheVariants as Reply'
 use Rattle.kerning_lists.specs.Walk.{heads_from, visited, walk_answer, list_bytes}
 use Rattle.kerning_lists.specs.Run.{zeros, turned_back, contribution, contributions, used_part, run_tests}
 use Rattle.kerning_lists.specs.Cursors.{cursor, followed, moved}
 use Rattle.kerning_lists.specs.Family.{Family, head_at, walk_of, passed, pass_call, pair_in, adds, ran, run_call, list_from, next_subtable}
 use Rattle.kerning_lists.specs.declared.ListHead.{ListHead}
 use Rattle.kerning_lists.specs.declared.Subtable.{Subtable}
-use Rattle.kerning_lists.specs.declared.Head.{Head}
-use Rattle.kerning_lists.specs.declared.Head.TheVariants.{At, Cut}
 use Rattle.kerning_lists.proofs.Calls.{Works, works_same, works_nothing, RunIs, call_refused, call_passed, run_refused, run-passed, ran_is}
 use Rattle.kerning_lists.proofs.Runs.{contributes_nothing, contributes_plain, contributes_turned}
 use Rattle.kerning_lists.proofs.Cursors.{followed-heads, map_head, heads_mapped}
 
 module _ (family : Family) where
   -- the pass by the format that the head tells
-  module _ (bytes : List ℕ) (version : ℕ) (glyphs : List ℕ) (used : ℕ) (choices : Choices) (before : List ℤ) {head : Head} (e : head ≡ family.head_in false version 0 bytes) where
-    pub passes_cut : head ≡ Cut → Works (passed family bytes version glyphs used choices) before (Answer'.Refused Refusal'.Head) before
+  module _ (bytes : List ℕ) (version : ℕ) (glyphs : List ℕ) (used : ℕ) (choices : Choices) (before : List ℤ) {head : (Option Subtable)} (e : head ≡ family.head_in false version 0 bytes) where
+    pub passes_cut : head ≡ None → Works (passed family bytes version glyphs used choices) before (Answer'.Refused Refusal'.Head) before
     unfolding passed
     passes_cut f = works_nothing before (rw (sym e ∙ f))
 
-    pub passes_by : {s : Subtable} {answer : Answer} {after : List ℤ} → head ≡ At s
+    pub passes_by : {s : Subtable} {answer : Answer} {after : List ℤ} → head ≡ Some s
         → Works (family.worked bytes version s.format glyphs used choices) before answer after → Works (passed family bytes version glyphs used choices) before answer after
     unfolding passed
     passes_by f w = works_same (rw (sym e ∙ f)) w
 
   -- a call of it
-  module _ (table : List ℕ) (start version : ℕ) (l : Line) (along : List ℤ) (choices : Choices) {check : Check}
+  module _ (table : List ℕ) (start version : ℕ) (l : Line) (along : List ℤ) (choices : Choices) {check : (Result Unit Refusal)}
       (e : check ≡ refuse (kerning_tests (length table) l along)) where
-    pub pass_refused : {why : Refusal} → check ≡ Refused why → Works (pass_call family table start version l along choices) along (Answer'.Refused why) along
+    pub pass_refused : {why : Refusal} → check ≡ Err why → Works (pass_call family table start version l along choices) along (Answer'.Refused why) along
     unfolding pass_call
     pass_refused f = call_refused (kerning_tests (length table) l along) _ along e f
 
-    pub pass-passed : {bytes : List ℕ} {answer : Answer} {after : List ℤ} → check ≡ Passed → bytes ≡ drop start table
+    pub pass-passed : {bytes : List ℕ} {answer : Answer} {after : List ℤ} → check ≡ Ok tt → bytes ≡ drop start table
         → answer ≡ (passed family bytes version l.glyphs l.used choices).answer
         → after ≡ add_all (passed family bytes version l.glyphs l.used choices).additions along
         → Works (pass_call family table start version l along choices) along answer after
@@ -94,12 +90,12 @@ module _ (family : Family) where
   runs_by_default table start rtl l along = ap (run_call family table start rtl l along) none_chosen
 
   -- the answer for a pair
-  module _ (bytes : List ℕ) (version left right : ℕ) {head : Head} (e : head ≡ family.head_in false version 0 bytes) where
-    pub pair_cut : head ≡ Cut → Reply'.Refused Refusal'.Head ≡ pair_in family bytes version left right
+  module _ (bytes : List ℕ) (version left right : ℕ) {head : (Option Subtable)} (e : head ≡ family.head_in false version 0 bytes) where
+    pub pair_cut : head ≡ None → Err Refusal'.Head ≡ pair_in family bytes version left right
     unfolding pair_in
     pair_cut f = rw (sym e ∙ f)
 
-    pub pair_by_lem : {s : Subtable} {reply : PairReply} → head ≡ At s → reply ≡ family.pair_by bytes version s.format left right
+    pub pair_by_lem : {s : Subtable} {reply : (Result (Result ℤ Why) Refusal)} → head ≡ Some s → reply ≡ family.pair_by bytes version s.format left right
         → reply ≡ pair_in family bytes version left right
     unfolding pair_in
     pair_by_lem f r = r ∙ rw (sym e ∙ f)
@@ -150,13 +146,13 @@ module _ (family : Family) where
       }
 
   -- a whole run
-  module _ (table : List ℕ) (start : ℕ) (rtl : Bool) (l : Line) (along : List ℤ) (choices : Choices) {check : Check}
+  module _ (table : List ℕ) (start : ℕ) (rtl : Bool) (l : Line) (along : List ℤ) (choices : Choices) {check : (Result Unit Refusal)}
       (e : check ≡ refuse (run_tests (length table) start l along)) where
-    pub runs_refused : {why : Refusal} → check ≡ Refused why → RunIs (run_call family table start rtl l along choices) (Answer'.Refused why) 0 along
+    pub runs_refused : {why : Refusal} → check ≡ Err why → RunIs (run_call family table start rtl l along choices) (Answer'.Refused why) 0 along
     unfolding run_call
     runs_refused f = run_refused (run_tests (length table) start l along) along _ e f
 
-    pub runs_passed : {bytes : List ℕ} {n read : ℕ} {answer : Answer} {part : List ℤ} → check ≡ Passed → bytes ≡ list_bytes table start → n ≡ l.used
+    pub runs_passed : {bytes : List ℕ} {n read : ℕ} {answer : Answer} {part : List ℤ} → check ≡ Ok tt → bytes ≡ list_bytes table start → n ≡ l.used
         → answer ≡ walk_answer (walk_of family rtl bytes) → read ≡ length (visited (walk_of family rtl bytes))
         → part ≡ used_part (walk_of family rtl bytes) (adds family bytes (family.list_of bytes).version n choices) l.glyphs n
         → RunIs (run_call family table start rtl l along choices) answer read (part ++ drop l.used along)

@@ -1,4 +1,5 @@
 -- A walk's subtables are the manual's, if each head whose bytes lie in the table, and no other, is read as the manual has it.
+use Rattle.std.specs.Prelude.{Option, Some, None}
 use Prim.Native.Nat.{ℕ, zero, suc, ◌+◌, ◌<◌, ◌≤◌}
 use mathlib.Core.Path.{◌≡◌, refl, ◌∙◌, ap}
 use mathlib.Core.List.{List, [], ◌∷◌}
@@ -7,8 +8,6 @@ use lib.ListN.{length, get_or}
 use Rattle.kerning_lists.specs.Walk.{heads_from}
 use Rattle.kerning_lists.specs.Manual.{Told, told, begins_at, AsManual, NoneInPart}
 use Rattle.kerning_lists.specs.declared.Subtable.{Subtable}
-use Rattle.kerning_lists.specs.declared.Head.{Head}
-use Rattle.kerning_lists.specs.declared.Head.TheVariants.{At, Cut}
 
 -- the walk as the crate reads its heads
 pub record Walked
@@ -19,13 +18,13 @@ pub record Walked
   pub there : (k : ℕ) → k < count → ((j : ℕ) → j ≤ k → HeadLies (begins_at length_at first j)) → k < length walk
 
 -- a head is read or it is not
-pub no_head : {A : Type 0} {h : Head} {s : Subtable} → h ≡ At s → h ≡ Cut → A
+pub no_head : {A : Type 0} {h : (Option Subtable)} {s : Subtable} → h ≡ Some s → h ≡ None → A
 no_head e f = let z : ◌≡◌ {A = ℕ} 0 1 = cc in absurd (omega arith)
 
-module _ (head_at : ℕ → Head) (HeadLies : ℕ → Type 0) (subtable_at : ℕ → Subtable) (length_at : ℕ → ℕ)
+module _ (head_at : ℕ → Option Subtable) (HeadLies : ℕ → Type 0) (subtable_at : ℕ → Subtable) (length_at : ℕ → ℕ)
     (behind : (at : ℕ) → (subtable_at at).next ≡ at + length_at at)
-    (reads : (at : ℕ) → HeadLies at → head_at at ≡ At (subtable_at at))
-    (only : (at : ℕ) (s : Subtable) → head_at at ≡ At s → HeadLies at) where
+    (reads : (at : ℕ) → HeadLies at → head_at at ≡ Some (subtable_at at))
+    (only : (at : ℕ) (s : Subtable) → head_at at ≡ Some s → HeadLies at) where
   walk-on : (left at : ℕ) → HeadLies at → heads_from head_at (suc left) at ≡ subtable_at at ∷ heads_from head_at left (at + length_at at)
   unfolding heads_from
   walk-on left at h = rw (reads at h, heads_from, behind at)
@@ -34,9 +33,9 @@ module _ (head_at : ℕ → Head) (HeadLies : ℕ → Type 0) (subtable_at : ℕ
   unfolding heads_from
   head-lies left at k h = go (head_at at) refl
     where
-      go : (head : Head) → head_at at ≡ head → HeadLies at
-      go (At s) e = only at s e
-      go Cut e = let none : heads_from head_at (suc left) at ≡ [] = rw (e, heads_from) in absurd (omega (arith, h, ap length none))
+      go : (head : Option Subtable) → head_at at ≡ head → HeadLies at
+      go (Some s) e = only at s e
+      go None e = let none : heads_from head_at (suc left) at ≡ [] = rw (e, heads_from) in absurd (omega (arith, h, ap length none))
 
   -- behind the first head
   later : (left at k : ℕ) → suc k < length (heads_from head_at (suc left) at) → k < length (heads_from head_at left (at + length_at at))

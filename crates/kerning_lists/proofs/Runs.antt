@@ -1,4 +1,5 @@
 -- The loop of a whole run: what is left of the walk gives what the whole walk gives.
+use Rattle.std.specs.Prelude.{Option, Some, None}
 use Prim.Native.Nat.{ℕ, zero, suc, ◌+◌, ◌-◌, ◌*◌, ◌<◌, ◌≤◌, ◌^◌}
 use mathlib.Core.Path.{◌≡◌, refl, sym, ◌∙◌, ap, subst}
 use mathlib.Core.Bool.{Bool, true, false, cond}
@@ -18,8 +19,6 @@ use Rattle.kerning.proofs.Adding.{add_all-none, add_all-append, length-add_all, 
 use Rattle.kerning_lists.specs.Walk.{heads_from, visited, walk_answer}
 use Rattle.kerning_lists.specs.Run.{turned_back, contribution, contributions}
 use Rattle.kerning_lists.specs.declared.Subtable.{Subtable}
-use Rattle.kerning_lists.specs.declared.Head.{Head}
-use Rattle.kerning_lists.specs.declared.Head.TheVariants.{At, Cut}
 use Rattle.kerning_lists.proofs.Turns.{within-backward, turned_and_back}
 
 pub limit-small : head_limit ≤ 65535
@@ -60,7 +59,7 @@ module _ (work : Subtable → List ℕ → List Addition) (glyphs : List ℕ) (u
             (within-backward used (add_all there turned) (omega (arith, length-add_all there turned, length-backward (pos 0) used along fits))
             (little s (backward used glyphs) b turned (within-backward used along fits w)))
 
-  module _ (head_at : ℕ → Head) (whole : List Subtable) (start : List ℤ) where
+  module _ (head_at : ℕ → Option Subtable) (whole : List Subtable) (start : List ℤ) where
     -- `read` heads are counted, and at most `left` follow from a place on
     pub record Running (along : List ℤ) (read left at : ℕ) : Type 0 where
       pub within : read ≤ head_limit
@@ -77,24 +76,25 @@ module _ (work : Subtable → List ℕ → List Addition) (glyphs : List ℕ) (u
       pub leaves : along ≡ add_all (contributions work glyphs used (visited whole)) start
 
     -- the walk from here on, by the head that is read
-    goes_on : (left at : ℕ) {s : Subtable} → 0 < left → head_at at ≡ At s → heads_from head_at left at ≡ s ∷ heads_from head_at (left - 1) s.next
+    goes_on : (left at : ℕ) {s : Subtable} → 0 < left → head_at at ≡ Some s → heads_from head_at left at ≡ s ∷ heads_from head_at (left - 1) s.next
     unfolding heads_from
     goes_on zero at h e = absurd (omega arith)
     goes_on (suc left) at h e = let f : suc left - 1 ≡ left = omega arith in rw (e, f, heads_from)
 
-    ends-cut : (left at : ℕ) → head_at at ≡ Cut → heads_from head_at left at ≡ []
+    ends-cut : (left at : ℕ) → head_at at ≡ None → heads_from head_at left at ≡ []
     unfolding heads_from
     ends-cut zero at e = refl
     ends-cut (suc left) at e = rw (e, heads_from)
 
     module _ {along : List ℤ} {read left at : ℕ} (r : Running along read left at) where
-      pub running_next : {s : Subtable} {after : List ℤ} → 0 < left → head_at at ≡ At s → read < head_limit
+      pub running_next : {s : Subtable} {after : List ℤ} (next : ℕ) → next + 1 ≡ left → head_at at ≡ Some s → read < head_limit
           → after ≡ add_all (contribution work glyphs used s) along
-          → Within (read * 2 ^ 39 + 2 ^ 39) (add_all (contribution work glyphs used s) along) → Running after (read + 1) (left - 1) s.next
+          → Within (read * 2 ^ 39 + 2 ^ 39) (add_all (contribution work glyphs used s) along) → Running after (read + 1) next s.next
       unfolding contributions
-      running_next {s} {after} h e k g w =
-          let on = goes_on left at h e in
-          let rest : List Subtable = heads_from head_at (left - 1) s.next in
+      running_next {s} {after} next h e k g w =
+          let on : heads_from head_at left at ≡ s ∷ heads_from head_at next s.next =
+          goes_on left at (omega arith) e ∙ ap (λ (m : ℕ). s ∷ heads_from head_at m s.next) (omega arith) in
+          let rest : List Subtable = heads_from head_at next s.next in
           let n : head_limit - read ≡ suc (head_limit - (read + 1)) = omega arith in
           let split : take (head_limit - read) (heads_from head_at left at) ≡ s ∷ take (head_limit - (read + 1)) rest =
           ap (take (head_limit - read)) on ∙ ap (λ (m : ℕ). take m (s ∷ rest)) n in
@@ -111,7 +111,7 @@ module _ (work : Subtable → List ℕ → List Addition) (glyphs : List ℕ) (u
           }
 
       -- 65,535 are counted, and another can be read
-      pub running_limit : {s : Subtable} → 0 < left → head_at at ≡ At s → read ≡ head_limit → Ends Answer'.Limit read along
+      pub running_limit : {s : Subtable} → 0 < left → head_at at ≡ Some s → read ≡ head_limit → Ends Answer'.Limit read along
       unfolding walk_answer visited contributions
       running_limit {s} h e k =
           let c : read + length (s ∷ heads_from head_at (left - 1) s.next) ≡ length whole = rw (goes_on left at h e) at r.counted in
@@ -147,7 +147,7 @@ module _ (work : Subtable → List ℕ → List Addition) (glyphs : List ℕ) (u
           take_none zero = refl
           take_none (suc m) = refl
 
-      pub running_cut : head_at at ≡ Cut → Ends Answer'.Done read along
+      pub running_cut : head_at at ≡ None → Ends Answer'.Done read along
       running_cut e = over (ends-cut left at e)
 
       pub running_done : left ≤ 0 → Ends Answer'.Done read along
@@ -155,15 +155,17 @@ module _ (work : Subtable → List ℕ → List Addition) (glyphs : List ℕ) (u
       running_done h = let z : left ≡ 0 = omega arith in over (ap (λ (n : ℕ). heads_from head_at n at) z)
 
 -- the run begins with the whole walk, from zero
-pub running_start : (work : Subtable → List ℕ → List Addition) (glyphs : List ℕ) (used : ℕ) (head_at : ℕ → Head) (count first : ℕ) (start : List ℤ)
-    → Within 0 start → Running work glyphs used head_at (heads_from head_at count first) start start 0 count first
+pub running_start : (work : Subtable → List ℕ → List Addition) (glyphs : List ℕ) (used : ℕ) (head_at : ℕ → Option Subtable) (count first : ℕ) (start : List ℤ)
+    → Within 0 start → Running work glyphs used head_at (heads_from head_at count first) start start 0 (count - 0) first
 unfolding visited
 running_start work glyphs used head_at count first start w =
     let n : head_limit - 0 ≡ head_limit = omega arith in
     record {
       within = omega arith;
-      counted = omega arith;
-      same = ap (λ (m : ℕ). add_all (contributions work glyphs used (take m (heads_from head_at count first))) start) n;
+      counted = let same : heads_from head_at (count - 0) first ≡ heads_from head_at count first = ap (λ (m : ℕ). heads_from head_at m first) (omega arith) in omega (arith, ap length same);
+      same =
+          ap (λ (m : ℕ). add_all (contributions work glyphs used (take m (heads_from head_at (count - 0) first))) start) n
+          ∙ ap (λ (m : ℕ). add_all (contributions work glyphs used (take head_limit (heads_from head_at m first))) start) (omega arith);
       long = refl;
       small = within_more (omega arith) w;
     }

@@ -1,4 +1,5 @@
 -- The tests of a run, from what the code has tested.
+use Rattle.std.specs.Prelude.{Result, Ok, Err}
 use Prim.Native.Nat.{ℕ, ◌<◌, ◌≤◌}
 use mathlib.Core.Path.{◌≡◌, sym, ◌∙◌, ap}
 use mathlib.Core.Bool.{Bool, true, false, not}
@@ -9,26 +10,24 @@ use Rattle.answers.proofs.Refusals.{refuse-none, refuse-here, refuse-later, pass
 use Rattle.answers.specs.Refuse.{Test, refuse, table_test}
 use Rattle.answers.specs.declared.Refusal.{Refusal}
 use Rattle.answers.specs.declared.Refusal.TheVariants as Refusal'
-use Rattle.answers.specs.declared.Check.{Check}
-use Rattle.answers.specs.declared.Check.TheVariants.{Passed, Refused}
 use Rattle.line.specs.Line.{Line}
 use Rattle.kerning.specs.Line.{is_kernable, kernable_test}
 use Rattle.kerning_lists.specs.Run.{start_test, run_tests}
 
-module _ (length start : ℕ) (l : Line) (along : List ℤ) {check : Check} (e : check ≡ refuse (table_test length ∷ [])) where
+module _ (length start : ℕ) (l : Line) (along : List ℤ) {check : (Result Unit Refusal)} (e : check ≡ refuse (table_test length ∷ [])) where
   abbrev behind : List Test
   behind = kernable_test l along ∷ start_test length start ∷ []
 
-  pub tests_table : {why : Refusal} → check ≡ Refused why → Refused why ≡ refuse (run_tests length start l along)
+  pub tests_table : {why : Refusal} → check ≡ Err why → Err why ≡ refuse (run_tests length start l along)
   unfolding run_tests
   tests_table f = sym (alone_refused (table_test length) behind _ (sym e ∙ f))
 
-  module _ (f : check ≡ Passed) {taken : Bool} (t : taken ≡ is_kernable l along) where
+  module _ (f : check ≡ (Ok tt)) {taken : Bool} (t : taken ≡ is_kernable l along) where
     to_line : refuse (run_tests length start l along) ≡ refuse behind
     unfolding run_tests
     to_line = alone-passed (table_test length) behind (sym e ∙ f)
 
-    pub tests_line : not taken ≡ true → Refused Refusal'.Line ≡ refuse (run_tests length start l along)
+    pub tests_line : not taken ≡ true → Err Refusal'.Line ≡ refuse (run_tests length start l along)
     unfolding kernable_test
     tests_line n = sym (to_line ∙ refuse-here (kernable_test l along) (start_test length start ∷ []) (ap not (sym t) ∙ n))
 
@@ -37,16 +36,16 @@ module _ (length start : ℕ) (l : Line) (along : List ℤ) {check : Check} (e :
       unfolding kernable_test
       to_start = to_line ∙ refuse-later (kernable_test l along) (start_test length start ∷ []) (ap not (sym t) ∙ n)
 
-      pub tests_start : length < start → Refused Refusal'.Head ≡ refuse (run_tests length start l along)
+      pub tests_start : length < start → Err Refusal'.Head ≡ refuse (run_tests length start l along)
       unfolding start_test
       tests_start h = sym (to_start ∙ refuse-here (start_test length start) [] (rw (lt-ltb length start h)))
 
-      pub tests_passed : start ≤ length → Passed ≡ refuse (run_tests length start l along)
+      pub tests_passed : start ≤ length → Ok tt ≡ refuse (run_tests length start l along)
       unfolding start_test
       tests_passed h = sym (to_start ∙ refuse-later (start_test length start) [] (rw (le-ltb length start h)) ∙ refuse-none)
 
 -- a run that passes them has a line that it takes
-pub passed_kernable : (length start : ℕ) (l : Line) (along : List ℤ) → refuse (run_tests length start l along) ≡ Passed → is_kernable l along ≡ true
+pub passed_kernable : (length start : ℕ) (l : Line) (along : List ℤ) → refuse (run_tests length start l along) ≡ Ok tt → is_kernable l along ≡ true
 unfolding run_tests kernable_test
 passed_kernable length start l along e =
     not-false _

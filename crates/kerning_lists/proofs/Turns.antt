@@ -1,18 +1,21 @@
 -- Adjustments zeroed and turned round: the loops, and what a turn does to additions.
-use Prim.Native.Nat.{ℕ, suc, ◌+◌, ◌-◌, ◌<◌, ◌≤◌}
+use Prim.Native.Nat.{ℕ, suc, ◌-◌, ◌<◌, ◌≤◌}
 use mathlib.Core.Path.{◌≡◌, refl, sym, ◌∙◌, ap}
-use mathlib.Core.List.{List, [], ◌∷◌}
+use mathlib.Core.List.{List, [], ◌∷◌, append-nil}
 use mathlib.Core.Logic.{⊎_elim}
-use native.Mathlib.Nat.{zero-add}
 use native.Mathlib.Omega.{arith}
 use lib.IntN.{ℤ, pos, ◌+ℤ◌}
-use lib.ListN.{length, get_or, set, length-set}
-use lib.Seq.{get_or-set_same, get_or-set_other, ext_get_or}
+use lib.ListN.{length, get_or}
+use lib.Seq.{take-length, drop-length, ext_get_or}
 use Rattle.laws.specs.Backward.{backward}
 use Rattle.laws.proofs.Backward.{length-backward, backward-inside, backward_outside}
 use Rattle.laws.proofs.Choices.{if_lt_yes, if_lt_no}
 use Rattle.laws.proofs.Lists.{length-tab, get_d_tab}
 use Rattle.laws.proofs.Numbers.{lt-or-ge, eq-or-ne}
+use Rattle.laws.specs.Lists.{tab}
+use Rattle.std.specs.Prelude.{reverse}
+use Rattle.std.proofs.Math.ListN.{replicate, length-replicate}
+use Rattle.std.proofs.lemmas.List.{get_or-replicate}
 use Rattle.kerning.specs.Additions.{Addition, add_at, add_all}
 use Rattle.kerning.specs.Bounds.{Within}
 use Rattle.kerning.proofs.Adding.{length-add_at, length-add_all, add_at-there, add_at_elsewhere}
@@ -22,6 +25,16 @@ pub length-zeros : (n : ℕ) → length (zeros n) ≡ n
 unfolding zeros
 length-zeros n = length-tab (λ p. pos 0) n
 
+-- the same value everywhere
+pub tab_same : {A : Type 0} (a : A) (n : ℕ) → tab (λ p. a) n ≡ replicate n a
+tab_same a n =
+    ext_get_or a (tab (λ p. a) n) (replicate n a) (length-tab (λ p. a) n ∙ sym (length-replicate n a))
+    (λ k h. let i : k < n = omega (arith, length-tab (λ p. a) n) in get_d_tab (λ p. a) n k a i ∙ sym (get_or-replicate n k a a i))
+
+pub zeros_same : (n : ℕ) → zeros n ≡ replicate n (pos 0)
+unfolding zeros
+zeros_same n = tab_same (pos 0) n
+
 zeros-at : (n p : ℕ) → p < n → get_or (zeros n) p (pos 0) ≡ pos 0
 unfolding zeros
 zeros-at n p h = get_d_tab (λ p. pos 0) n p (pos 0) h
@@ -29,110 +42,10 @@ zeros-at n p h = get_d_tab (λ p. pos 0) n p (pos 0) h
 pub zeros_within : (n : ℕ) → Within 0 (zeros n)
 zeros_within n = record { each = λ p h. rw (zeros-at n p (rw (← length-zeros n) h)) (omega arith) }
 
--- zeroing, place by place
-pub record Zeroing (n : ℕ) (after : List ℤ) (i : ℕ) : Type 0 where
-  pub within : i ≤ n
-  pub long : length after ≡ n
-  pub done : (k : ℕ) → k < i → get_or after k (pos 0) ≡ pos 0
-
-module _ (n : ℕ) {after : List ℤ} {i : ℕ} (z : Zeroing n after i) where
-  pub zeroing_next : i < length after → Zeroing n (set after i (pos 0)) (i + 1)
-  zeroing_next h =
-      record {
-        within = omega (arith, z.long);
-        long = length-set after i (pos 0) ∙ z.long;
-        done = λ k m.
-            ⊎_elim
-            (λ (e : k ≡ i). ap (λ (q : ℕ). get_or (set after i (pos 0)) q (pos 0)) e ∙ get_or-set_same after i (pos 0) (pos 0) h)
-            (λ (ne : k ≡ i → ⊥). get_or-set_other after i k (pos 0) (pos 0) ne ∙ z.done k (omega (arith, ne)))
-            (eq-or-ne k i);
-      }
-
-  pub zeroing_done : length after ≤ i → after ≡ zeros n
-  zeroing_done h =
-      ext_get_or (pos 0) after (zeros n) (z.long ∙ sym (length-zeros n))
-      (λ k m. z.done k (omega arith) ∙ sym (zeros-at n k (omega (arith, z.long))))
-
-pub zeroing_start : (along : List ℤ) → Zeroing (length along) along 0
-zeroing_start along = record { within = omega arith; long = refl; done = λ k h. absurd (omega arith) }
-
--- turning round, from both ends
-pub record Turning (before : List ℤ) (n : ℕ) (after : List ℤ) (low high : ℕ) : Type 0 where
-  pub sum : low + high ≡ n
-  pub long : length after ≡ length before
-  pub turned : (k : ℕ) → k < n → (low ≤ k → k < high → ⊥) → get_or after k (pos 0) ≡ get_or before (n - suc k) (pos 0)
-  pub between : (k : ℕ) → low ≤ k → k < high → get_or after k (pos 0) ≡ get_or before k (pos 0)
-  pub rest : (k : ℕ) → n ≤ k → get_or after k (pos 0) ≡ get_or before k (pos 0)
-
-module _ (before : List ℤ) (n : ℕ) (fits : n ≤ length before) where
-  pub turning_start : Turning before n before 0 n
-  turning_start =
-      record {
-        sum = zero-add n;
-        long = refl;
-        turned = λ k h out. absurd (out (omega arith) h);
-        between = λ k h i. refl;
-        rest = λ k h. refl;
-      }
-
-  module _ {after : List ℤ} {low high : ℕ} {x y : ℤ} (t : Turning before n after low high) (more : low < high)
-      (ex : x ≡ get_or after low (pos 0)) (ey : y ≡ get_or after (high - 1) (pos 0)) where
-    abbrev h : ℕ
-    h = high - 1
-
-    abbrev swapped : List ℤ
-    swapped = set (set after low y) h x
-
-    inside : h < length after
-    inside = omega (arith, t.sum, t.long)
-
-    at_high : get_or swapped h (pos 0) ≡ get_or before low (pos 0)
-    at_high = get_or-set_same (set after low y) h x (pos 0) (rw (length-set after low y) inside) ∙ ex ∙ t.between low (omega arith) more
-
-    at_low : (low ≡ h → ⊥) → get_or swapped low (pos 0) ≡ get_or before h (pos 0)
-    at_low ne =
-        get_or-set_other (set after low y) h low x (pos 0) ne
-        ∙ get_or-set_same after low y (pos 0) (omega (arith, inside))
-        ∙ ey ∙ t.between h (omega arith) (omega arith)
-
-    elsewhere : (k : ℕ) → (k ≡ low → ⊥) → (k ≡ h → ⊥) → get_or swapped k (pos 0) ≡ get_or after k (pos 0)
-    elsewhere k i j = get_or-set_other (set after low y) h k x (pos 0) j ∙ get_or-set_other after low k y (pos 0) i
-
-    now_turned : (k : ℕ) → k < n → (low + 1 ≤ k → k < h → ⊥) → get_or swapped k (pos 0) ≡ get_or before (n - suc k) (pos 0)
-    now_turned k i out =
-        ⊎_elim
-        (λ (e : k ≡ h).
-        ap (λ (q : ℕ). get_or swapped q (pos 0)) e ∙ at_high ∙ ap (λ (q : ℕ). get_or before q (pos 0)) (omega (arith, t.sum)))
-        (λ (ne : k ≡ h → ⊥).
-        ⊎_elim
-        (λ (e : k ≡ low).
-        ap (λ (q : ℕ). get_or swapped q (pos 0)) e
-        ∙ at_low (λ (j : low ≡ h). ne (e ∙ j))
-        ∙ ap (λ (q : ℕ). get_or before q (pos 0)) (omega (arith, t.sum)))
-        (λ (ne' : k ≡ low → ⊥).
-        elsewhere k ne' ne ∙ t.turned k i (λ (a : low ≤ k) (b : k < high). out (omega (arith, ne')) (omega (arith, ne))))
-        (eq-or-ne k low))
-        (eq-or-ne k h)
-
-    pub turning_next : Turning before n swapped (low + 1) h
-    turning_next =
-        record {
-          sum = omega (arith, t.sum);
-          long = length-set (set after low y) h x ∙ length-set after low y ∙ t.long;
-          turned = now_turned;
-          between = λ k i j. elsewhere k (λ (e : k ≡ low). omega arith) (λ (e : k ≡ h). omega arith) ∙ t.between k (omega arith) (omega arith);
-          rest = λ k i.
-              elsewhere k (λ (e : k ≡ low). omega (arith, t.sum)) (λ (e : k ≡ h). omega (arith, t.sum)) ∙ t.rest k i;
-        }
-
-  pub turning_done : {after : List ℤ} {low high : ℕ} → Turning before n after low high → high ≤ low → after ≡ backward n before
-  turning_done {after} {low} {high} t h =
-      ext_get_or (pos 0) after (backward n before) (t.long ∙ sym (length-backward (pos 0) n before fits))
-      (λ k i.
-      ⊎_elim
-      (λ (j : k < n). t.turned k j (λ a b. omega arith) ∙ sym (backward-inside (pos 0) n before fits k j))
-      (λ (j : n ≤ k). t.rest k j ∙ sym (backward_outside (pos 0) n before fits k j))
-      (lt-or-ge k n))
+-- a whole list turned round
+pub backward_whole : {A : Type 0} (xs : List A) → backward (length xs) xs ≡ reverse xs
+unfolding backward
+backward_whole xs = rw (take-length, drop-length) (append-nil (reverse xs))
 
 -- twice turned is as it was
 pub backward_twice : {A : Type 0} (d : A) (n : ℕ) (xs : List A) → n ≤ length xs → backward n (backward n xs) ≡ xs

@@ -1,5 +1,7 @@
 -- The two families of kerning lists, kern and kerx: what each says for itself, and what is done with either.
-use Rattle.std.specs.Prelude.{ℕ, ◌+◌, Bool, false, List, [], ◌∷◌, ℤ, length, drop}
+use Rattle.answers.specs.declared.Refusal.{Refusal}
+use Rattle.tables.specs.declared.lookup.Why.{Why}
+use Rattle.std.specs.Prelude.{ℕ, ◌+◌, Bool, false, List, [], ◌∷◌, ℤ, length, drop, Option, Result, Err}
 use Rattle.answers.specs.Refuse.{refuse, table_test}
 use Rattle.answers.specs.declared.Answer.TheVariants as Answer'
 use Rattle.answers.specs.declared.Refusal.TheVariants as Refusal'
@@ -8,29 +10,24 @@ use Rattle.kerning.specs.Additions.{Addition, Kerned, nothing_added, called_by}
 use Rattle.kerning.specs.Line.{kerning_tests}
 use Rattle.kerning.specs.declared.choices.Choices.{Choices}
 use Rattle.pairs.specs.Reply.{checked_pair}
-use Rattle.pairs.specs.declared.PairReply.{PairReply}
-use Rattle.pairs.specs.declared.PairReply.TheVariants as Reply'
 use Rattle.kerning_lists.specs.Walk.{on_head, list_bytes, heads_from}
 use Rattle.kerning_lists.specs.Run.{Ran, ran_over, run_tests, unless_refused}
 use Rattle.kerning_lists.specs.Cursors.{cursor, next_by, list_tests, start_by, reply_by}
 use Rattle.kerning_lists.specs.declared.ListHead.{ListHead}
 use Rattle.kerning_lists.specs.declared.Subtable.{Subtable}
-use Rattle.kerning_lists.specs.declared.Head.{Head}
 use Rattle.kerning_lists.specs.declared.Cursor.{Cursor}
 use Rattle.kerning_lists.specs.declared.NextSubtable.{NextSubtable}
-use Rattle.kerning_lists.specs.declared.ListStart.{ListStart}
-use Rattle.kerning_lists.specs.declared.SubtableReply.{SubtableReply}
 
 -- the list's own head; the head of a subtable at a place, by the bytes from there on; and of a subtable of a format, by its bytes, the pass by the
 -- choices made and the answer for a pair
 pub record Family : Type 0 where
   pub list_of : List ℕ → ListHead
-  pub head_in : (rtl : Bool) → (version at : ℕ) → (part : List ℕ) → Head
+  pub head_in : (rtl : Bool) → (version at : ℕ) → (part : List ℕ) → Option Subtable
   pub worked : List ℕ → (version format : ℕ) → (glyphs : List ℕ) → (used : ℕ) → Choices → Kerned
-  pub pair_by : List ℕ → (version format left right : ℕ) → PairReply
+  pub pair_by : List ℕ → (version format left right : ℕ) → Result (Result ℤ Why) Refusal
 
 module _ (family : Family) where
-  abbrev pub head_at : (rtl : Bool) → List ℕ → (version at : ℕ) → Head
+  abbrev pub head_at : (rtl : Bool) → List ℕ → (version at : ℕ) → Option Subtable
   head_at rtl bytes version at = family.head_in rtl version at (drop at bytes)
 
   -- the walk of a list, of a line that goes from right to left or not
@@ -50,11 +47,11 @@ module _ (family : Family) where
       called_by (refuse (kerning_tests (length table) l along)) (passed (drop start table) version l.glyphs l.used choices)
 
   -- the answer for a pair of glyphs: HEAD where the head can't be read or the format has no pairs
-  unfoldable pub pair_in : List ℕ → (version left right : ℕ) → PairReply
+  unfoldable pub pair_in : List ℕ → (version left right : ℕ) → Result (Result ℤ Why) Refusal
   pair_in bytes version left right =
-      on_head (family.head_in false version 0 bytes) (λ s. family.pair_by bytes version s.format left right) (Reply'.Refused Refusal'.Head)
+      on_head (family.head_in false version 0 bytes) (λ s. family.pair_by bytes version s.format left right) (Err Refusal'.Head)
 
-  unfoldable pub pair_call : List ℕ → (start version left right : ℕ) → PairReply
+  unfoldable pub pair_call : List ℕ → (start version left right : ℕ) → Result (Result ℤ Why) Refusal
   pair_call table start version left right =
       checked_pair (refuse (table_test (length table) ∷ [])) (pair_in (drop start table) version left right)
 
@@ -76,12 +73,12 @@ module _ (family : Family) where
       let list : ListHead = family.list_of (list_bytes table start) in
       cursor (start + list.first) list.count list.version
 
-  unfoldable pub list_call : List ℕ → (start : ℕ) → ListStart
+  unfoldable pub list_call : List ℕ → (start : ℕ) → Result Cursor Refusal
   list_call table start = start_by (refuse (list_tests (length table) start)) (list_from table start)
 
   -- the next subtable of a list, as a run from left to right reads its head
-  unfoldable pub next_subtable : List ℕ → Cursor → NextSubtable
+  unfoldable pub next_subtable : List ℕ → Cursor → Option NextSubtable
   next_subtable table c = next_by (head_at false table c.version c.place) c
 
-  unfoldable pub subtable_call : List ℕ → Cursor → SubtableReply
+  unfoldable pub subtable_call : List ℕ → Cursor → Result (Option NextSubtable) Refusal
   subtable_call table c = reply_by (refuse (table_test (length table) ∷ [])) (next_subtable table c)

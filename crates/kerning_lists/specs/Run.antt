@@ -1,5 +1,6 @@
 -- A whole run over a list: zero, plus what each visited subtable contributes.
-use Rattle.std.specs.Prelude.{ℕ, suc, ◌-◌, true, false, cond, List, [], ◌∷◌, ◌++◌, ℤ, pos, length, drop}
+use Rattle.answers.specs.declared.Refusal.{Refusal}
+use Rattle.std.specs.Prelude.{ℕ, suc, ◌-◌, true, false, cond, List, [], ◌∷◌, ◌++◌, ℤ, pos, length, drop, Result, Ok, Err}
 use Rattle.laws.specs.Backward.{backward}
 use Rattle.laws.specs.Choose.{if_lt}
 use Rattle.laws.specs.Lists.{tab}
@@ -7,8 +8,6 @@ use Rattle.answers.specs.Refuse.{Test, table_test}
 use Rattle.answers.specs.declared.Answer.{Answer}
 use Rattle.answers.specs.declared.Answer.TheVariants as Answer'
 use Rattle.answers.specs.declared.Refusal.TheVariants as Refusal'
-use Rattle.answers.specs.declared.Check.{Check}
-use Rattle.answers.specs.declared.Check.TheVariants as Check'
 use Rattle.line.specs.Line.{Line}
 use Rattle.kerning.specs.Additions.{Addition, add_all}
 use Rattle.kerning.specs.Line.{kernable_test}
@@ -67,6 +66,6 @@ unfoldable pub run_tests : (table_length start : ℕ) → Line → List ℤ → 
 run_tests table_length start l along = table_test table_length ∷ kernable_test l along ∷ start_test table_length start ∷ []
 
 -- a refused run counts no heads and changes nothing
-abbrev pub unless_refused : Check → List ℤ → Ran → Ran
-unless_refused Check'.Passed along ran = ran
-unless_refused (Check'.Refused why) along ran = record { answer = Answer'.Refused why; heads = 0; along = along }
+abbrev pub unless_refused : Result Unit Refusal → List ℤ → Ran → Ran
+unless_refused (Ok tt) along ran = ran
+unless_refused (Err why) along ran = record { answer = Answer'.Refused why; heads = 0; along = along }

@@ -1,4 +1,5 @@
 -- What an entry does, from what the code has done.
+use Rattle.std.specs.Prelude.{Option, Some, None}
 use Prim.Native.Nat.{ℕ, ◌≤◌}
 use mathlib.Core.Path.{◌≡◌, refl, sym, ◌∙◌, ap, ap₂, subst⁻¹}
 use mathlib.Core.Bool.{Bool, true, false, cond}
@@ -7,10 +8,9 @@ use native.Mathlib.Omega.{arith}
 use lib.IntN.{ℤ}
 use Rattle.answers.specs.declared.Answer.TheVariants as Answer'
 use Rattle.state_tables.specs.declared.entries.Entry.{Entry}
-use Rattle.state_tables.specs.declared.entries.Entered.{Entered}
-use Rattle.state_tables.specs.declared.entries.Entered.TheVariants as Entered'
 use Rattle.state_tables.specs.Entries.{entry_of}
-use Rattle.machine.specs.Pass.{is_done}
+use Rattle.machine.specs.Stall.{stalled}
+use Rattle.machine.specs.declared.Stalled.{Stalled}
 use Rattle.kerning.specs.Additions.{Addition, add_all}
 use Rattle.kerning.specs.Lists.{Walk}
 use Rattle.kerning.specs.declared.lists.Walked.{Walked}
@@ -21,7 +21,7 @@ use Rattle.kerning_machine.specs.declared.Kerning.{Kerning}
 use Rattle.kerning_machine.specs.declared.KerningState.{KerningState}
 use Rattle.kerning_machine.specs.declared.KerningStep.{KerningStep}
 use Rattle.kerning_machine.specs.Machine.{is_full, popped, stacked, stopped, settled, walked_from, Stepped, behind, listed, entered, acted, payload_of, orders_of, next}
-use Rattle.kerning_machine.specs.Work.{standing}
+use Rattle.kerning_machine.specs.Work.{standing, step_of}
 use Rattle.kerning_machine.proofs.Readings.{room_left}
 
 -- the code's step and adjustments are those of a definition
@@ -97,17 +97,13 @@ module _ (orders : Orders) (state : ℕ) (stack : List ℕ) (cycles : ℕ) (walk
   unfolding behind
   behind-settled t e = e ∙ rw (t, behind)
 
-pub settled-done : (s : KerningState) (resets stays : Bool) {step : KerningStep} → step ≡ settled s resets stays → is_done step.answer ≡ true
-unfolding settled
-settled-done s resets stays e = rw (e, settled)
-
 module _ (classes : ℕ → ℕ) (bytes : List ℕ) (kerning : Kerning) (s : KerningState) (used index glyph : ℕ) (along : List ℤ) {class payload : ℕ}
-    {r : Entered} (k : class ≡ classes glyph) (p : payload ≡ payload_of kerning.reading)
+    {r : (Option Entry)} (k : class ≡ classes glyph) (p : payload ≡ payload_of kerning.reading)
     (e : r ≡ entry_of bytes kerning.states s.state class payload) where
   found : r ≡ entry_of bytes kerning.states s.state (classes glyph) (payload_of kerning.reading)
   found = e ∙ ap₂ (λ (c q : ℕ). entry_of bytes kerning.states s.state c q) k p
 
-  pub next-ended : {step : KerningStep} → r ≡ Entered'.Ended → step ≡ stopped s Answer'.Ended → Does (next classes bytes kerning s used index glyph) along step along
+  pub next-ended : {step : KerningStep} → r ≡ None → step ≡ stopped s Answer'.Ended → Does (next classes bytes kerning s used index glyph) along step along
   unfolding next
   next-ended f g =
       record {
@@ -115,7 +111,7 @@ module _ (classes : ℕ → ℕ) (bytes : List ℕ) (kerning : Kerning) (s : Ker
         leaves = sym (ap (λ (xs : List Addition). add_all xs along) (rw (sym found ∙ f, next)) ∙ add_all-none along);
       }
 
-  pub next-acts : {entry : Entry} {orders : Orders} {step : KerningStep} {along' : List ℤ} → r ≡ Entered'.At entry
+  next-acts : {entry : Entry} {orders : Orders} {step : KerningStep} {along' : List ℤ} → r ≡ Some entry
       → orders ≡ orders_of bytes kerning.reading entry → step ≡ (acted bytes kerning.reading (entered s entry.state) orders used index).step
       → along' ≡ add_all (acted bytes kerning.reading (entered s entry.state) orders used index).additions along
       → Does (next classes bytes kerning s used index glyph) along step along'
@@ -127,3 +123,29 @@ module _ (classes : ℕ → ℕ) (bytes : List ℕ) (kerning : Kerning) (s : Ker
         steps = q ∙ ap (λ (x : Stepped). x.step) n;
         leaves = a ∙ ap (λ (x : Stepped). add_all x.additions along) n;
       }
+
+  -- the list ended the step, or it did not
+  module _ {entry : Entry} {orders : Orders} (walked : Walked) {stack' : List ℕ} {along' : List ℤ} (f : r ≡ Some entry)
+      (o : orders ≡ orders_of bytes kerning.reading entry)
+      (a : (state cycles : ℕ) → behind orders (standing state stack' walked.depth cycles) walked
+      ≡ (acted bytes kerning.reading (standing state s.stack s.depth cycles) orders used index).step)
+      (b : (state cycles : ℕ) → along' ≡ add_all (acted bytes kerning.reading (standing state s.stack s.depth cycles) orders used index).additions along) where
+    pub next-over : walked.ended ≡ true
+        → Does (next classes bytes kerning s used index glyph) along (stopped (standing entry.state stack' walked.depth s.cycles) Answer'.Ended) along'
+    next-over t = next-acts f o (behind-ended orders entry.state stack' s.cycles walked t refl ∙ a entry.state s.cycles) (b entry.state s.cycles)
+
+    pub next-goes : {stalled' : Stalled} {depth : ℕ} → walked.ended ≡ false → stalled' ≡ stalled s.cycles orders.stays → depth ≡ cond orders.resets 0 walked.depth
+        → Does (next classes bytes kerning s used index glyph) along
+        (record { answer = Answer'.Done; state = standing entry.state stack' depth stalled'.cycles; advance = stalled'.advance }) along'
+    unfolding settled
+    next-goes t m d =
+        next-acts f o (behind-settled orders entry.state stack' s.cycles walked t (rw (m, d, settled)) ∙ a entry.state s.cycles) (b entry.state s.cycles)
+
+-- a step by the class of its glyph
+pub next_by_class : (classes : ℕ → ℕ) (bytes : List ℕ) (kerning : Kerning) (s : KerningState) (used index glyph : ℕ) (along : List ℤ) {class : ℕ} {r x : Option ℕ} (s' : KerningState)
+    {along' : List ℤ} → class ≡ classes glyph → r ≡ x → ((glyph : ℕ) → step_of r s' ≡ (next (λ _. class) bytes kerning s used index glyph).step)
+    → ((glyph : ℕ) → along' ≡ add_all (next (λ _. class) bytes kerning s used index glyph).additions along)
+    → Does (next classes bytes kerning s used index glyph) along (step_of x s') along'
+unfolding next
+next_by_class classes bytes kerning s used index glyph along s' k o e a =
+    record { steps = ap (λ (y : Option ℕ). step_of y s') (sym o) ∙ rw (← k) (e glyph); leaves = rw (← k) (a glyph) }

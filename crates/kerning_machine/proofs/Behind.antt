@@ -1,10 +1,10 @@
 -- More bytes behind a subtable change nothing for the machine's pass where no read fails without them.
+use Rattle.std.specs.Prelude.{Option, Some}
 use Prim.Native.Nat.{ℕ, zero, suc, ◌+◌, ◌<◌, ◌≤◌}
 use mathlib.Core.Path.{◌≡◌, refl, sym, ◌∙◌, ap}
 use mathlib.Core.Bool.{Bool, true, false, cond}
 use mathlib.Core.List.{List, []}
 use mathlib.Core.Logic.{⊎_elim}
-use native.Mathlib.Omega.{arith}
 use lib.ListN.{length, get_or}
 use Rattle.laws.proofs.Numbers.{lt-or-ge}
 use Rattle.answers.specs.declared.Answer.{Answer}
@@ -13,8 +13,6 @@ use Rattle.parse.proofs.Behind.{Begins, u16_stays}
 use Rattle.state_tables.specs.Classes.{class_of}
 use Rattle.state_tables.specs.Entries.{entry_of, on_entry}
 use Rattle.state_tables.specs.declared.entries.Entry.{Entry}
-use Rattle.state_tables.specs.declared.entries.Entered.{Entered}
-use Rattle.state_tables.specs.declared.entries.Entered.TheVariants as Entered'
 use Rattle.state_tables.proofs.Laws.{entry_payload}
 use Rattle.state_tables.proofs.Behind.{class_stays, entry_stays}
 use Rattle.machine.specs.Pass.{is_done}
@@ -35,11 +33,11 @@ use Rattle.kerning_machine.proofs.Passes.{turn_goes, turn_stops, turn_ends}
 
 done_is : (answer : Answer) → is_done answer ≡ true → answer ≡ Answer'.Done
 done_is Answer'.Done e = refl
-done_is Answer'.Nothing e = absurd (let z : ◌≡◌ {A = ℕ} 0 1 = cc in omega arith)
-done_is Answer'.Full e = absurd (let z : ◌≡◌ {A = ℕ} 0 1 = cc in omega arith)
-done_is Answer'.Ended e = absurd (let z : ◌≡◌ {A = ℕ} 0 1 = cc in omega arith)
-done_is Answer'.Limit e = absurd (let z : ◌≡◌ {A = ℕ} 0 1 = cc in omega arith)
-done_is (Answer'.Refused why) e = absurd (let z : ◌≡◌ {A = ℕ} 0 1 = cc in omega arith)
+done_is Answer'.Nothing e = absurd (cc)
+done_is Answer'.Full e = absurd (cc)
+done_is Answer'.Ended e = absurd (cc)
+done_is Answer'.Limit e = absurd (cc)
+done_is (Answer'.Refused why) e = absurd (cc)
 
 module _ {own whole : List ℕ} (b : Begins own whole) where
   -- what an entry orders: its index lies in the own bytes
@@ -83,13 +81,13 @@ module _ {own whole : List ℕ} (b : Begins own whole) where
       let entry : Entry = inside.entry in
       let payload : ℕ = payload_of kerning.reading in
       let c : class_of whole kerning.states glyph ≡ class_of own kerning.states glyph = class_stays b kerning.states glyph inside.class in
-      let e : entry_of own kerning.states s.state (class_of own kerning.states glyph) payload ≡ Entered'.At entry = inside.there in
-      let f : entry_of whole kerning.states s.state (class_of whole kerning.states glyph) payload ≡ Entered'.At entry =
+      let e : entry_of own kerning.states s.state (class_of own kerning.states glyph) payload ≡ Some entry = inside.there in
+      let f : entry_of whole kerning.states s.state (class_of whole kerning.states glyph) payload ≡ Some entry =
       ap (λ (k : ℕ). entry_of whole kerning.states s.state k payload) c
       ∙ entry_stays b kerning.states s.state (class_of own kerning.states glyph) payload e in
       let o : orders_of whole kerning.reading entry ≡ orders_of own kerning.reading entry =
       orders_stay kerning.reading entry (entry_payload own kerning.states s.state (class_of own kerning.states glyph) payload (sym e) refl) in
-      let does : List ℕ → Entered → Stepped =
+      let does : List ℕ → Option Entry → Stepped =
       λ bytes r. on_entry r (λ x. acted bytes kerning.reading (entered s x.state) (orders_of bytes kerning.reading x) used index) (record { step = stopped s Answer'.Ended; additions = [] }) in
       ap (does whole) f
       ∙ ap (λ (x : Orders). acted whole kerning.reading (entered s entry.state) x used index) o

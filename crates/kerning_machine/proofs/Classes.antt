@@ -1,29 +1,26 @@
 -- The class table that a pass opens gives the machine's own classes.
-use Prim.Native.Nat.{ℕ, ◌<◌, ◌≤◌}
-use mathlib.Core.Path.{◌≡◌, sym, ◌∙◌, ap, ap₂, subst, subst⁻¹}
+use Prim.Native.Nat.{ℕ}
+use mathlib.Core.Path.{◌≡◌, refl, sym, ◌∙◌, ap, ap₂, subst⁻¹}
 use mathlib.Core.Bool.{Bool}
 use mathlib.Core.List.{List}
-use native.Mathlib.Omega.{arith}
 use lib.IntN.{ℤ}
 use lib.ListN.{length}
 use Rattle.answers.specs.declared.Answer.{Answer}
 use Rattle.state_tables.specs.Classes.{class_of}
-use Rattle.state_tables.specs.Opened.{opened_classes, byte_class_in, class_by, LiesIn, Remembers, noted, nothing_found}
+use Rattle.state_tables.specs.Opened.{opened_classes, byte_class_in, class_by, LiesIn, Remembers, nothing_found}
 use Rattle.state_tables.specs.declared.Edition.{Edition}
 use Rattle.state_tables.specs.declared.States.{States}
 use Rattle.state_tables.specs.declared.opened.Classes.{Classes}
 use Rattle.state_tables.specs.declared.opened.Classes.TheVariants.{Bytes}
-use Rattle.state_tables.proofs.Openings.{classes-same, classes-lie, bytes-class, deleted-class, nothing_remembered, still_remembers}
+use Rattle.state_tables.proofs.Openings.{classes-same, classes-lie, bytes-class, deleted-class, nothing_remembered}
 use Rattle.kerning.specs.Additions.{Kerned, add_all}
 use Rattle.indexes.specs.Index.{classes_by}
 use Rattle.indexes.proofs.Laws.{no_index, opened-index}
-use Rattle.kerning_machine.specs.Machine.{Stepped, next, own_classes, passed_by, passed_indexed}
-use Rattle.kerning_machine.specs.Work.{kern_of, kerx_of}
+use Rattle.kerning_machine.specs.Machine.{passed_by, passed_indexed}
+use Rattle.kerning_machine.specs.Work.{kern_of}
 use Rattle.kerning_machine.specs.declared.Kerning.{Kerning}
-use Rattle.kerning_machine.specs.declared.KerningState.{KerningState}
-use Rattle.kerning_machine.specs.declared.KerningStep.{KerningStep}
 use Rattle.kerning_machine.specs.declared.Reading.{Reading}
-use Rattle.kerning_machine.specs.declared.Reading.TheVariants.{Kern, Kerx}
+use Rattle.kerning_machine.specs.declared.Reading.TheVariants.{Kern}
 use Rattle.kerning_machine.proofs.Calls.{Works}
 
 pub own-lies : (bytes : List ℕ) (edition : Edition) {table : Classes} → table ≡ opened_classes bytes edition → LiesIn bytes table
@@ -33,15 +30,10 @@ module _ (bytes : List ℕ) (states : States) {table : Classes} (e : table ≡ o
   pub own-bytes : {base first count : ℕ} → table ≡ Bytes base first count → byte_class_in bytes base first count ≡ class_of bytes states
   own-bytes {base} {first} {count} f = λ i glyph. (bytes-class bytes table base first count glyph f ∙ ap (λ (t : Classes). class_by bytes t glyph) e ∙ classes-same bytes states glyph) i
 
--- at first nothing is remembered, and what is noted is remembered rightly
+-- at first nothing is remembered
 module _ (bytes : List ℕ) (table : Classes) where
   pub memory_start : {memo : List ℕ} → memo ≡ nothing_found → Remembers (class_by bytes table) memo
   memory_start e = subst⁻¹ (λ (m : List ℕ). Remembers (class_by bytes table) m) e (nothing_remembered (deleted-class bytes table))
-
-  pub memory_kept : (glyph : ℕ) {class : ℕ} {memo memo' : List ℕ} → Remembers (class_by bytes table) memo → class < 65536 → class ≡ class_by bytes table glyph
-      → memo' ≡ noted (class_by bytes table) memo glyph → Remembers (class_by bytes table) memo'
-  memory_kept glyph r small f e =
-      subst⁻¹ (λ (m : List ℕ). Remembers (class_by bytes table) m) e (still_remembers r glyph (subst (λ (n : ℕ). n < 65536) f small))
 
 -- the two passes are those of the machine
 module _ (index bytes : List ℕ) (kerning : Kerning) (glyphs : List ℕ) (used : ℕ) (along : List ℤ) {table : Classes} {answer : Answer} {along' : List ℤ}
@@ -56,30 +48,15 @@ module _ (index bytes : List ℕ) (kerning : Kerning) (glyphs : List ℕ) (used 
       ap₂ (λ (c : ℕ → ℕ) (x : Reading). passed_by c bytes (record { states = kerning.states; reading = x }) glyphs used) k (sym r) in
       record { answers = a ∙ ap (λ (x : Kerned). x.answer) q; leaves = b ∙ ap (λ (x : Kerned). add_all x.additions along) q }
 
-  pub kern_passes : {crossed : Bool} {base first count : ℕ} → length index ≤ 0 → table ≡ Bytes base first count → kerning.reading ≡ Kern crossed
+  pub kern_passes : {crossed : Bool} {base first count : ℕ} → length index ≡ 0 → table ≡ Bytes base first count → kerning.reading ≡ Kern crossed
       → answer ≡ (passed_by (byte_class_in bytes base first count) bytes (kern_of kerning.states crossed) glyphs used).answer
       → along' ≡ add_all (passed_by (byte_class_in bytes base first count) bytes (kern_of kerning.states crossed) glyphs used).additions along
       → Works (passed_indexed index bytes kerning glyphs used) along answer along'
   kern_passes {crossed} {base} {first} {count} z f r a b =
       own-pass (byte_class_in bytes base first count) (Kern crossed)
-      (own-bytes bytes kerning.states e f ∙ sym (no_index index (omega (arith, z)) (class_of bytes kerning.states))) r a b
+      (own-bytes bytes kerning.states e f ∙ sym (no_index index z (class_of bytes kerning.states))) r a b
 
-  pub kerx_passes : {values tuples : ℕ} → kerning.reading ≡ Kerx values tuples
-      → answer ≡ (passed_by (classes_by index (class_by bytes table)) bytes (kerx_of kerning.states values tuples) glyphs used).answer
-      → along' ≡ add_all (passed_by (classes_by index (class_by bytes table)) bytes (kerx_of kerning.states values tuples) glyphs used).additions along
+  pub any_passes : answer ≡ (passed_by (classes_by index (class_by bytes table)) bytes kerning glyphs used).answer
+      → along' ≡ add_all (passed_by (classes_by index (class_by bytes table)) bytes kerning glyphs used).additions along
       → Works (passed_indexed index bytes kerning glyphs used) along answer along'
-  kerx_passes {values} {tuples} r a b = own-pass (classes_by index (class_by bytes table)) (Kerx values tuples) (opened-index index bytes kerning.states e) r a b
-
--- a lone step is lent no index
-plain-next : (lent : List ℕ) → length lent ≡ 0 → (bytes : List ℕ) (kerning : Kerning) (s : KerningState) (used place glyph : ℕ)
-    → next (classes_by lent (own_classes bytes kerning)) bytes kerning s used place glyph ≡ next (own_classes bytes kerning) bytes kerning s used place glyph
-plain-next lent z bytes kerning s used place glyph = ap (λ (c : ℕ → ℕ). next c bytes kerning s used place glyph) (no_index lent z (own_classes bytes kerning))
-
-pub plain-goes : (lent : List ℕ) → length lent ≡ 0 → (bytes : List ℕ) (kerning : Kerning) (s : KerningState) (used place glyph : ℕ) (along : List ℤ) {step : KerningStep} {along' : List ℤ}
-    → step ≡ (next (classes_by lent (own_classes bytes kerning)) bytes kerning s used place glyph).step
-    → along' ≡ add_all (next (classes_by lent (own_classes bytes kerning)) bytes kerning s used place glyph).additions along
-    → (step ≡ (next (own_classes bytes kerning) bytes kerning s used place glyph).step)
-    × (along' ≡ add_all (next (own_classes bytes kerning) bytes kerning s used place glyph).additions along)
-plain-goes lent z bytes kerning s used place glyph along a l =
-    let e = plain-next lent z bytes kerning s used place glyph in
-    (a ∙ ap (λ (n : Stepped). n.step) e, l ∙ ap (λ (n : Stepped). add_all n.additions along) e)
+  any_passes a b = own-pass (classes_by index (class_by bytes table)) kerning.reading (opened-index index bytes kerning.states e) refl a b

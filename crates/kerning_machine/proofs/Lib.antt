@@ -1,4 +1,5 @@
 -- Laws of the machine of format 1.
+mod Slots
 mod Readings
 mod Acting
 pub mod Sound

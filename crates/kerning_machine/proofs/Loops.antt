@@ -1,106 +1,63 @@
--- The loops of the two passes: the steps at a place are a loop of their own, which ends when the place is left.
-use Prim.Native.Nat.{ℕ, ◌+◌, ◌*◌, ◌<◌}
-use mathlib.Core.Path.{◌≡◌, refl, ◌∙◌, subst, subst⁻¹}
-use mathlib.Core.Bool.{Bool, true, false, cond}
+-- The loops of the passes: the steps at a place are a loop of their own, which ends when the place is left.
+use Prim.Native.Nat.{ℕ, ◌+◌, ◌*◌, ◌<◌, ◌≤◌}
+use mathlib.Core.Path.{◌≡◌, refl, subst, subst⁻¹}
 use mathlib.Core.List.{List}
 use native.Mathlib.Omega.{arith}
-use lib.Dec.{ltb, eqb}
 use lib.IntN.{ℤ}
 use lib.ListN.{get_or}
 use Rattle.answers.specs.declared.Answer.TheVariants as Answer'
-use Rattle.state_tables.specs.declared.entries.Entry.{Entry}
-use Rattle.state_tables.specs.declared.entries.Entered.TheVariants as Entered'
-use Rattle.state_tables.specs.Entries.{entry_of}
-use Rattle.machine.specs.Stall.{stalled}
-use Rattle.machine.specs.declared.Stalled.{Stalled}
-use Rattle.kerning.specs.Additions.{add_all}
-use Rattle.kerning.specs.declared.lists.Walked.{Walked}
 use Rattle.kerning_machine.specs.declared.Kerning.{Kerning}
 use Rattle.kerning_machine.specs.declared.KerningState.{KerningState}
-use Rattle.kerning_machine.specs.declared.KerningStep.{KerningStep}
-use Rattle.kerning_machine.specs.declared.Orders.{Orders}
-use Rattle.kerning_machine.specs.Machine.{payload_of, orders_of, settled, behind, acted, next, rest}
+use Rattle.kerning_machine.specs.Machine.{stopped, next, rest}
 use Rattle.kerning_machine.specs.Work.{standing}
-use Rattle.kerning_machine.proofs.Acting.{Does, behind-ended, behind-settled, next-ended, next-acts}
-use Rattle.kerning_machine.proofs.Passes.{Going, Over, going_stop, going_less, going_step}
-
--- the place of the next step: this one, where a step stays here, or the one behind it
-abbrev pub place_of : (stays : Bool) → ℕ → ℕ
-place_of stays i = cond stays i (i + 1)
-
-stall_place : (cycles : ℕ) (stays : Bool) (i : ℕ) → i + (stalled cycles stays).advance ≡ place_of (eqb (stalled cycles stays).advance 0) i
-unfolding stalled
-stall_place cycles false i = refl
-stall_place cycles true i = go (ltb 16 cycles)
-  where
-    go : (t : Bool) → let r : Stalled = cond t (record { cycles = 0; advance = 1 }) (record { cycles = cycles + 1; advance = 0 }) in i + r.advance ≡ place_of (eqb r.advance 0) i
-    go true = refl
-    go false = omega arith
+use Rattle.kerning_machine.proofs.Acting.{Does}
+use Rattle.kerning_machine.proofs.Passes.{Going, Over, going_stop, going_less, going_one, going_step}
 
 module _ (classes : ℕ → ℕ) (bytes : List ℕ) (kerning : Kerning) (glyphs : List ℕ) (used : ℕ) where
-  -- a place that is left
-  pub place-left : {along₀ along : List ℤ} {s : KerningState} {stays : Bool} (i : ℕ) → Going classes bytes kerning glyphs used along₀ along s (place_of stays i)
-      → stays ≡ false → Going classes bytes kerning glyphs used along₀ along s (i + 1)
-  place-left {along₀} {along} {s} i g t = subst (λ (b : Bool). Going classes bytes kerning glyphs used along₀ along s (place_of b i)) t g
+  -- what the steps at a place have come to: the next one is here, or at the place behind
+  pub record Stepping (along₀ along : List ℤ) (s : KerningState) (i advance : ℕ) : Type 0 where
+    pub going : Going classes bytes kerning glyphs used along₀ along s (i + advance)
+    pub one : advance ≤ 1
 
-  -- a step that stays or comes to place i
-  module _ {along₀ along : List ℤ} {s : KerningState} {stays : Bool} {class : ℕ} (i : ℕ) (g : Going classes bytes kerning glyphs used along₀ along s (place_of stays i))
-      (t : stays ≡ true) (h : i < used) (k : class ≡ classes (get_or glyphs i 0)) where
-    pub here : Going classes bytes kerning glyphs used along₀ along s i
-    here = subst (λ (b : Bool). Going classes bytes kerning glyphs used along₀ along s (place_of b i)) t g
+  pub place-begins : {along₀ along : List ℤ} {s : KerningState} (i : ℕ) → Going classes bytes kerning glyphs used along₀ along s i → Stepping along₀ along s i 0
+  place-begins {along₀} {along} {s} i g =
+      let e : i ≡ i + 0 = omega arith in
+      record { going = subst (λ (p : ℕ). Going classes bytes kerning glyphs used along₀ along s p) e g; one = omega arith }
 
-    pub place-ended : entry_of bytes kerning.states s.state class (payload_of kerning.reading) ≡ Entered'.Ended
-        → Over classes bytes kerning glyphs used along₀ Answer'.Ended along
-    place-ended e =
-        let n = next-ended classes bytes kerning s used i (get_or glyphs i 0) along k refl refl e refl in
-        going_stop classes bytes kerning glyphs used here h n.steps n.leaves refl
+  pub place-left : {along₀ along : List ℤ} {s : KerningState} {advance : ℕ} (i : ℕ) → Stepping along₀ along s i advance → (advance ≡ 0 → ⊥)
+      → Going classes bytes kerning glyphs used along₀ along s (i + 1)
+  place-left {along₀} {along} {s} {advance} i p n =
+      let e : i + advance ≡ i + 1 = omega (arith, p.one, n) in
+      subst (λ (q : ℕ). Going classes bytes kerning glyphs used along₀ along s q) e p.going
 
-    module _ {entry : Entry} {orders : Orders} (walked : Walked) (stack' : List ℕ) {along' : List ℤ}
-        (e : entry_of bytes kerning.states s.state class (payload_of kerning.reading) ≡ Entered'.At entry) (o : orders ≡ orders_of bytes kerning.reading entry)
-        (a : (state cycles : ℕ) → behind orders (standing state stack' walked.depth cycles) walked
-        ≡ (acted bytes kerning.reading (standing state s.stack s.depth cycles) orders used i).step)
-        (b : (state cycles : ℕ) → along' ≡ add_all (acted bytes kerning.reading (standing state s.stack s.depth cycles) orders used i).additions along) where
-      pub place-over : walked.ended ≡ true → Over classes bytes kerning glyphs used along₀ Answer'.Ended along'
-      place-over f =
-          let n = next-acts classes bytes kerning s used i (get_or glyphs i 0) along k refl refl e o
-          (behind-ended orders entry.state stack' s.cycles walked f refl ∙ a entry.state s.cycles) (b entry.state s.cycles) in
-          going_stop classes bytes kerning glyphs used here h n.steps n.leaves refl
+  -- a step here
+  module _ {along₀ along : List ℤ} {s : KerningState} {advance : ℕ} (i : ℕ) (p : Stepping along₀ along s i advance) (t : advance ≡ 0) (h : i < used) where
+    here : Going classes bytes kerning glyphs used along₀ along s i
+    here =
+        let e : i + advance ≡ i = omega arith in
+        subst (λ (q : ℕ). Going classes bytes kerning glyphs used along₀ along s q) e p.going
 
-      module _ {stalled' : Stalled} {depth' : ℕ} (f : walked.ended ≡ false) (r : stalled' ≡ stalled s.cycles orders.stays)
-          (d : depth' ≡ cond orders.resets 0 walked.depth) where
-        after : KerningState
-        after = standing entry.state stack' depth' stalled'.cycles
+    module _ {along' : List ℤ} {s' : KerningState} where
+      pub place-over : Does (next classes bytes kerning s used i (get_or glyphs i 0)) along (stopped s' Answer'.Ended) along'
+          → Over classes bytes kerning glyphs used along₀ Answer'.Ended along'
+      place-over d = going_stop classes bytes kerning glyphs used here h d.steps d.leaves refl
 
-        step : KerningStep
-        step = record { answer = Answer'.Done; state = after; advance = stalled'.advance }
-
-        stepped : step ≡ settled (standing entry.state stack' walked.depth s.cycles) orders.resets orders.stays
-        unfolding step after settled
-        stepped = rw (r, d)
-
-        does : Does (next classes bytes kerning s used i (get_or glyphs i 0)) along step along'
-        does =
-            next-acts classes bytes kerning s used i (get_or glyphs i 0) along k refl refl e o
-            (behind-settled orders entry.state stack' s.cycles walked f stepped ∙ a entry.state s.cycles) (b entry.state s.cycles)
-
-        next_place : i + stalled'.advance ≡ place_of (eqb stalled'.advance 0) i
-        next_place = subst⁻¹ (λ (x : Stalled). i + x.advance ≡ place_of (eqb x.advance 0) i) r (stall_place s.cycles orders.stays i)
-
-        pub place-goes : Going classes bytes kerning glyphs used along₀ along' (standing entry.state stack' depth' stalled'.cycles) (place_of (eqb stalled'.advance 0) i)
-        unfolding step after
+      module _ {far : ℕ}
+          (d : Does (next classes bytes kerning s used i (get_or glyphs i 0)) along (record { answer = Answer'.Done; state = s'; advance = far }) along') where
+        pub place-goes : Stepping along₀ along' s' i far
         place-goes =
-            subst (λ (p : ℕ). Going classes bytes kerning glyphs used along₀ along' after p) next_place
-            (going_step classes bytes kerning glyphs used here h does.steps does.leaves refl)
+            record {
+              going = going_step classes bytes kerning glyphs used here h d.steps d.leaves refl;
+              one = going_one classes bytes kerning glyphs used here h d.steps d.leaves refl;
+            }
 
-        pub place_falls : rest used (standing entry.state stack' depth' stalled'.cycles) (place_of (eqb stalled'.advance 0) i) < rest used s (place_of stays i)
-        unfolding step after
+        pub place_falls : rest used s' (i + far) < rest used s (i + advance)
         place_falls =
-            subst⁻¹ (λ (x : Bool). rest used after (place_of (eqb stalled'.advance 0) i) < rest used s (place_of x i)) t
-            (subst (λ (p : ℕ). rest used after p < rest used s i) next_place
-            (going_less classes bytes kerning glyphs used here h does.steps does.leaves refl))
+            let e : i + advance ≡ i = omega arith in
+            subst⁻¹ (λ (q : ℕ). rest used s' (i + far) < rest used s q) e (going_less classes bytes kerning glyphs used here h d.steps d.leaves refl)
 
   -- a loop that keeps a state by its row
-  pub record Rowed (along₀ along : List ℤ) (row : ℕ) (stack : List ℕ) (depth cycles i : ℕ) : Type 0 where
+  pub record Rowed (along₀ along : List ℤ) (row : ℕ) (stack : List ℕ) (depth cycles i advance : ℕ) : Type 0 where
     pub state : ℕ
     pub at : row ≡ state * kerning.states.classes
-    pub going : Going classes bytes kerning glyphs used along₀ along (standing state stack depth cycles) i
+    pub stepping : Stepping along₀ along (standing state stack depth cycles) i advance

@@ -138,6 +138,13 @@ module _ (classes : ℕ → ℕ) (bytes : List ℕ) (kerning : Kerning) (glyphs 
           subst⁻¹ (λ (x : KerningStep). rest used x.state (i + x.advance) < rest used s i) e
           (omega (arith, (falls d').less, (sound.stalls d').0, (sound.stalls d').1))
 
+      pub going_one : is_done step.answer ≡ true → step.advance ≤ 1
+      unfolding here
+      going_one d =
+          let d' : is_done here.step.answer ≡ true = subst (λ (x : KerningStep). is_done x.answer ≡ true) e d in
+          subst⁻¹ (λ (x : KerningStep). x.advance ≤ 1) e
+          (omega (arith, (stall_falls s.cycles 1 0 sound.stays g.cycles (omega arith)).within, (sound.stalls d').1))
+
       pub going_step : is_done step.answer ≡ true → Going along₀ along' step.state (i + step.advance)
       unfolding here
       going_step d =

@@ -13,9 +13,9 @@ use Rattle.parse.specs.Reads.{u16_at}
 use Rattle.state_tables.specs.declared.entries.Entry.{Entry}
 use Rattle.kerning_machine.specs.declared.Start.{Start}
 use Rattle.kerning_machine.specs.declared.Start.TheVariants as Start'
-use Rattle.kerning_machine.specs.declared.Reading.TheVariants.{Kern, Kerx, Manual}
+use Rattle.kerning_machine.specs.declared.Reading.TheVariants.{Kern, Kerx}
 use Rattle.kerning_machine.specs.declared.Orders.{Orders}
-use Rattle.kerning_machine.specs.Machine.{tuple_size, kerx_start, manual_start, kern_orders, indexed_orders, kerx_orders, orders_of, is_full}
+use Rattle.kerning_machine.specs.Machine.{tuple_size, kerx_start, kern_orders, indexed_orders, kerx_orders, orders_of, is_full}
 
 -- a product is a 64-bit number exactly when the quotient says so
 product_past : (size number : ℕ) → 2 ≤ size → 0xFFFFFFFFFFFFFFFF / size < number → 2 ^ 64 ≤ number * size
@@ -63,15 +63,10 @@ module _ (bytes : List ℕ) (entry : Entry) where
   unfolding orders_of
   kern_says crossed o e = o ∙ ap kern_orders e
 
-  pub kerx_says : (values tuples : ℕ) {index : ℕ} {orders : Orders} → orders ≡ kerx_orders values tuples entry.flags index → index ≡ u16_at bytes entry.payload
-      → orders ≡ orders_of bytes (Kerx values tuples) entry
-  unfolding orders_of
-  kerx_says values tuples o e = o ∙ ap (kerx_orders values tuples entry.flags) e
-
-  pub manual_says : (values : ℕ) {index : ℕ} {start : Start} {orders : Orders} → orders ≡ indexed_orders entry.flags start → start ≡ manual_start values index
-      → index ≡ u16_at bytes entry.payload → orders ≡ orders_of bytes (Manual values) entry
-  unfolding orders_of
-  manual_says values o s e = o ∙ ap (indexed_orders entry.flags) (s ∙ ap (manual_start values) e)
+  pub kerx_says : (values tuples : ℕ) {index : ℕ} {start : Start} {orders : Orders} → orders ≡ indexed_orders entry.flags start
+      → start ≡ kerx_start values tuples index → index ≡ u16_at bytes entry.payload → orders ≡ orders_of bytes (Kerx values tuples) entry
+  unfolding orders_of kerx_orders
+  kerx_says values tuples o s e = o ∙ ap (indexed_orders entry.flags) (s ∙ ap (kerx_start values tuples) e)
 
 -- kern has no reset
 pub kern_keeps : (flags depth : ℕ) {orders : Orders} → orders ≡ kern_orders flags → depth ≡ cond orders.resets 0 depth

@@ -1,4 +1,6 @@
 -- What every step keeps: the stack's depth, few and small additions, the stall rule; and so what a pass adds is bounded.
+use Rattle.std.specs.Prelude.{Option, Some, None, Result, Ok, Err}
+use Rattle.state_tables.specs.declared.entries.Entry.{Entry}
 use Prim.Native.Nat.{ℕ, zero, suc, ◌+◌, ◌*◌, ◌≤◌, ◌^◌}
 use mathlib.Core.Path.{◌≡◌, refl, sym, subst⁻¹}
 use mathlib.Core.Bool.{Bool, true, false, cond}
@@ -10,14 +12,14 @@ use lib.ListN.{length, get_or, length-append}
 use Rattle.answers.specs.Limits.{room_limit}
 use Rattle.answers.specs.declared.Answer.TheVariants as Answer'
 use Rattle.line.proofs.Room.{room_small}
-use Rattle.state_tables.specs.declared.entries.Entered.{Entered}
-use Rattle.state_tables.specs.declared.entries.Entered.TheVariants as Entered'
 use Rattle.state_tables.specs.Entries.{entry_of}
 use Rattle.machine.specs.Stall.{stalled}
 use Rattle.machine.specs.Pass.{is_done}
 use Rattle.kerning.specs.Additions.{add_all, Kerned, after}
 use Rattle.kerning.specs.Bounds.{Within}
 use Rattle.kerning.specs.Lists.{Walk}
+use Rattle.kerning.specs.declared.heads.Unready.{Unready}
+use Rattle.kerning.specs.declared.heads.Unready.TheVariants.{Short, Tupled}
 use Rattle.kerning.proofs.Adding.{Small, small-none, small-append, within_more, within-add_all}
 use Rattle.kerning.proofs.Walking.{Bounded, walk_bounded}
 use Rattle.kerning_machine.specs.declared.Reading.{Reading}
@@ -25,8 +27,6 @@ use Rattle.kerning_machine.specs.declared.Start.{Start}
 use Rattle.kerning_machine.specs.declared.Start.TheVariants as Start'
 use Rattle.kerning_machine.specs.declared.Orders.{Orders}
 use Rattle.kerning_machine.specs.declared.Kerning.{Kerning}
-use Rattle.kerning_machine.specs.declared.Opened.{Opened}
-use Rattle.kerning_machine.specs.declared.Opened.TheVariants as Opened'
 use Rattle.kerning_machine.specs.declared.KerningState.{KerningState}
 use Rattle.kerning_machine.specs.Machine.{fresh, rule_of, stride_of, is_full, stacked, settled, walked_from, Stepped, behind, listed, entered, acted, payload_of, orders_of, next, step_at, pass_from, rest, passed_by, passed, own_classes, worked_by}
 use Rattle.kerning_machine.proofs.Acting.{stacked-deep}
@@ -48,7 +48,7 @@ followed_bounded bytes reading Start'.Nowhere stack depth used = record { small 
 followed_bounded bytes reading (Start'.At place) stack depth used = walk_bounded bytes (rule_of reading) (stride_of reading) stack used depth place
 
 never : {A : Type 0} → false ≡ true → A
-never e = let z : ◌≡◌ {A = ℕ} 0 1 = cc in absurd (omega arith)
+never e = absurd (cc)
 
 kept-deep : (resets : Bool) (depth : ℕ) → depth ≤ 8 → cond resets 0 depth ≤ 8
 kept-deep true depth h = omega arith
@@ -103,10 +103,10 @@ unfolding next
 next-sound classes bytes kerning s used index glyph h =
     go (entry_of bytes kerning.states s.state (classes glyph) (payload_of kerning.reading)) refl
   where
-    go : (e : Entered) → entry_of bytes kerning.states s.state (classes glyph) (payload_of kerning.reading) ≡ e
+    go : (e : Option Entry) → entry_of bytes kerning.states s.state (classes glyph) (payload_of kerning.reading) ≡ e
         → Sound s.cycles (next classes bytes kerning s used index glyph)
-    go (Entered'.At entry) f = rw (f, next) (acted-sound bytes kerning.reading (entered s entry.state) (orders_of bytes kerning.reading entry) used index h)
-    go Entered'.Ended f = rw (f, next) (record { deep = h; small = small-none; few = omega arith; stays = false; stalls = λ d. never d })
+    go (Some entry) f = rw (f, next) (acted-sound bytes kerning.reading (entered s entry.state) (orders_of bytes kerning.reading entry) used index h)
+    go None f = rw (f, next) (record { deep = h; small = small-none; few = omega arith; stays = false; stalls = λ d. never d })
 
 -- a pass of so many steps adds at most eight numbers in each
 pub record Modest (turns : ℕ) (r : Kerned) : Type 0 where
@@ -152,9 +152,9 @@ unfolding passed passed_by
 passed-within bytes kerning glyphs used along h w =
     modest-within along (pass-modest (own_classes bytes kerning) bytes kerning glyphs used (rest used fresh 0) fresh 0 (omega arith)) (omega arith) h w
 
-pub worked-within : (bytes : List ℕ) (opened : Opened) (glyphs : List ℕ) (used : ℕ) {b : ℕ} (along : List ℤ) → used ≤ room_limit → Within b along
+pub worked-within : (bytes : List ℕ) (opened : Result Kerning Unready) (glyphs : List ℕ) (used : ℕ) {b : ℕ} (along : List ℤ) → used ≤ room_limit → Within b along
     → Within (b + 2 ^ 39) (add_all (worked_by bytes opened glyphs used).additions along)
 unfolding worked_by add_all
-worked-within bytes (Opened'.Ready kerning) glyphs used along h w = passed-within bytes kerning glyphs used along h w
-worked-within bytes Opened'.Short glyphs used along h w = within_more (omega arith) w
-worked-within bytes Opened'.Tupled glyphs used along h w = within_more (omega arith) w
+worked-within bytes (Ok kerning) glyphs used along h w = passed-within bytes kerning glyphs used along h w
+worked-within bytes (Err Short) glyphs used along h w = within_more (omega arith) w
+worked-within bytes (Err Tupled) glyphs used along h w = within_more (omega arith) w

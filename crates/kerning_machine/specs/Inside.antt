@@ -1,10 +1,9 @@
 -- What it is that a step of the machine, and a pass, have no read that fails.
-use Rattle.std.specs.Prelude.{ℕ, ◌+◌, ◌<◌, ◌≡◌, false, List, get_or}
+use Rattle.std.specs.Prelude.{ℕ, ◌+◌, ◌<◌, ◌≡◌, false, List, get_or, Some}
 use Rattle.answers.specs.declared.Answer.TheVariants as Answer'
 use Rattle.state_tables.specs.Inside.{ClassInside}
 use Rattle.state_tables.specs.Entries.{entry_of}
 use Rattle.state_tables.specs.declared.entries.Entry.{Entry}
-use Rattle.state_tables.specs.declared.entries.Entered.TheVariants.{At}
 use Rattle.kerning.specs.Lists.{walk}
 use Rattle.kerning_machine.specs.Machine.{fresh, payload_of, rule_of, stride_of, orders_of, is_full, stacked, entered, step_at, own_classes}
 use Rattle.kerning_machine.specs.declared.Start.TheVariants as Start'
@@ -25,7 +24,7 @@ module _ (bytes : List ℕ) (kerning : Kerning) (used : ℕ) where
   pub record StepInside (s : KerningState) (index glyph : ℕ) : Type 0 where
     pub class : ClassInside bytes kerning.states glyph
     pub entry : Entry
-    pub there : entry_of bytes kerning.states s.state (own_classes bytes kerning glyph) (payload_of kerning.reading) ≡ At entry
+    pub there : entry_of bytes kerning.states s.state (own_classes bytes kerning glyph) (payload_of kerning.reading) ≡ Some entry
     pub list : ListInside (entered s entry.state) (orders_of bytes kerning.reading entry) index
 
 module _ (bytes : List ℕ) (kerning : Kerning) (glyphs : List ℕ) (used : ℕ) where

@@ -1,5 +1,6 @@
 -- The machine of format 1, as the crate's two `next`, and its pass.
-use Rattle.std.specs.Prelude.{ℕ, zero, suc, ◌+◌, ◌*◌, ◌-◌, ◌%◌, ◌^◌, Bool, true, false, cond, not, List, [], ◌∷◌, ltb, leb, eqb, ℤ, length, get_or, set}
+use Rattle.answers.specs.declared.Refusal.{Refusal}
+use Rattle.std.specs.Prelude.{ℕ, zero, suc, ◌+◌, ◌*◌, ◌-◌, ◌%◌, ◌^◌, Bool, true, false, cond, not, List, [], ◌∷◌, ltb, leb, eqb, ℤ, length, get_or, set, Result, Ok, Err}
 use Rattle.laws.specs.Choose.{if_lt, if_eq}
 use Rattle.laws.specs.Lists.{both, every}
 use Rattle.parse.specs.Reads.{u16_at}
@@ -8,8 +9,6 @@ use Rattle.answers.specs.Refuse.{Test, refuse, table_test}
 use Rattle.answers.specs.declared.Answer.{Answer}
 use Rattle.answers.specs.declared.Answer.TheVariants as Answer'
 use Rattle.answers.specs.declared.Refusal.TheVariants as Refusal'
-use Rattle.answers.specs.declared.Check.{Check}
-use Rattle.answers.specs.declared.Check.TheVariants as Check'
 use Rattle.state_tables.specs.declared.entries.Entry.{Entry}
 use Rattle.state_tables.specs.Classes.{class_of}
 use Rattle.indexes.specs.Index.{classes_by}
@@ -18,8 +17,11 @@ use Rattle.laws.specs.Bits.{is_set}
 use Rattle.machine.specs.Stall.{stalled}
 use Rattle.machine.specs.Pass.{is_done}
 use Rattle.kerning.specs.Additions.{Addition, Kerned, after, nothing_added}
+use Rattle.kerning.specs.Heads.{is_short, is_tupled}
 use Rattle.kerning.specs.Line.{is_modest}
 use Rattle.kerning.specs.Lists.{Walk, leaves, walk}
+use Rattle.kerning.specs.declared.heads.Unready.{Unready}
+use Rattle.kerning.specs.declared.heads.Unready.TheVariants.{Short, Tupled}
 use Rattle.kerning.specs.declared.lists.Walked.{Walked}
 use Rattle.kerning.specs.declared.lists.Rule.{Rule}
 use Rattle.kerning.specs.declared.lists.Rule.TheVariants.{Odd, Never, Marked}
@@ -29,8 +31,6 @@ use Rattle.kerning_machine.specs.declared.Start.{Start}
 use Rattle.kerning_machine.specs.declared.Start.TheVariants as Start'
 use Rattle.kerning_machine.specs.declared.Orders.{Orders}
 use Rattle.kerning_machine.specs.declared.Kerning.{Kerning}
-use Rattle.kerning_machine.specs.declared.Opened.{Opened}
-use Rattle.kerning_machine.specs.declared.Opened.TheVariants as Opened'
 use Rattle.kerning_machine.specs.declared.KerningState.{KerningState}
 use Rattle.kerning_machine.specs.declared.KerningStep.{KerningStep}
 
@@ -201,34 +201,17 @@ passed_indexed index bytes kerning glyphs used = passed_by (classes_by index (ow
 unfoldable pub passed : List ℕ → Kerning → (glyphs : List ℕ) → (used : ℕ) → Kerned
 passed bytes kerning glyphs used = passed_by (own_classes bytes kerning) bytes kerning glyphs used
 
-abbrev pub is_short : Opened → Bool
-is_short (Opened'.Ready kerning) = false
-is_short Opened'.Short = true
-is_short Opened'.Tupled = false
-
-abbrev pub is_tupled : Opened → Bool
-is_tupled (Opened'.Ready kerning) = false
-is_tupled Opened'.Short = false
-is_tupled Opened'.Tupled = true
-
--- what a head gives, where a subtable with tuples is refused or not
-unfoldable pub barred : (tupled : Bool) → Opened → Opened
-barred false opened = opened
-barred true (Opened'.Ready kerning) = Opened'.Tupled
-barred true Opened'.Short = Opened'.Short
-barred true Opened'.Tupled = Opened'.Tupled
-
 -- the pass by what a head gives, over the bytes from the state table on
-unfoldable pub worked_by : List ℕ → Opened → (glyphs : List ℕ) → (used : ℕ) → Kerned
-worked_by bytes (Opened'.Ready kerning) glyphs used = passed bytes kerning glyphs used
-worked_by bytes Opened'.Short glyphs used = nothing_added (Answer'.Refused Refusal'.Head)
-worked_by bytes Opened'.Tupled glyphs used = nothing_added (Answer'.Refused Refusal'.Tuples)
+unfoldable pub worked_by : List ℕ → Result Kerning Unready → (glyphs : List ℕ) → (used : ℕ) → Kerned
+worked_by bytes (Ok kerning) glyphs used = passed bytes kerning glyphs used
+worked_by bytes (Err Short) glyphs used = nothing_added (Answer'.Refused Refusal'.Head)
+worked_by bytes (Err Tupled) glyphs used = nothing_added (Answer'.Refused Refusal'.Tuples)
 
 -- the same by the classes of an index
-unfoldable pub worked_indexed : (index : List ℕ) → List ℕ → Opened → (glyphs : List ℕ) → (used : ℕ) → Kerned
-worked_indexed index bytes (Opened'.Ready kerning) glyphs used = passed_indexed index bytes kerning glyphs used
-worked_indexed index bytes Opened'.Short glyphs used = nothing_added (Answer'.Refused Refusal'.Head)
-worked_indexed index bytes Opened'.Tupled glyphs used = nothing_added (Answer'.Refused Refusal'.Tuples)
+unfoldable pub worked_indexed : (index : List ℕ) → List ℕ → Result Kerning Unready → (glyphs : List ℕ) → (used : ℕ) → Kerned
+worked_indexed index bytes (Ok kerning) glyphs used = passed_indexed index bytes kerning glyphs used
+worked_indexed index bytes (Err Short) glyphs used = nothing_added (Answer'.Refused Refusal'.Head)
+worked_indexed index bytes (Err Tupled) glyphs used = nothing_added (Answer'.Refused Refusal'.Tuples)
 
 -- every used slot's place is within the line or just behind it
 unfoldable pub are_within : (stack : List ℕ) → (depth used : ℕ) → Bool
@@ -258,17 +241,17 @@ step_tests table_length used index s along headless tupled = table_test table_le
 abbrev pub refused_step : KerningState → Answer → Stepped
 refused_step s answer = record { step = stopped s answer; additions = [] }
 
-abbrev pub stepped_by : Check → KerningState → Stepped → Stepped
-stepped_by Check'.Passed s work = work
-stepped_by (Check'.Refused why) s work = refused_step s (Answer'.Refused why)
+abbrev pub stepped_by : Result Unit Refusal → KerningState → Stepped → Stepped
+stepped_by (Ok tt) s work = work
+stepped_by (Err why) s work = refused_step s (Answer'.Refused why)
 
-abbrev pub on_opened : Opened → KerningState → (Kerning → Stepped) → Stepped
-on_opened (Opened'.Ready kerning) s work = work kerning
-on_opened Opened'.Short s work = refused_step s (Answer'.Refused Refusal'.Head)
-on_opened Opened'.Tupled s work = refused_step s (Answer'.Refused Refusal'.Tuples)
+abbrev pub on_opened : Result Kerning Unready → KerningState → (Kerning → Stepped) → Stepped
+on_opened (Ok kerning) s work = work kerning
+on_opened (Err Short) s work = refused_step s (Answer'.Refused Refusal'.Head)
+on_opened (Err Tupled) s work = refused_step s (Answer'.Refused Refusal'.Tuples)
 
 -- a lone step
-unfoldable pub step_call : (table_length : ℕ) → List ℕ → Opened → KerningState → (used index glyph : ℕ) → List ℤ → Stepped
+unfoldable pub step_call : (table_length : ℕ) → List ℕ → Result Kerning Unready → KerningState → (used index glyph : ℕ) → List ℤ → Stepped
 step_call table_length bytes opened s used index glyph along =
     stepped_by (refuse (step_tests table_length used index s along (is_short opened) (is_tupled opened))) s
     (on_opened opened s (λ kerning. next (own_classes bytes kerning) bytes kerning s used index glyph))

@@ -1,26 +1,24 @@
 // The machine of format 1: kern's over the classic state table, kerx's over the extended one.
 #![tactic(auto)]
 
-ghost use Rattle.std.specs.Prelude.{◌≡◌, true, false, cond, List, ℕ, ◌+◌, ◌-◌, ◌<◌, ◌≤◌, ◌^◌, length};
-ghost use Rattle.answers.specs.Limits.{room_limit};
+ghost use Rattle.std.specs.Prelude.{◌≡◌, true, false, cond, ℕ, ◌+◌, ◌-◌, ◌≤◌, ◌^◌, length};
 ghost use Rattle.answers.specs.Refuse.{refuse};
-ghost use Rattle.answers.specs.declared.Answer.TheVariants.{Ended};
-ghost use Rattle.state_tables.specs.Opened.{byte_class_in, class_by, LiesIn, Remembers};
-ghost use Rattle.state_tables.specs.Classes.{class_of};
+ghost use Rattle.state_tables.specs.Opened.{byte_class_in, class_by, LiesIn};
 ghost use Rattle.indexes.specs.Index.{classes_by};
 ghost use Rattle.state_tables.specs.Rows.{is_classic};
 ghost use Rattle.kerning.specs.Additions.{add_all};
-ghost use Rattle.kerning.specs.Bounds.{Within};
+ghost use Rattle.kerning.specs.Heads.{is_short, is_tupled};
 ghost use Rattle.kerning_machine.specs.Machine.{fresh, payload_of, rule_of, tuple_size, stride_of, kern_start, kerx_start, manual_start, kern_orders};
-ghost use Rattle.kerning_machine.specs.Machine.{indexed_orders, kerx_orders, orders_of, is_full, stacked, stopped, settled, walked_from, behind, acted, next};
-ghost use Rattle.kerning_machine.specs.Machine.{passed_by, passed_indexed, own_classes, is_roomy, is_short, are_within, step_tests, step_call, is_tupled, barred};
+ghost use Rattle.kerning_machine.specs.Machine.{indexed_orders, orders_of, is_full, stacked, stopped, walked_from, behind, acted, next};
+ghost use Rattle.kerning_machine.specs.Machine.{passed_by, passed_indexed, own_classes, is_roomy, are_within, step_tests, step_call};
 ghost use Rattle.kerning_machine.specs.Machine.{worked_by, worked_indexed};
-ghost use Rattle.kerning_machine.specs.Work.{standing, step_of, kern_of, kerx_of};
+ghost use Rattle.kerning_machine.specs.Work.{CanStep, CanPass, ListsBy, standing, step_of, readied, kern_of};
 
-use answers::{Answer, Check, Refusal};
+use answers::{Answer, Refusal};
+use kerning::heads::Unready;
 use kerning::lists;
-use kerning::lists::{Rule, Walked};
-use state_tables::entries::{Entered, Entry, Reached};
+use kerning::lists::{EndRule, Never, Odd, Rule, Walked};
+use state_tables::entries::{Entry, Reached};
 use state_tables::opened::Classes;
 use state_tables::{States, classes, entries, opened};
 
@@ -38,14 +36,6 @@ pub enum Reading {
 pub struct Kerning {
     pub states: States,
     pub reading: Reading,
-}
-
-// What a head gives: a machine; none, where it can't be read; or one with tuples, where these are refused.
-#[derive(Clone, Copy)]
-pub enum Opened {
-    Ready(Kerning),
-    Short,
-    Tupled,
 }
 
 // Where an entry's list begins: there is none, at a place, or at one that no 64-bit number tells.
@@ -67,6 +57,7 @@ pub struct Orders {
 }
 
 // The state of a pass: the state table's state, the stack of places, and how many steps in a row did not advance.
+// kept: C lends a state as eleven numbers (aat_kern_step), of which the depth may be out of bounds; so it stands beside the stack.
 #[derive(Clone, Copy)]
 pub struct KerningState {
     pub state: u16,
@@ -83,28 +74,18 @@ pub struct KerningStep {
     pub advance: usize,
 }
 
-// What a step on a lent stack came to: its answer, the new state but for the slots, and the advance.
-#[derive(Clone, Copy)]
-struct Moved {
-    answer: Answer,
-    state: u16,
-    depth: usize,
-    cycles: u16,
-    advance: usize,
-}
-
 // How many bytes of payload an entry has.
 fn payload_of(reading: Reading) -> u16
     ensures { result ≡ payload_of reading }
 {
     match reading {
         Reading::Kern { .. } => 0,
-        Reading::Kerx { .. } => 2,
-        Reading::Manual { .. } => 2,
+        Reading::Kerx { .. } | Reading::Manual { .. } => 2,
     }
 }
 
 // The bytes of a tuple; no tuples count as one.
+#[tactic(auto, unfolding(crate::specs::Machine::tuple_size))]
 fn size_of(tuples: u32) -> usize
     ensures { (result ≡ tuple_size tuples) × (2 ≤ result) × (result ≤ 2 ^ 33) }
 {
@@ -130,13 +111,13 @@ fn stride_of(reading: Reading) -> usize
     ensures { (result ≡ stride_of reading) × (result ≤ 2 ^ 33) }
 {
     match reading {
-        Reading::Kern { .. } => 2,
+        Reading::Kern { .. } | Reading::Manual { .. } => 2,
         Reading::Kerx { tuples, .. } => size_of(tuples),
-        Reading::Manual { .. } => 2,
     }
 }
 
 // Where a list of kern's begins.
+#[tactic(auto, unfolding(crate::specs::Machine::kern_start))]
 fn kern_start(flags: u16) -> Start
     ensures { result ≡ kern_start flags }
 {
@@ -163,6 +144,7 @@ fn kerx_start(values: u32, tuples: u32, index: u16) -> Start
 }
 
 // Where a list of kerx's begins in the manual's reading.
+#[tactic(auto, unfolding(crate::specs::Machine::manual_start))]
 fn manual_start(values: u32, index: u16) -> Start
     ensures { result ≡ manual_start values index }
 {
@@ -173,6 +155,7 @@ fn manual_start(values: u32, index: u16) -> Start
 }
 
 // What the flags of an entry of kern's say.
+#[tactic(auto, unfolding(crate::specs::Machine::kern_orders))]
 fn kern_orders(flags: u16) -> Orders
     ensures { result ≡ kern_orders flags }
 {
@@ -186,6 +169,7 @@ fn kern_orders(flags: u16) -> Orders
 }
 
 // What the flags of an entry of kerx's say, whose list begins there.
+#[tactic(auto, unfolding(crate::specs::Machine::indexed_orders))]
 fn indexed_orders(flags: u16, start: Start) -> Orders
     ensures { result ≡ indexed_orders flags start }
 {
@@ -198,14 +182,8 @@ fn indexed_orders(flags: u16, start: Start) -> Orders
     }
 }
 
-// What the flags of an entry of kerx's and its index say.
-fn kerx_orders(values: u32, tuples: u32, flags: u16, index: u16) -> Orders
-    ensures { result ≡ kerx_orders values tuples flags index }
-{
-    indexed_orders(flags, kerx_start(values, tuples, index))
-}
-
 // What an entry says.
+#[tactic(auto, unfolding(crate::specs::Machine::orders_of, crate::specs::Machine::kerx_orders))]
 fn orders_of(bytes: &[u8], reading: Reading, entry: Entry) -> Orders
     requires { entry.payload + payload_of reading ≤ length bytes.now }
     ensures { result ≡ orders_of bytes.now reading entry }
@@ -214,7 +192,7 @@ fn orders_of(bytes: &[u8], reading: Reading, entry: Entry) -> Orders
         Reading::Kern { .. } => kern_orders(entry.flags),
         Reading::Kerx { values, tuples } => {
             let index = entries::one_number(bytes, entry.payload);
-            kerx_orders(values, tuples, entry.flags, index)
+            indexed_orders(entry.flags, kerx_start(values, tuples, index))
         }
         Reading::Manual { values } => {
             let index = entries::one_number(bytes, entry.payload);
@@ -223,43 +201,31 @@ fn orders_of(bytes: &[u8], reading: Reading, entry: Entry) -> Orders
     }
 }
 
-// The list of an entry, over a stack of so many places.
-fn follow(
+// The list of an entry, by the rule and the stride of its reading, over a stack of so many places.
+#[tactic(auto, unfolding(crate::specs::Machine::walked_from, kerning::specs::Additions::add_all))]
+fn follow<R: EndRule>(
     bytes: &[u8],
-    reading: Reading,
+    rule: R,
+    stride: usize,
     start: Start,
     stack: &[usize; KerningState::DEPTH],
     depth: usize,
     used: usize,
     along: &mut [i64],
 ) -> Walked
-    requires { (depth ≤ 8) × (used ≤ length along.old) × Within (2 ^ 61) along.old }
-    ensures left { result ≡ (walked_from bytes.now reading start stack.now depth used).left }
-    ensures along { along.new ≡ add_all (walked_from bytes.now reading start stack.now depth used).additions
-        along.old }
+    requires { (stride ≤ 2 ^ 40) × CanStep depth used along.old }
+    ensures left { (reading : Reading) → ListsBy reading (R.rule rule) stride → result ≡ (walked_from
+        bytes.now reading start stack.now depth used).left }
+    ensures along { (reading : Reading) → ListsBy reading (R.rule rule) stride → along.new ≡ add_all (walked_from
+        bytes.now reading start stack.now depth used).additions along.old }
 {
     match start {
-        Start::None => {
-            return Walked {
-                ended: false,
-                depth,
-            };
-        }
-        Start::Nowhere => {
-            return Walked { ended: true, depth };
-        }
-        Start::At(place) => {
-            return lists::walk(
-                bytes,
-                rule_of(reading),
-                stride_of(reading),
-                place,
-                stack,
-                depth,
-                used,
-                along,
-            );
-        }
+        Start::None => Walked {
+            ended: false,
+            depth,
+        },
+        Start::Nowhere => Walked { ended: true, depth },
+        Start::At(place) => lists::walk(bytes, rule, stride, place, stack, depth, used, along),
     }
 }
 
@@ -274,13 +240,11 @@ fn kept(emptied: bool, depth: usize) -> usize
 fn is_full(pushes: bool, depth: usize) -> bool
     ensures { result ≡ is_full pushes depth }
 {
-    if !pushes {
-        return false;
-    }
-    depth == KerningState::DEPTH
+    pushes && depth == KerningState::DEPTH
 }
 
 // Pushes the index, or empties the stack, or does neither. Returns the depth afterwards.
+#[tactic(auto, using(crate::proofs::Readings::room_left, crate::proofs::Acting::stacked_bare), unfolding(crate::specs::Machine::stacked))]
 fn push(
     stack: &mut [usize; KerningState::DEPTH],
     depth: usize,
@@ -300,37 +264,11 @@ fn push(
     depth + 1
 }
 
-// A step that ends here.
-fn ended(state: u16, depth: usize, cycles: u16) -> Moved
-    ensures { (stack : List ℕ) → step_of result stack ≡ stopped (standing state stack depth cycles) Ended }
-{
-    Moved {
-        answer: Answer::Ended,
-        state,
-        depth,
-        cycles,
-        advance: 0,
-    }
-}
-
-// Behind the list: the reset, then the stall rule.
-fn settle(state: u16, depth: usize, cycles: u16, resets: bool, stays: bool) -> Moved
-    ensures { (stack : List ℕ) → step_of result stack ≡ settled (standing state stack depth cycles) resets stays }
-{
-    let stalled = machine::stall(cycles, stays);
-    Moved {
-        answer: Answer::Done,
-        state,
-        depth: kept(resets, depth),
-        cycles: stalled.cycles,
-        advance: stalled.advance,
-    }
-}
-
 // What an entry does to a lent stack and to the adjustments: the push, of which the 9th ends the step, then the list.
-fn act(
+fn act<R: EndRule>(
     bytes: &[u8],
-    reading: Reading,
+    rule: R,
+    stride: usize,
     orders: Orders,
     stack: &mut [usize; KerningState::DEPTH],
     depth: usize,
@@ -338,219 +276,18 @@ fn act(
     index: usize,
     along: &mut [i64],
 ) -> Walked
-    requires { (depth ≤ 8) × (used ≤ length along.old) × Within (2 ^ 61) along.old }
-    ensures step { (state cycles : ℕ) → behind orders (standing state stack.new result.depth cycles) result ≡ (acted bytes.now reading
+    requires { (stride ≤ 2 ^ 40) × CanStep depth used along.old }
+    ensures step { (reading : Reading) → ListsBy reading (R.rule rule) stride → (state cycles : ℕ) → behind
+        orders (standing state stack.new result.depth cycles) result ≡ (acted bytes.now reading
         (standing state stack.old depth cycles) orders used index).step }
-    ensures along { (state cycles : ℕ) → along.new ≡ add_all
+    ensures along { (reading : Reading) → ListsBy reading (R.rule rule) stride → (state cycles : ℕ) → along.new ≡ add_all
         (acted bytes.now reading (standing state stack.old depth cycles) orders used index).additions along.old }
 {
     if is_full(orders.pushes, depth) {
         return Walked { ended: true, depth };
     }
     let deep = push(stack, depth, orders.pushes, orders.clears, index);
-    let start = orders.start;
-    follow(bytes, reading, start, stack, deep, used, along)
-}
-
-// The list of an entry of kern's.
-fn follow_kern(
-    bytes: &[u8],
-    crossed: bool,
-    start: Start,
-    stack: &[usize; KerningState::DEPTH],
-    depth: usize,
-    used: usize,
-    along: &mut [i64],
-) -> Walked
-    requires { (depth ≤ 8) × (used ≤ length along.old) × Within (2 ^ 61) along.old }
-    ensures left { result ≡ (walked_from bytes.now (Reading.Kern crossed) start stack.now depth used).left }
-    ensures along { along.new ≡ add_all (walked_from bytes.now (Reading.Kern crossed) start stack.now depth used).additions
-        along.old }
-{
-    match start {
-        Start::None => {
-            return Walked {
-                ended: false,
-                depth,
-            };
-        }
-        Start::Nowhere => {
-            return Walked { ended: true, depth };
-        }
-        Start::At(place) => {
-            return lists::walk_kern(bytes, crossed, place, stack, depth, used, along);
-        }
-    }
-}
-
-// What `act` does for an entry of kern's, with the list's walk in it.
-fn act_kern(
-    bytes: &[u8],
-    crossed: bool,
-    orders: Orders,
-    stack: &mut [usize; KerningState::DEPTH],
-    depth: usize,
-    used: usize,
-    index: usize,
-    along: &mut [i64],
-) -> Walked
-    requires { (depth ≤ 8) × (used ≤ length along.old) × Within (2 ^ 61) along.old }
-    ensures step { (state cycles : ℕ) → behind orders (standing state stack.new result.depth cycles) result ≡ (acted bytes.now
-        (Reading.Kern crossed) (standing state stack.old depth cycles) orders used index).step }
-    ensures along { (state cycles : ℕ) → along.new ≡ add_all
-        (acted bytes.now (Reading.Kern crossed) (standing state stack.old depth cycles) orders used index).additions
-        along.old }
-{
-    if is_full(orders.pushes, depth) {
-        return Walked { ended: true, depth };
-    }
-    let deep = push(stack, depth, orders.pushes, orders.clears, index);
-    let start = orders.start;
-    follow_kern(bytes, crossed, start, stack, deep, used, along)
-}
-
-// The list of an entry of kerx's; its lists are at the same place for any value table.
-fn follow_kerx(
-    bytes: &[u8],
-    tuples: u32,
-    start: Start,
-    stack: &[usize; KerningState::DEPTH],
-    depth: usize,
-    used: usize,
-    along: &mut [i64],
-) -> Walked
-    requires { (depth ≤ 8) × (used ≤ length along.old) × Within (2 ^ 61) along.old }
-    ensures left { (values : ℕ) → result ≡ (walked_from bytes.now (Reading.Kerx values tuples) start stack.now depth used).left }
-    ensures along { (values : ℕ) → along.new ≡ add_all (walked_from bytes.now (Reading.Kerx values tuples) start stack.now
-        depth used).additions along.old }
-{
-    match start {
-        Start::None => {
-            return Walked {
-                ended: false,
-                depth,
-            };
-        }
-        Start::Nowhere => {
-            return Walked { ended: true, depth };
-        }
-        Start::At(place) => {
-            return lists::walk_kerx(bytes, size_of(tuples), place, stack, depth, used, along);
-        }
-    }
-}
-
-// What `act` does for an entry of kerx's, with the list's walk in it.
-fn act_kerx(
-    bytes: &[u8],
-    tuples: u32,
-    orders: Orders,
-    stack: &mut [usize; KerningState::DEPTH],
-    depth: usize,
-    used: usize,
-    index: usize,
-    along: &mut [i64],
-) -> Walked
-    requires { (depth ≤ 8) × (used ≤ length along.old) × Within (2 ^ 61) along.old }
-    ensures step { (values state cycles : ℕ) → behind orders (standing state stack.new result.depth cycles) result ≡ (acted bytes.now
-        (Reading.Kerx values tuples) (standing state stack.old depth cycles) orders used index).step }
-    ensures along { (values state cycles : ℕ) → along.new ≡ add_all
-        (acted bytes.now (Reading.Kerx values tuples) (standing state stack.old depth cycles) orders used index).additions
-        along.old }
-{
-    if is_full(orders.pushes, depth) {
-        return Walked { ended: true, depth };
-    }
-    let depth = push(stack, depth, orders.pushes, orders.clears, index);
-    let start = orders.start;
-    follow_kerx(bytes, tuples, start, stack, depth, used, along)
-}
-
-// The class of a glyph, as a lone step finds it: by an index, where that reaches it.
-fn class_lone(bytes: &[u8], states: States, glyph: u16, lent: &[u16]) -> u16
-    ensures { result ≡ classes_by lent.now (class_of bytes.now states) glyph }
-{
-    if (glyph as usize) < lent.len() {
-        return lent[glyph as usize];
-    }
-    classes::class_of(bytes, states, glyph)
-}
-
-// The crate's `next`, over the bytes from the state table on, with the stack in a lent array.
-fn next(
-    bytes: &[u8],
-    kerning: Kerning,
-    state: u16,
-    stack: &mut [usize; KerningState::DEPTH],
-    depth: usize,
-    cycles: u16,
-    used: usize,
-    index: usize,
-    glyph: u16,
-    along: &mut [i64],
-    lent: &[u16],
-) -> Moved
-    requires { (depth ≤ 8) × (used ≤ length along.old) × Within (2 ^ 61) along.old }
-    ensures step { step_of result stack.new ≡ (next (classes_by lent.now (own_classes bytes.now kerning)) bytes.now
-        kerning (standing state stack.old depth cycles) used index glyph).step }
-    ensures along { along.new ≡ add_all (next (classes_by lent.now (own_classes bytes.now kerning)) bytes.now
-        kerning (standing state stack.old depth cycles) used index glyph).additions along.old }
-{
-    let states = kerning.states;
-    let reading = kerning.reading;
-    let class = class_lone(bytes, states, glyph, lent);
-    let Entered::At(entry) = entries::entry_of(bytes, states, state, class, payload_of(reading))
-    else {
-        return ended(state, depth, cycles);
-    };
-    let orders = orders_of(bytes, reading, entry);
-    let walked = act(bytes, reading, orders, stack, depth, used, index, along);
-    if walked.ended {
-        return ended(entry.state, walked.depth, cycles);
-    }
-    settle(
-        entry.state,
-        walked.depth,
-        cycles,
-        orders.resets,
-        orders.stays,
-    )
-}
-
-// Whether there is no machine.
-fn is_short(opened: Opened) -> bool
-    ensures { result ≡ is_short opened }
-{
-    match opened {
-        Opened::Ready(_) => false,
-        Opened::Short => true,
-        Opened::Tupled => false,
-    }
-}
-
-// Whether there is one whose tuples are refused.
-fn is_tupled(opened: Opened) -> bool
-    ensures { result ≡ is_tupled opened }
-{
-    match opened {
-        Opened::Ready(_) => false,
-        Opened::Short => false,
-        Opened::Tupled => true,
-    }
-}
-
-// What a head gives, where tuples are refused or not.
-pub fn barred(tupled: bool, opened: Opened) -> Opened
-    ensures { result ≡ barred tupled opened }
-{
-    if !tupled {
-        return opened;
-    }
-    match opened {
-        Opened::Ready(_) => Opened::Tupled,
-        Opened::Short => Opened::Short,
-        Opened::Tupled => Opened::Tupled,
-    }
+    follow(bytes, rule, stride, orders.start, stack, deep, used, along)
 }
 
 // Whether the places of the used slots are not above the length.
@@ -558,27 +295,15 @@ fn are_within(stack: [usize; KerningState::DEPTH], depth: usize, used: usize) ->
     requires { depth ≤ 8 }
     ensures { result ≡ are_within stack depth used }
 {
-    let mut left = depth;
-    while 0 < left {
-        left -= 1;
-        if used < stack[left] {
-            return false;
-        }
-    }
-    true
+    stack[..depth].iter().all(|place| *place <= used)
 }
 
 // Whether a step's adjustments are a room for a line of so many places, none of them beyond ±2^40.
+#[tactic(auto, unfolding(crate::specs::Machine::is_roomy))]
 fn is_roomy(along: &[i64], used: usize) -> bool
     ensures { result ≡ is_roomy along.now used }
 {
-    if answers::above_room(along.len()) {
-        return false;
-    }
-    if along.len() < used {
-        return false;
-    }
-    kerning::modest(along)
+    !answers::above_room(along.len()) && used <= along.len() && kerning::modest(along)
 }
 
 impl KerningState {
@@ -622,45 +347,90 @@ impl KerningState {
         }
     }
 
-    // The tests before a lone step: TABLE, LINE, PLACE, STATE, HEAD, TUPLES.
-    fn refuse(
+    // The machine of a lone step, behind the tests: TABLE, LINE, PLACE, STATE, HEAD, TUPLES.
+    #[tactic(auto, unfolding(crate::specs::Machine::step_tests, crate::specs::Machine::later_tests, answers::specs::Refuse::refuse, answers::specs::Refuse::table_test, crate::specs::Work::readied))]
+    fn ready(
         self,
         table_length: usize,
         used: usize,
         index: usize,
         along: &[i64],
-        headless: bool,
-        tupled: bool,
-    ) -> Check
-        ensures { result ≡ refuse (step_tests table_length used index self along.now headless tupled) }
+        opened: Result<Kerning, Unready>,
+    ) -> Result<Kerning, Refusal>
+        ensures { result ≡ readied (refuse (step_tests table_length used index self along.now (is_short opened)
+            (is_tupled opened))) opened }
     {
-        if let Check::Refused(why) = answers::refuse_table(table_length) {
-            return Check::Refused(why);
-        }
+        answers::refuse_table(table_length)?;
         if !is_roomy(along, used) {
-            return Check::Refused(Refusal::Line);
+            return Err(Refusal::Line);
         }
         if used < index {
-            return Check::Refused(Refusal::Place);
+            return Err(Refusal::Place);
         }
-        let depth = self.depth;
-        if KerningState::DEPTH < depth {
-            return Check::Refused(Refusal::State);
+        if KerningState::DEPTH < self.depth {
+            return Err(Refusal::State);
         }
-        let stack = self.stack;
-        if !are_within(stack, depth, used) {
-            return Check::Refused(Refusal::State);
+        if !are_within(self.stack, self.depth, used) {
+            return Err(Refusal::State);
         }
         if KerningState::MOST_CYCLES < self.cycles {
-            return Check::Refused(Refusal::State);
+            return Err(Refusal::State);
         }
-        if headless {
-            return Check::Refused(Refusal::Head);
+        match opened {
+            Ok(kerning) => Ok(kerning),
+            Err(Unready::Short) => Err(Refusal::Head),
+            Err(Unready::Tupled) => Err(Refusal::Tuples),
         }
-        if tupled {
-            return Check::Refused(Refusal::Tuples);
+    }
+
+    // The crate's `next` by the glyph's class, over the bytes from the state table on: how far the next step's place is from this one's, or none
+    // where the step ended.
+    fn next<R: EndRule>(
+        &mut self,
+        bytes: &[u8],
+        kerning: Kerning,
+        rule: R,
+        stride: usize,
+        used: usize,
+        index: usize,
+        class: u16,
+        along: &mut [i64],
+    ) -> Option<usize>
+        requires { ListsBy kerning.reading (R.rule rule) stride × (stride ≤ 2 ^ 40) × CanStep
+            self.old.depth used along.old }
+        ensures step { (glyph : ℕ) → step_of result self.new ≡ (next (λ _. class) bytes.now kerning self.old used index glyph).step }
+        ensures along { (glyph : ℕ) → along.new ≡ add_all (next (λ _. class) bytes.now kerning self.old used index
+            glyph).additions along.old }
+    {
+        let reading = kerning.reading;
+        let entry = entries::entry_of(
+            bytes,
+            kerning.states,
+            self.state,
+            class,
+            payload_of(reading),
+        )?;
+        let orders = orders_of(bytes, reading, entry);
+        let walked = act(
+            bytes,
+            rule,
+            stride,
+            orders,
+            &mut self.stack,
+            self.depth,
+            used,
+            index,
+            along,
+        );
+        self.state = entry.state;
+        self.depth = walked.depth;
+        if walked.ended {
+            return None;
         }
-        Check::Passed
+        let stalled = machine::stall(self.cycles, orders.stays);
+        self.depth = kept(orders.resets, self.depth);
+        self.cycles = stalled.cycles;
+        Some(stalled.advance)
     }
 
     // The crate's `next` from this state.
@@ -673,36 +443,24 @@ impl KerningState {
         glyph: u16,
         along: &mut [i64],
     ) -> KerningStep
-        requires { (self.depth ≤ 8) × (used ≤ length along.old) × Within (2 ^ 61) along.old }
+        requires { CanStep self.depth used along.old }
         ensures step { result ≡ (next (own_classes bytes.now kerning) bytes.now kerning self used index glyph).step }
         ensures along { along.new ≡ add_all (next (own_classes bytes.now kerning) bytes.now kerning self used index
             glyph).additions along.old }
     {
-        let none = [0u16; 0];
-        let mut stack = self.stack;
-        let moved = next(
-            bytes,
-            kerning,
-            self.state,
-            &mut stack,
-            self.depth,
-            self.cycles,
-            used,
-            index,
-            glyph,
-            along,
-            &none,
-        );
-        let answer = moved.answer;
+        let reading = kerning.reading;
+        let rule = rule_of(reading);
+        let stride = stride_of(reading);
+        let class = classes::class_of(bytes, kerning.states, glyph);
+        let mut state = self;
+        let Some(advance) = state.next(bytes, kerning, rule, stride, used, index, class, along)
+        else {
+            return state.stopped(Answer::Ended);
+        };
         KerningStep {
-            answer,
-            state: KerningState {
-                state: moved.state,
-                stack,
-                depth: moved.depth,
-                cycles: moved.cycles,
-            },
-            advance: moved.advance,
+            answer: Answer::Done,
+            state,
+            advance,
         }
     }
 
@@ -711,7 +469,7 @@ impl KerningState {
         self,
         table_length: usize,
         bytes: &[u8],
-        opened: Opened,
+        opened: Result<Kerning, Unready>,
         used: usize,
         index: usize,
         glyph: u16,
@@ -721,58 +479,16 @@ impl KerningState {
         ensures along { along.new ≡ add_all (step_call table_length bytes.now opened self used index glyph
             along.old).additions along.old }
     {
-        let headless = is_short(opened);
-        let tupled = is_tupled(opened);
-        if let Check::Refused(why) = self.refuse(
-            table_length,
-            used,
-            index,
-            along,
-            headless,
-            tupled,
-        ) {
-            return self.stopped(Answer::Refused(why));
-        }
-        match opened {
-            Opened::Ready(kerning) => {
-                return self.go(bytes, kerning, used, index, glyph, along);
-            }
-            Opened::Short => {
-                return self.stopped(Answer::Refused(Refusal::Head));
-            }
-            Opened::Tupled => {
-                return self.stopped(Answer::Refused(Refusal::Tuples));
-            }
+        match self.ready(table_length, used, index, along, opened) {
+            Ok(kerning) => self.go(bytes, kerning, used, index, glyph, along),
+            Err(why) => self.stopped(Answer::Refused(why)),
         }
     }
-}
-
-// The class of a glyph in an extended table.
-fn class_now(bytes: &[u8], table: Classes, memo: &mut [u32; 64], glyph: u16) -> u16
-    requires { LiesIn bytes.now table × Remembers (class_by bytes.now table) memo.old }
-    ensures class { result ≡ class_by bytes.now table glyph }
-    ensures memo { Remembers (class_by bytes.now table) memo.new }
-{
-    let Classes::Words { base, first, count } = table else {
-        return opened::remembered(bytes, table, memo, glyph);
-    };
-    opened::class_in_words(bytes, base, first, count, glyph)
-}
-
-// The same by an index, where that reaches the glyph.
-fn class_by(bytes: &[u8], table: Classes, memo: &mut [u32; 64], glyph: u16, index: &[u16]) -> u16
-    requires { LiesIn bytes.now table × Remembers (class_by bytes.now table) memo.old }
-    ensures class { result ≡ classes_by index.now (class_by bytes.now table) glyph }
-    ensures memo { Remembers (class_by bytes.now table) memo.new }
-{
-    if (glyph as usize) < index.len() {
-        return index[glyph as usize];
-    }
-    class_now(bytes, table, memo, glyph)
 }
 
 // The pass of kern's machine, over a classic table. The steps at a place are a loop of their own, so that the next place's glyph is
 // read before it is known that the place is left; a state is kept by its row. What `next` does is written out, and inlined.
+// kept: the same by `pass`, which goes by states and whole entries, was tried, and takes 1.6 times as long.
 fn pass_kern(
     bytes: &[u8],
     states: States,
@@ -784,28 +500,28 @@ fn pass_kern(
     used: usize,
     along: &mut [i64],
 ) -> Answer
-    requires { (is_classic states.edition ≡ true) × (count ≤ length bytes.now - base) × (used ≤ length glyphs.now) × (used ≤ length along.old) ×
-        (used ≤ room_limit) × Within (2 ^ 60) along.old }
+    requires { (is_classic states.edition ≡ true) × (count ≤ length bytes.now - base) × CanPass glyphs.now used along.old }
     ensures answer { result ≡ (passed_by (byte_class_in bytes.now base first count) bytes.now (kern_of states crossed) glyphs.now
         used).answer }
     ensures along { along.new ≡ add_all (passed_by (byte_class_in bytes.now base first count) bytes.now (kern_of states crossed)
         glyphs.now used).additions along.old }
 {
+    let rule = Odd { crossed };
     let mut stack = [0; KerningState::DEPTH];
     let mut row = 0;
     let mut depth = 0;
     let mut cycles = 0;
-    let mut place = 0;
-    while place < used {
+    for place in 0..used {
         let class = opened::class_in_bytes(bytes, base, first, count, glyphs[place]);
-        let mut stays = true;
-        while stays {
-            let Reached::At { row: next, flags } = entries::reach(bytes, states, row, class) else {
+        let mut advance = 0;
+        while advance == 0 {
+            let Some(Reached { row: next, flags }) = entries::reach(bytes, states, row, class)
+            else {
                 return Answer::Ended;
             };
             let orders = kern_orders(flags);
-            let walked = act_kern(
-                bytes, crossed, orders, &mut stack, depth, used, place, along,
+            let walked = act(
+                bytes, rule, 2, orders, &mut stack, depth, used, place, along,
             );
             if walked.ended {
                 return Answer::Ended;
@@ -814,103 +530,43 @@ fn pass_kern(
             row = next;
             depth = walked.depth;
             cycles = stalled.cycles;
-            stays = stalled.advance == 0;
+            advance = stalled.advance;
         }
-        place += 1;
     }
     Answer::Done
 }
 
-// The pass of kerx's machine.
-fn pass_kerx(
-    bytes: &[u8],
-    states: States,
-    values: u32,
-    tuples: u32,
-    table: Classes,
-    glyphs: &[u16],
-    used: usize,
-    along: &mut [i64],
-    lent: &[u16],
-) -> Answer
-    requires { LiesIn bytes.now table × (used ≤ length glyphs.now) × (used ≤ length along.old) × (used ≤ room_limit) × Within (2 ^ 60) along.old }
-    ensures answer { result ≡ (passed_by (classes_by lent.now (class_by bytes.now table)) bytes.now (kerx_of states values tuples)
-        glyphs.now used).answer }
-    ensures along { along.new ≡ add_all (passed_by (classes_by lent.now (class_by bytes.now table)) bytes.now
-        (kerx_of states values tuples) glyphs.now used).additions along.old }
-{
-    let mut memo = opened::nothing_found();
-    let mut stack = [0; KerningState::DEPTH];
-    let mut state = 0;
-    let mut depth = 0;
-    let mut cycles = 0;
-    let mut place = 0;
-    while place < used {
-        let class = class_by(bytes, table, &mut memo, glyphs[place], lent);
-        let mut stays = true;
-        while stays {
-            let Entered::At(entry) = entries::entry_of(bytes, states, state, class, 2) else {
-                return Answer::Ended;
-            };
-            let index = entries::one_number(bytes, entry.payload);
-            let orders = kerx_orders(values, tuples, entry.flags, index);
-            let walked = act_kerx(bytes, tuples, orders, &mut stack, depth, used, place, along);
-            if walked.ended {
-                return Answer::Ended;
-            }
-            let stalled = machine::stall(cycles, orders.stays);
-            state = entry.state;
-            depth = kept(orders.resets, walked.depth);
-            cycles = stalled.cycles;
-            stays = stalled.advance == 0;
-        }
-        place += 1;
-    }
-    Answer::Done
-}
-
-// The pass by lone steps: in the manual's reading, and for kern's entries in an extended table, which no head gives.
-fn pass_plain(
+// The pass of any machine, by the rule and the stride of its lists and by its opened classes. The steps at a place are a loop of their own, so that
+// the glyph's class is asked once.
+fn pass<R: EndRule>(
     bytes: &[u8],
     kerning: Kerning,
+    rule: R,
+    stride: usize,
+    table: Classes,
     glyphs: &[u16],
     used: usize,
     along: &mut [i64],
     index: &[u16],
 ) -> Answer
-    requires { (used ≤ length glyphs.now) × (used ≤ length along.old) × (used ≤ room_limit) × Within (2 ^ 60) along.old }
-    ensures answer { result ≡ (passed_indexed index.now bytes.now kerning glyphs.now used).answer }
-    ensures along { along.new ≡ add_all (passed_indexed index.now bytes.now kerning glyphs.now used).additions
-        along.old }
+    requires { ListsBy kerning.reading (R.rule rule) stride × (stride ≤ 2 ^ 40) × LiesIn bytes.now table × CanPass
+        glyphs.now used along.old }
+    ensures answer { result ≡ (passed_by (classes_by index.now (class_by bytes.now table)) bytes.now kerning glyphs.now used).answer }
+    ensures along { along.new ≡ add_all (passed_by (classes_by index.now (class_by bytes.now table)) bytes.now kerning
+        glyphs.now used).additions along.old }
 {
-    let fresh = KerningState::new();
-    let mut stack = fresh.stack;
-    let mut state = fresh.state;
-    let mut depth = fresh.depth;
-    let mut cycles = fresh.cycles;
-    let mut place = 0;
-    while place < used {
-        let moved = next(
-            bytes,
-            kerning,
-            state,
-            &mut stack,
-            depth,
-            cycles,
-            used,
-            place,
-            glyphs[place],
-            along,
-            index,
-        );
-        let answer = moved.answer;
-        if !machine::is_done(answer) {
-            return answer;
+    let mut memo = opened::nothing_found();
+    let mut state = KerningState::new();
+    for place in 0..used {
+        let class = indexes::class_by(bytes, table, &mut memo, glyphs[place], index);
+        let mut advance = 0;
+        while advance == 0 {
+            let Some(next) = state.next(bytes, kerning, rule, stride, used, place, class, along)
+            else {
+                return Answer::Ended;
+            };
+            advance = next;
         }
-        state = moved.state;
-        depth = moved.depth;
-        cycles = moved.cycles;
-        place += moved.advance;
     }
     Answer::Done
 }
@@ -924,73 +580,83 @@ fn pass_line(
     along: &mut [i64],
     index: &[u16],
 ) -> Answer
-    requires { (used ≤ length glyphs.now) × (used ≤ length along.old) × (used ≤ room_limit) × Within (2 ^ 60) along.old }
+    requires { CanPass glyphs.now used along.old }
     ensures answer { result ≡ (passed_indexed index.now bytes.now kerning glyphs.now used).answer }
     ensures along { along.new ≡ add_all (passed_indexed index.now bytes.now kerning glyphs.now used).additions
         along.old }
 {
     let states = kerning.states;
-    let reading = kerning.reading;
-    let opened = opened::open(bytes, states);
-    match reading {
-        Reading::Kern { crossed } => {
-            let Classes::Bytes { base, first, count } = opened else {
-                return pass_plain(bytes, kerning, glyphs, used, along, index);
-            };
-            if 0 < index.len() {
-                return pass_plain(bytes, kerning, glyphs, used, along, index);
-            }
-            if !entries::is_classic(states) {
-                return pass_plain(bytes, kerning, glyphs, used, along, index);
-            }
-            return pass_kern(
+    let table = opened::open(bytes, states);
+    match (kerning.reading, table) {
+        (Reading::Kern { crossed }, Classes::Bytes { base, first, count })
+            if index.is_empty() && entries::is_classic(states) => {
+            pass_kern(
                 bytes, states, crossed, base, first, count, glyphs, used, along,
-            );
+            )
         }
-        Reading::Kerx { values, tuples } => {
-            return pass_kerx(
-                bytes, states, values, tuples, opened, glyphs, used, along, index,
-            );
+        (Reading::Kerx { tuples, .. }, _) => {
+            pass(
+                bytes,
+                kerning,
+                Never,
+                size_of(tuples),
+                table,
+                glyphs,
+                used,
+                along,
+                index,
+            )
         }
-        Reading::Manual { .. } => {
-            return pass_plain(bytes, kerning, glyphs, used, along, index);
+        _ => {
+            pass(
+                bytes,
+                kerning,
+                rule_of(kerning.reading),
+                stride_of(kerning.reading),
+                table,
+                glyphs,
+                used,
+                along,
+                index,
+            )
         }
     }
 }
 
+// kept: C lends a line's room with its used length beside it (aat_kern_pass), and the promises name both (worked_indexed).
 // The pass by what a head gives and the classes of an index; HEAD where it gives none, TUPLES where these are refused.
+#[tactic(auto, unfolding(crate::specs::Machine::worked_indexed, kerning::specs::Additions::add_all))]
 pub fn work_by(
     bytes: &[u8],
-    opened: Opened,
+    opened: Result<Kerning, Unready>,
     glyphs: &[u16],
     used: usize,
     along: &mut [i64],
     index: &[u16],
 ) -> Answer
-    requires { (used ≤ length glyphs.now) × (used ≤ length along.old) × (used ≤ room_limit) × Within (2 ^ 60) along.old }
+    requires { CanPass glyphs.now used along.old }
     ensures answer { result ≡ (worked_indexed index.now bytes.now opened glyphs.now used).answer }
     ensures along { along.new ≡ add_all (worked_indexed index.now bytes.now opened glyphs.now used).additions
         along.old }
 {
     match opened {
-        Opened::Ready(kerning) => {
-            return pass_line(bytes, kerning, glyphs, used, along, index);
-        }
-        Opened::Short => {
-            return Answer::Refused(Refusal::Head);
-        }
-        Opened::Tupled => {
-            return Answer::Refused(Refusal::Tuples);
-        }
+        Ok(kerning) => pass_line(bytes, kerning, glyphs, used, along, index),
+        Err(Unready::Short) => Answer::Refused(Refusal::Head),
+        Err(Unready::Tupled) => Answer::Refused(Refusal::Tuples),
     }
 }
 
 // The same by the machine's own classes.
-pub fn work(bytes: &[u8], opened: Opened, glyphs: &[u16], used: usize, along: &mut [i64]) -> Answer
-    requires { (used ≤ length glyphs.now) × (used ≤ length along.old) × (used ≤ room_limit) × Within (2 ^ 60) along.old }
+pub fn work(
+    bytes: &[u8],
+    opened: Result<Kerning, Unready>,
+    glyphs: &[u16],
+    used: usize,
+    along: &mut [i64],
+) -> Answer
+    requires { CanPass glyphs.now used along.old }
     ensures answer { result ≡ (worked_by bytes.now opened glyphs.now used).answer }
     ensures along { along.new ≡ add_all (worked_by bytes.now opened glyphs.now used).additions along.old }
 {
-    let none = [0u16; 0];
-    work_by(bytes, opened, glyphs, used, along, &none)
+    work_by(bytes, opened, glyphs, used, along, &[0u16; 0])
 }

@@ -1,4 +1,5 @@
 -- More bytes behind a kerx subtable change nothing for its head, nor for what it adds, where no read comes out short without them.
+use Rattle.std.specs.Prelude.{Option, Some, None, Result, Ok, Err}
 use Prim.Native.Nat.{ℕ}
 use mathlib.Core.Path.{◌≡◌, refl, sym, ◌∙◌, ap}
 use mathlib.Core.Bool.{Bool, true, false, cond}
@@ -7,24 +8,22 @@ use native.Mathlib.Omega.{arith}
 use lib.Dec.{ltb, eqb}
 use borrow.Author.Tests.{eqb-true}
 use Rattle.parse.specs.Reads.{u32_at, read_u32}
-use Rattle.parse.specs.declared.ReadU32.{ReadU32}
-use Rattle.parse.specs.declared.ReadU32.TheVariants as U32
 use Rattle.parse.proofs.Laws.{u32_value}
 use Rattle.parse.proofs.Behind.{Begins, Stays, choice_stays, on_u32_stays}
 use Rattle.answers.specs.declared.Answer.TheVariants as Answer'
 use Rattle.answers.specs.declared.Refusal.TheVariants as Refusal'
 use Rattle.kerning.specs.Additions.{Kerned, nothing_added}
 use Rattle.kerning.specs.declared.choices.Choices.{Choices}
-use Rattle.pairs.specs.Pairs.{ordered_kerx, classes_kerx, barred}
+use Rattle.kerning.specs.Heads.{barred}
+use Rattle.pairs.specs.Pairs.{ordered_kerx, classes_kerx}
 use Rattle.pairs.specs.Pass as Pairs'
-use Rattle.pairs.specs.declared.Opened.{Opened}
-use Rattle.pairs.specs.declared.Opened.TheVariants as Opened'
+use Rattle.kerning.specs.declared.heads.Unready.{Unready}
+use Rattle.pairs.specs.declared.PairTable.{PairTable}
 use Rattle.pairs.proofs.Behind as PairsBehind
 use Rattle.kerx_machine.specs.Machine as Machine'
 use Rattle.kerx_machine.specs.Machine.{is_tupled, tuples_of}
 use Rattle.kerx_machine.proofs.Behind.{tupled_stays, machine_stays, tupled_adds_nothing}
 use Rattle.kerning_lists.specs.declared.Subtable.{Subtable}
-use Rattle.kerning_lists.specs.declared.Head.TheVariants.{At, Cut}
 use Rattle.kerx.specs.Heads.{subtable_of, head_in}
 use Rattle.kerx.specs.Kerx.{worked}
 use Rattle.kerx.specs.Inside.{WorkInside}
@@ -33,22 +32,22 @@ use Rattle.kerx.specs.Inside.{WorkInside}
 pub record HeadRead (rtl : Bool) (version : ℕ) (own : List ℕ) (s : Subtable) : Type 0 where
   pub coverage : ℕ
   pub is : s ≡ subtable_of rtl 0 (u32_at own 0) coverage
-  pub tuples : tuples_of own version ≡ U32.Short → ⊥
-  pub elsewhere : (at : ℕ) → head_in rtl version at own ≡ At (subtable_of rtl at (u32_at own 0) coverage)
+  pub tuples : tuples_of own version ≡ None → ⊥
+  pub elsewhere : (at : ℕ) → head_in rtl version at own ≡ Some (subtable_of rtl at (u32_at own 0) coverage)
 
-pub head_read : (rtl : Bool) (version : ℕ) (own : List ℕ) {s : Subtable} → head_in rtl version 0 own ≡ At s → HeadRead rtl version own s
+pub head_read : (rtl : Bool) (version : ℕ) (own : List ℕ) {s : Subtable} → head_in rtl version 0 own ≡ Some s → HeadRead rtl version own s
 unfolding head_in tuples_of
 head_read rtl version own {s} e = by_size (read_u32 own 0) refl
   where
-    by_size : (r : ReadU32) → read_u32 own 0 ≡ r → HeadRead rtl version own s
-    by_size U32.Short p = absurd (let z : ◌≡◌ {A = ℕ} 0 1 = cc in omega arith)
-    by_size (U32.Got size) p = by_coverage (read_u32 own 4) refl
+    by_size : (r : Option ℕ) → read_u32 own 0 ≡ r → HeadRead rtl version own s
+    by_size None p = absurd (let z : ◌≡◌ {A = ℕ} 0 1 = cc in omega arith)
+    by_size (Some size) p = by_coverage (read_u32 own 4) refl
       where
-        by_coverage : (r : ReadU32) → read_u32 own 4 ≡ r → HeadRead rtl version own s
-        by_coverage U32.Short q = absurd (let f = rw (p, q) at e in let z : ◌≡◌ {A = ℕ} 0 1 = cc in omega arith)
-        by_coverage (U32.Got coverage) q = by_tuples (ltb version 4) (read_u32 own 8) refl refl
+        by_coverage : (r : Option ℕ) → read_u32 own 4 ≡ r → HeadRead rtl version own s
+        by_coverage None q = absurd (let f = rw (p, q) at e in let z : ◌≡◌ {A = ℕ} 0 1 = cc in omega arith)
+        by_coverage (Some coverage) q = by_tuples (ltb version 4) (read_u32 own 8) refl refl
           where
-            by_tuples : (old : Bool) (r : ReadU32) → ltb version 4 ≡ old → read_u32 own 8 ≡ r → HeadRead rtl version own s
+            by_tuples : (old : Bool) (r : Option ℕ) → ltb version 4 ≡ old → read_u32 own 8 ≡ r → HeadRead rtl version own s
             by_tuples true r o t =
                 let f = rw (p, q, o) at e in
                 let n = (u32_value own 0 p).1 in
@@ -58,8 +57,8 @@ head_read rtl version own {s} e = by_size (read_u32 own 0) refl
                   tuples = λ short. let g = rw o at short in let z : ◌≡◌ {A = ℕ} 0 1 = cc in omega arith;
                   elsewhere = λ at. rw (p, q, o, n);
                 }
-            by_tuples false U32.Short o t = absurd (let f = rw (p, q, o, t) at e in let z : ◌≡◌ {A = ℕ} 0 1 = cc in omega arith)
-            by_tuples false (U32.Got tuples) o t =
+            by_tuples false None o t = absurd (let f = rw (p, q, o, t) at e in let z : ◌≡◌ {A = ℕ} 0 1 = cc in omega arith)
+            by_tuples false (Some tuples) o t =
                 let f = rw (p, q, o, t) at e in
                 let n = (u32_value own 0 p).1 in
                 record {
@@ -69,7 +68,7 @@ head_read rtl version own {s} e = by_size (read_u32 own 0) refl
                   elsewhere = λ at. rw (p, q, o, t, n);
                 }
 
-pub head_stays : {own whole : List ℕ} → Begins own whole → (rtl : Bool) (version at : ℕ) → Stays Cut (head_in rtl version at own) (head_in rtl version at whole)
+pub head_stays : {own whole : List ℕ} → Begins own whole → (rtl : Bool) (version at : ℕ) → Stays None (head_in rtl version at own) (head_in rtl version at whole)
 unfolding head_in
 head_stays b rtl version at =
     on_u32_stays b 0 _ _
@@ -77,11 +76,10 @@ head_stays b rtl version at =
     (λ coverage. choice_stays (ltb version 4) (λ not. refl) (on_u32_stays b 8 _ _ (λ tuples not. refl))))
 
 -- pairs whose tuples are refused add nothing
-barred-adds-nothing : (bytes : List ℕ) (opened : Opened) (glyphs : List ℕ) (used : ℕ) (choices : Choices) → (Pairs'.worked_by bytes (barred true opened) glyphs used choices.pairs).additions ≡ []
+barred-adds-nothing : (bytes : List ℕ) (opened : Result PairTable Unready) (glyphs : List ℕ) (used : ℕ) (choices : Choices) → (Pairs'.worked_by bytes (barred true opened) glyphs used choices.pairs).additions ≡ []
 unfolding barred Pairs'.worked_by
-barred-adds-nothing bytes (Opened'.Ready pairs) glyphs used choices = refl
-barred-adds-nothing bytes Opened'.Short glyphs used choices = refl
-barred-adds-nothing bytes Opened'.Tupled glyphs used choices = refl
+barred-adds-nothing bytes (Ok pairs) glyphs used choices = refl
+barred-adds-nothing bytes (Err why) glyphs used choices = refl
 
 module _ (version : ℕ) (glyphs : List ℕ) (used : ℕ) (choices : Choices) where
   -- the work by whether it is of format 0, 1 or 2, and whether tuples are refused
@@ -103,7 +101,7 @@ module _ (version : ℕ) (glyphs : List ℕ) (used : ℕ) (choices : Choices) wh
   tupled_nothing bytes t false false true = barred-adds-nothing bytes (classes_kerx bytes choices.reading) glyphs used choices
   tupled_nothing bytes t false false false = refl
 
-  module _ {own whole : List ℕ} (b : Begins own whole) (format : ℕ) (not : tuples_of own version ≡ U32.Short → ⊥) where
+  module _ {own whole : List ℕ} (b : Begins own whole) (format : ℕ) (not : tuples_of own version ≡ None → ⊥) where
     abbrev tupled : Bool
     tupled = is_tupled own version choices.reading
 

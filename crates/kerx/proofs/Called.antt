@@ -1,14 +1,15 @@
 -- Calls of anchored passes, runs and steps: their tests, what a call that passes them may rely on, and what it answers and leaves.
-use Prim.Native.Nat.{ℕ, ◌<◌, ◌≤◌, ◌^◌}
-use mathlib.Core.Path.{◌≡◌, refl, sym, ◌∙◌, ap, ap₂, subst}
-use mathlib.Core.Bool.{Bool, true, false, not}
+use Rattle.std.specs.Prelude.{Result, Ok, Err}
+use Prim.Native.Nat.{ℕ, ◌≤◌, ◌^◌}
+use mathlib.Core.Path.{◌≡◌, refl, sym, ◌∙◌, ap, ap₂}
+use mathlib.Core.Bool.{Bool, true, not}
 use mathlib.Core.List.{List, [], ◌∷◌, ◌++◌}
 use native.Mathlib.Omega.{arith}
 use lib.Dec.{eqb}
 use lib.IntN.{ℤ}
 use lib.ListN.{length, take, drop}
 use lib.Seq.{length-take-le}
-use borrow.Author.Tests.{not-false, eqb-true, lt-ltb, le-ltb}
+use borrow.Author.Tests.{not-false, eqb-true}
 use Rattle.laws.specs.Lists.{both}
 use Rattle.laws.proofs.Lists.{both_left, both_right}
 use Rattle.answers.specs.Limits.{room_limit}
@@ -17,32 +18,24 @@ use Rattle.answers.specs.declared.Answer.{Answer}
 use Rattle.answers.specs.declared.Answer.TheVariants as Answer'
 use Rattle.answers.specs.declared.Refusal.{Refusal}
 use Rattle.answers.specs.declared.Refusal.TheVariants as Refusal'
-use Rattle.answers.specs.declared.Check.{Check}
-use Rattle.answers.specs.declared.Check.TheVariants.{Passed, Refused}
-use Rattle.answers.proofs.Refusals.{refuse-none, refuse-here, refuse-later, passed_here, passed_later, alone_refused, alone-passed}
-use Rattle.tables.specs.declared.units.Reading.{Reading}
+use Rattle.answers.proofs.Refusals.{passed_here, passed_later}
 use Rattle.line.specs.Line.{Line, line_of}
 use Rattle.kerning.specs.Bounds.{Within}
 use Rattle.kerning.specs.Line.{is_kernable, is_taken}
 use Rattle.kerning.specs.declared.choices.Choices.{Choices}
-use Rattle.kerning.proofs.Adding.{add_all-none, within_more}
+use Rattle.kerning.proofs.Adding.{within_more}
 use Rattle.kerning.proofs.Calls.{Kernable, Taken, kernable_of, taken_of}
 use Rattle.anchors.specs.Anchors.{anchor_test}
-use Rattle.anchor_machine.specs.Writes.{Write, write_x, write_y, write_back, are_long}
-use Rattle.anchor_machine.specs.Machine as Anchor'
-use Rattle.anchor_machine.specs.declared.Opened.{Opened}
-use Rattle.anchor_machine.specs.declared.AnchorState.{AnchorState}
-use Rattle.anchor_machine.specs.declared.AnchorStep.{AnchorStep}
-use Rattle.anchor_machine.proofs.Writing.{Wrote, wrote_none}
+use Rattle.anchor_machine.specs.Writes.{write_x, write_y, write_back, are_long}
+use Rattle.anchor_machine.proofs.Writing.{Wrote}
 use Rattle.kerning_lists.specs.Walk.{list_bytes, visited, walk_answer}
-use Rattle.kerning_lists.specs.Run.{zeros, used_part, start_test}
+use Rattle.kerning_lists.specs.Run.{zeros, used_part}
 use Rattle.kerning_lists.specs.Family.{walk_of, adds, ran}
 use Rattle.kerning_lists.proofs.Calls.{Ready, RunIs, ran_is}
 use Rattle.kerx.specs.Heads.{list_of}
 use Rattle.kerx.specs.Kerx.{kerx}
 use Rattle.kerx.specs.Lent.{Lent}
-use Rattle.kerx.specs.Anchored.{AnchoredRan, passed_with, machine_of, pass_tests, run_tests, takes_pass, takes_run, pass_call, run_call, ran_with, run_marks, nones, step_call, step_writes}
-use Rattle.kerx.proofs.Anchoring.{WorksWith}
+use Rattle.kerx.specs.Anchored.{AnchoredRan, pass_tests, run_tests, takes_pass, takes_run, run_call, ran_with, run_marks, nones}
 
 -- TABLE, ANCHOR, LINE and what follows, from what the code has tested
 module _ (n m : ℕ) (takes : Bool) (later : List Test) where
@@ -52,41 +45,10 @@ module _ (n m : ℕ) (takes : Bool) (later : List Test) where
   abbrev tests : List Test
   tests = table_test n ∷ anchor_test m ∷ line_test ∷ later
 
-  module _ {table : Check} (e : table ≡ refuse (table_test n ∷ [])) where
-    pub tests_table : {why : Refusal} → table ≡ Refused why → Refused why ≡ refuse tests
-    tests_table {why} f = sym (alone_refused (table_test n) (anchor_test m ∷ line_test ∷ later) why (sym e ∙ f))
-
-    module _ {anchor : Check} (f : table ≡ Passed) (g : anchor ≡ refuse (anchor_test m ∷ [])) where
-      to_anchor : refuse tests ≡ refuse (anchor_test m ∷ line_test ∷ later)
-      to_anchor = alone-passed (table_test n) (anchor_test m ∷ line_test ∷ later) (sym e ∙ f)
-
-      pub tests_anchor : {why : Refusal} → anchor ≡ Refused why → Refused why ≡ refuse tests
-      tests_anchor {why} h = sym (to_anchor ∙ alone_refused (anchor_test m) (line_test ∷ later) why (sym g ∙ h))
-
-      module _ (h : anchor ≡ Passed) where
-        to_line : refuse tests ≡ refuse (line_test ∷ later)
-        to_line = to_anchor ∙ alone-passed (anchor_test m) (line_test ∷ later) (sym g ∙ h)
-
-        pub tests_line : not takes ≡ true → Refused Refusal'.Line ≡ refuse tests
-        tests_line k = sym (to_line ∙ refuse-here line_test later k)
-
-        pub tests_later : not takes ≡ false → refuse later ≡ refuse tests
-        tests_later k = sym (to_line ∙ refuse-later line_test later k)
-
   -- a call that passes them
-  tests_takes : refuse tests ≡ Passed → takes ≡ true
+  tests_takes : refuse tests ≡ Ok tt → takes ≡ true
   tests_takes e =
       not-false takes (passed_here line_test later (passed_later (anchor_test m) (line_test ∷ later) (passed_later (table_test n) (anchor_test m ∷ line_test ∷ later) e)))
-
--- HEAD of a run behind them
-module _ (n start : ℕ) where
-  pub start_refused : n < start → Refused Refusal'.Head ≡ refuse (start_test n start ∷ [])
-  unfolding start_test
-  start_refused h = sym (refuse-here (start_test n start) [] (rw (lt-ltb n start h)))
-
-  pub start-passed : start ≤ n → Passed ≡ refuse (start_test n start ∷ [])
-  unfolding start_test
-  start-passed h = sym (refuse-later (start_test n start) [] (rw (le-ltb n start h)) ∙ refuse-none)
 
 -- what the work may rely on
 pub record Lies (glyphs tags : List ℕ) (used : ℕ) (along x y : List ℤ) (back : List ℕ) : Type 0 where
@@ -118,8 +80,8 @@ lies_of glyphs tags homes used along x y back k long =
     }
 
 -- a lone pass
-module _ (n m : ℕ) (glyphs tags homes : List ℕ) (used : ℕ) (along x y : List ℤ) (back : List ℕ) {takes : Bool} {check : Check}
-    (t : takes ≡ takes_pass (line_of glyphs tags homes used) along x y back) (e : check ≡ refuse (pass_tests n m takes)) (f : check ≡ Passed) where
+module _ (n m : ℕ) (glyphs tags homes : List ℕ) (used : ℕ) (along x y : List ℤ) (back : List ℕ) {takes : Bool} {check : (Result Unit Refusal)}
+    (t : takes ≡ takes_pass (line_of glyphs tags homes used) along x y back) (e : check ≡ refuse (pass_tests n m takes)) (f : check ≡ (Ok tt)) where
   abbrev line : Line
   line = line_of glyphs tags homes used
 
@@ -142,27 +104,9 @@ module _ (n m : ℕ) (glyphs tags homes : List ℕ) (used : ℕ) (along x y : Li
         r.long-back,
       )
 
-module _ (table ankr : List ℕ) (start version : ℕ) (l : Line) (along x y : List ℤ) (back : List ℕ) (choices : Choices) {takes : Bool} {check : Check}
-    (t : takes ≡ takes_pass l along x y back) (e : check ≡ refuse (pass_tests (length table) (length ankr) takes)) where
-  tested : check ≡ refuse (pass_tests (length table) (length ankr) (takes_pass l along x y back))
-  tested = e ∙ ap (λ (b : Bool). refuse (pass_tests (length table) (length ankr) b)) t
-
-  pub pass_refused : {why : Refusal} → check ≡ Refused why
-      → WorksWith (pass_call table ankr start version l along x y back choices) along x y back (Answer'.Refused why) along x y back
-  unfolding pass_call
-  pass_refused f = rw (sym tested ∙ f) (record { answers = refl; adds = sym (add_all-none along); wrote = wrote_none x y back })
-
-  pub pass-passed : {bytes : List ℕ} {answer : Answer} {along' x' y' : List ℤ} {back' : List ℕ} → check ≡ Passed → bytes ≡ drop start table
-      → WorksWith (passed_with ankr bytes version l.glyphs l.used choices) along x y back answer along' x' y' back'
-      → WorksWith (pass_call table ankr start version l along x y back choices) along x y back answer along' x' y' back'
-  unfolding pass_call
-  pass-passed {answer = answer} {along' = along'} {x' = x'} {y' = y'} {back' = back'} f d w =
-      rw (sym tested ∙ f)
-      (subst (λ (p : List ℕ). WorksWith (passed_with ankr p version l.glyphs l.used choices) along x y back answer along' x' y' back') d w)
-
 -- a run
-module _ (n m start : ℕ) (glyphs tags homes : List ℕ) (used : ℕ) (along x y : List ℤ) (back : List ℕ) {takes : Bool} {check : Check}
-    (t : takes ≡ takes_run (line_of glyphs tags homes used) along x y back) (e : check ≡ refuse (run_tests n m start takes)) (f : check ≡ Passed) where
+module _ (n m start : ℕ) (glyphs tags homes : List ℕ) (used : ℕ) (along x y : List ℤ) (back : List ℕ) {takes : Bool} {check : (Result Unit Refusal)}
+    (t : takes ≡ takes_run (line_of glyphs tags homes used) along x y back) (e : check ≡ refuse (run_tests n m start takes)) (f : check ≡ (Ok tt)) where
   abbrev run_line : Line
   run_line = line_of glyphs tags homes used
 
@@ -200,18 +144,18 @@ pub record RanIs (r : AnchoredRan) (answer : Answer) (read : ℕ) (along x y : L
   pub ys : y ≡ r.y
   pub backs : back ≡ r.back
 
-module _ (table ankr : List ℕ) (start : ℕ) (rtl : Bool) (l : Line) (along x y : List ℤ) (back : List ℕ) (choices : Choices) {takes : Bool} {check : Check}
+module _ (table ankr : List ℕ) (start : ℕ) (rtl : Bool) (l : Line) (along x y : List ℤ) (back : List ℕ) (choices : Choices) {takes : Bool} {check : (Result Unit Refusal)}
     (t : takes ≡ takes_run l along x y back) (e : check ≡ refuse (run_tests (length table) (length ankr) start takes)) where
   run_tested : check ≡ refuse (run_tests (length table) (length ankr) start (takes_run l along x y back))
   run_tested = e ∙ ap (λ (b : Bool). refuse (run_tests (length table) (length ankr) start b)) t
 
-  pub run_refused : {why : Refusal} → check ≡ Refused why
+  pub run_refused : {why : Refusal} → check ≡ Err why
       → RanIs (run_call table ankr start rtl l along x y back choices) (Answer'.Refused why) 0 along x y back
   unfolding run_call
   run_refused f =
       rw (sym run_tested ∙ f) (record { plain = record { answers = refl; counts = refl; leaves = refl }; xs = refl; ys = refl; backs = refl })
 
-  pub run-passed : {bytes : List ℕ} {n i j k read : ℕ} {answer : Answer} {part px py : List ℤ} {pback : List ℕ} → check ≡ Passed → bytes ≡ list_bytes table start
+  pub run-passed : {bytes : List ℕ} {n i j k read : ℕ} {answer : Answer} {part px py : List ℤ} {pback : List ℕ} → check ≡ Ok tt → bytes ≡ list_bytes table start
       → n ≡ l.used → i ≡ l.used → j ≡ l.used → k ≡ l.used → answer ≡ walk_answer (walk_of kerx rtl bytes) → read ≡ length (visited (walk_of kerx rtl bytes))
       → part ≡ used_part (walk_of kerx rtl bytes) (adds kerx bytes (list_of bytes).version n choices) l.glyphs n
       → Wrote (run_marks ankr bytes rtl l.glyphs n choices) (zeros i) (zeros j) (nones k) px py pback
@@ -232,23 +176,3 @@ module _ (table ankr : List ℕ) (start : ℕ) (rtl : Bool) (l : Line) (along x 
         ys = ap (λ (q : List ℤ). q ++ drop l.used y) (w.ys ∙ ap₂ write_y g (ap zeros b));
         backs = ap (λ (q : List ℕ). q ++ drop l.used back) (w.backs ∙ ap₂ write_back g (ap nones c));
       })
-
--- a lone step
-module _ (table ankr : List ℕ) (start version : ℕ) (s : AnchorState) (used index glyph : ℕ) (along x y : List ℤ) (back : List ℕ) (reading : Reading) where
-  pub record StepIs (step : AnchorStep) (x' y' : List ℤ) (back' : List ℕ) : Type 0 where
-    pub steps : step ≡ step_call table ankr start version s used index glyph along x y back reading
-    pub wrote : Wrote (step_writes table ankr start version s used index glyph along x y back reading) x y back x' y' back'
-
-  pub step_is : {bytes body : List ℕ} {machine : Opened} {step : AnchorStep} {x' y' : List ℤ} {back' : List ℕ} → bytes ≡ drop start table → body ≡ drop 12 bytes
-      → machine ≡ machine_of bytes version reading → step ≡ Anchor'.step_call (length table) ankr body machine s used index glyph along x y back
-      → Wrote (Anchor'.step_writes (length table) ankr body machine s used index glyph along x y back) x y back x' y' back' → StepIs step x' y' back'
-  unfolding step_call step_writes
-  step_is {x' = x'} {y' = y'} {back' = back'} d b m e w =
-      let p = b ∙ ap (drop 12) d in
-      let q = m ∙ ap (λ (z : List ℕ). machine_of z version reading) d in
-      record {
-        steps = e ∙ ap₂ (λ (u : List ℕ) (v : Opened). Anchor'.step_call (length table) ankr u v s used index glyph along x y back) p q;
-        wrote =
-            subst (λ (ws : List Write). Wrote ws x y back x' y' back')
-            (ap₂ (λ (u : List ℕ) (v : Opened). Anchor'.step_writes (length table) ankr u v s used index glyph along x y back) p q) w;
-      }

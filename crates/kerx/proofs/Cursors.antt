@@ -1,4 +1,5 @@
 -- The walk of a list as its cursor repeated, in the places of the whole table.
+use Rattle.std.specs.Prelude.{Option, Some, None}
 use Prim.Native.Nat.{ℕ, ◌+◌, ◌%◌}
 use mathlib.Core.Path.{◌≡◌, refl, ap}
 use mathlib.Core.Bool.{Bool, true, false, not, cond}
@@ -8,14 +9,11 @@ use native.Mathlib.Omega.{arith}
 use lib.Dec.{ltb}
 use lib.ListN.{drop}
 use Rattle.parse.specs.Reads.{read_u32}
-use Rattle.parse.specs.declared.ReadU32.{ReadU32}
-use Rattle.parse.specs.declared.ReadU32.TheVariants as U32
 use Rattle.parse.proofs.Laws.{read_u32-short}
 use Rattle.laws.specs.Bits.{is_set}
 use Rattle.kerning_lists.specs.Walk.{list_bytes}
 use Rattle.kerning_lists.specs.Cursors.{followed, moved}
 use Rattle.kerning_lists.specs.declared.Subtable.{Subtable}
-use Rattle.kerning_lists.specs.declared.Head.TheVariants.{At}
 use Rattle.kerning_lists.proofs.Cursors.{map_head, heads_mapped}
 use Rattle.kerning_lists.specs.Family.{head_at, walk_of, list_from, next_subtable}
 use Rattle.kerning_lists.specs.declared.ListHead.{ListHead}
@@ -28,13 +26,13 @@ head-moved : (version before at : ℕ) (part : List ℕ) → head_in false versi
 unfolding head_in subtable_of
 head-moved version before at part = go (ltb version 4) (read_u32 part 0) (read_u32 part 4) (read_u32 part 8) refl refl refl refl
   where
-    go : (t : Bool) (a b c : ReadU32) → ltb version 4 ≡ t → read_u32 part 0 ≡ a → read_u32 part 4 ≡ b → read_u32 part 8 ≡ c
+    go : (t : Bool) (a b c : Option ℕ) → ltb version 4 ≡ t → read_u32 part 0 ≡ a → read_u32 part 4 ≡ b → read_u32 part 8 ≡ c
         → head_in false version (before + at) part ≡ map_head (moved before) (head_in false version at part)
-    go true (U32.Got size) (U32.Got coverage) c p e f g = rw (p, e, f, head_in, subtable_of, add_assoc before at size)
-    go false (U32.Got size) (U32.Got coverage) (U32.Got tuples) p e f g = rw (p, e, f, g, head_in, subtable_of, add_assoc before at size)
-    go false (U32.Got size) (U32.Got coverage) U32.Short p e f g = rw (p, e, f, g, head_in)
-    go t (U32.Got size) U32.Short c p e f g = rw (e, f, head_in)
-    go t U32.Short b c p e f g = rw (e, head_in)
+    go true (Some size) (Some coverage) c p e f g = rw (p, e, f, head_in, subtable_of, add_assoc before at size)
+    go false (Some size) (Some coverage) (Some tuples) p e f g = rw (p, e, f, g, head_in, subtable_of, add_assoc before at size)
+    go false (Some size) (Some coverage) None p e f g = rw (p, e, f, g, head_in)
+    go t (Some size) None c p e f g = rw (e, f, head_in)
+    go t None b c p e f g = rw (e, head_in)
 
 none-counted : (list_of []).count ≡ 0
 unfolding list_of
@@ -62,15 +60,15 @@ head-turned : (version at : ℕ) (part : List ℕ) → head_in true version at p
 unfolding head_in subtable_of
 head-turned version at part = go (ltb version 4) (read_u32 part 0) (read_u32 part 4) (read_u32 part 8) refl refl refl refl
   where
-    go : (t : Bool) (a b c : ReadU32) → ltb version 4 ≡ t → read_u32 part 0 ≡ a → read_u32 part 4 ≡ b → read_u32 part 8 ≡ c
+    go : (t : Bool) (a b c : Option ℕ) → ltb version 4 ≡ t → read_u32 part 0 ≡ a → read_u32 part 4 ≡ b → read_u32 part 8 ≡ c
         → head_in true version at part ≡ map_head turned_round (head_in false version at part)
-    go true (U32.Got size) (U32.Got coverage) c p e f g =
-        rw (p, e, f, head_in) (ap (λ (s : Subtable). At s) (subtable-turned at size coverage))
-    go false (U32.Got size) (U32.Got coverage) (U32.Got tuples) p e f g =
-        rw (p, e, f, g, head_in) (ap (λ (s : Subtable). At s) (subtable-turned at size coverage))
-    go false (U32.Got size) (U32.Got coverage) U32.Short p e f g = rw (p, e, f, g, head_in)
-    go t (U32.Got size) U32.Short c p e f g = rw (e, f, head_in)
-    go t U32.Short b c p e f g = rw (e, head_in)
+    go true (Some size) (Some coverage) c p e f g =
+        rw (p, e, f, head_in) (ap (λ (s : Subtable). Some s) (subtable-turned at size coverage))
+    go false (Some size) (Some coverage) (Some tuples) p e f g =
+        rw (p, e, f, g, head_in) (ap (λ (s : Subtable). Some s) (subtable-turned at size coverage))
+    go false (Some size) (Some coverage) None p e f g = rw (p, e, f, g, head_in)
+    go t (Some size) None c p e f g = rw (e, f, head_in)
+    go t None b c p e f g = rw (e, head_in)
 
 pub walk-turned : (bytes : List ℕ) → walk_of kerx true bytes ≡ map turned_round (walk_of kerx false bytes)
 unfolding walk_of list_of

@@ -1,5 +1,4 @@
 -- Laws of the kerx table.
-mod Heads
 mod Works
 mod Goes
 pub mod Cursors
@@ -8,7 +7,6 @@ mod Written
 mod Anchoring
 mod Marking
 mod Called
-mod Indexing
 pub mod SameIndex
 pub mod Plain
 pub mod ManualMarks

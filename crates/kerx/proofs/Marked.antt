@@ -1,4 +1,7 @@
 -- What anchored calls write is exact, and what a run leaves is in range.
+use Rattle.std.specs.Prelude.{Option, Some, None, Result, Ok, Err}
+use Rattle.state_tables.specs.declared.States.{States}
+use Rattle.answers.specs.declared.Refusal.{Refusal}
 use Prim.Native.Nat.{ℕ, ◌/◌, ◌%◌, ◌<◌, ◌≤◌}
 use mathlib.Core.Path.{◌≡◌, refl, sym, ◌∙◌, ap, subst}
 use mathlib.Core.Bool.{Bool, true, false, cond}
@@ -16,30 +19,23 @@ use Rattle.laws.proofs.Numbers.{eq-or-ne}
 use Rattle.answers.specs.Refuse.{refuse}
 use Rattle.answers.specs.declared.Answer.TheVariants as Answer'
 use Rattle.answers.specs.declared.Refusal.TheVariants as Refusal'
-use Rattle.answers.specs.declared.Check.{Check}
-use Rattle.answers.specs.declared.Check.TheVariants as Check'
 use Rattle.parse.specs.Reads.{read_u32}
 use Rattle.parse.specs.Use.{on_u32}
-use Rattle.parse.specs.declared.ReadU32.{ReadU32}
-use Rattle.parse.specs.declared.ReadU32.TheVariants as U32
 use Rattle.tables.specs.declared.units.Reading.{Reading}
 use Rattle.state_tables.specs.States.{extended_by}
-use Rattle.state_tables.specs.declared.Made.{Made}
-use Rattle.state_tables.specs.declared.Made.TheVariants as Made'
 use Rattle.line.specs.Line.{Line}
 use Rattle.kerning.specs.declared.choices.Choices.{Choices}
 use Rattle.kerx_machine.specs.Machine.{body_of, is_tupled}
 use Rattle.anchor_machine.specs.Writes.{Write, write_all}
 use Rattle.anchor_machine.specs.Machine as Anchor'
 use Rattle.anchor_machine.specs.Exact.{ExactWrite, EachWrite}
-use Rattle.anchor_machine.specs.declared.Opened.TheVariants as Opened'
+use Rattle.kerning.specs.Heads.{barred}
+use Rattle.kerning.specs.declared.heads.Unready.TheVariants.{Short}
 use Rattle.anchor_machine.proofs.Exactly.{each_append, pass-exact}
 use Rattle.kerning_lists.specs.Walk.{on_head, visited}
 use Rattle.kerning_lists.specs.Run.{zeros}
 use Rattle.kerning_lists.specs.Family.{walk_of}
 use Rattle.kerning_lists.specs.declared.Subtable.{Subtable}
-use Rattle.kerning_lists.specs.declared.Head.{Head}
-use Rattle.kerning_lists.specs.declared.Head.TheVariants as Head'
 use Rattle.kerx.specs.Heads.{head_in, list_of}
 use Rattle.kerx.specs.Kerx.{worked, kerx}
 use Rattle.kerx.specs.Range.{InRange}
@@ -50,25 +46,25 @@ module _ (ankr body : List ℕ) (glyphs : List ℕ) (used : ℕ) where
   abbrev Fine : Reading → List Write → Type 0
   Fine reading = EachWrite (ExactWrite ankr reading glyphs used)
 
-  opened_fine : (reading : Reading) (tupled : Bool) → Fine reading (Anchor'.worked_by ankr body (Anchor'.barred tupled (Anchor'.opened reading body)) glyphs used).writes
-  unfolding Anchor'.opened Anchor'.barred Anchor'.worked_by
+  opened_fine : (reading : Reading) (tupled : Bool) → Fine reading (Anchor'.worked_by ankr body (barred tupled (Anchor'.opened reading body)) glyphs used).writes
+  unfolding Anchor'.opened barred Anchor'.worked_by
   opened_fine reading tupled = go (extended_by reading body) (read_u32 body 16) tupled
     where
-      go : (made : Made) (flags : ReadU32) (t : Bool)
+      go : (made : Option States) (flags : Option ℕ) (t : Bool)
           → Fine reading
           (Anchor'.worked_by ankr body
-          (Anchor'.barred t
+          (barred t
           (Anchor'.on_made made
-          (λ states. on_u32 flags (λ n. Opened'.Ready (record { states = states; reading = reading; action = n / 0x40000000; control = n % 0x1000000 })) Opened'.Short)
-          Opened'.Short))
+          (λ states. on_u32 flags (λ n. Ok (record { states = states; reading = reading; action = n / 0x40000000; control = n % 0x1000000 })) (Err Short))
+          (Err Short)))
           glyphs used).writes
-      go (Made'.Ready states) (U32.Got n) false =
+      go (Some states) (Some n) false =
           pass-exact ankr body (record { states = states; reading = reading; action = n / 0x40000000; control = n % 0x1000000 }) glyphs used
-      go (Made'.Ready states) (U32.Got n) true = tt
-      go (Made'.Ready states) U32.Short false = tt
-      go (Made'.Ready states) U32.Short true = tt
-      go Made'.Short flags false = tt
-      go Made'.Short flags true = tt
+      go (Some states) (Some n) true = tt
+      go (Some states) None false = tt
+      go (Some states) None true = tt
+      go None flags false = tt
+      go None flags true = tt
 
 -- each write of a pass is exact
 module _ (ankr bytes : List ℕ) (version : ℕ) (glyphs : List ℕ) (used : ℕ) (choices : Choices) where
@@ -77,7 +73,7 @@ module _ (ankr bytes : List ℕ) (version : ℕ) (glyphs : List ℕ) (used : ℕ
   worked-exact format = go (eqb format 4)
     where
       go : (t : Bool) → EachWrite (ExactWrite ankr choices.reading glyphs used)
-          (cond t (writing (Anchor'.worked_by ankr (body_of bytes) (Anchor'.barred (is_tupled bytes version choices.reading) (Anchor'.opened choices.reading (body_of bytes))) glyphs used))
+          (cond t (writing (Anchor'.worked_by ankr (body_of bytes) (barred (is_tupled bytes version choices.reading) (Anchor'.opened choices.reading (body_of bytes))) glyphs used))
           (adding (worked bytes version format glyphs used choices))).writes
       go true = opened_fine ankr (body_of bytes) glyphs used choices.reading (is_tupled bytes version choices.reading)
       go false = tt
@@ -86,10 +82,10 @@ module _ (ankr bytes : List ℕ) (version : ℕ) (glyphs : List ℕ) (used : ℕ
   unfolding passed_with
   passed-exact = go (head_in false version 0 bytes)
     where
-      go : (head : Head) → EachWrite (ExactWrite ankr choices.reading glyphs used)
+      go : (head : Option Subtable) → EachWrite (ExactWrite ankr choices.reading glyphs used)
           (on_head head (λ s. worked_with ankr bytes version s.format glyphs used choices) (neither (Answer'.Refused Refusal'.Head))).writes
-      go (Head'.At s) = worked-exact s.format
-      go Head'.Cut = tt
+      go (Some s) = worked-exact s.format
+      go None = tt
 
 pub call_exact : (table ankr : List ℕ) (start version : ℕ) (l : Line) (along x y : List ℤ) (back : List ℕ) (choices : Choices)
     → EachWrite (ExactWrite ankr choices.reading l.glyphs l.used) (pass_call table ankr start version l along x y back choices).writes
@@ -97,10 +93,10 @@ unfolding pass_call
 call_exact table ankr start version l along x y back choices =
     go (refuse (pass_tests (length table) (length ankr) (takes_pass l along x y back)))
   where
-    go : (c : Check) → EachWrite (ExactWrite ankr choices.reading l.glyphs l.used)
+    go : (c : Result Unit Refusal) → EachWrite (ExactWrite ankr choices.reading l.glyphs l.used)
         (marked_by c (passed_with ankr (drop start table) version l.glyphs l.used choices)).writes
-    go Check'.Passed = passed-exact ankr (drop start table) version l.glyphs l.used choices
-    go (Check'.Refused why) = tt
+    go (Ok tt) = passed-exact ankr (drop start table) version l.glyphs l.used choices
+    go (Err why) = tt
 
 -- what holds of each write of a run
 record Small (w : Write) : Type 0 where

@@ -1,11 +1,12 @@
 -- The loop of a run with the three slices beside the adjustments: what is written so far, and what the subtables ahead write.
+use Rattle.std.specs.Prelude.{Option, Some, None}
 use Prim.Native.Nat.{ℕ, zero, suc, ◌+◌, ◌-◌, ◌<◌, ◌≤◌, ◌^◌}
 use mathlib.Core.Path.{◌≡◌, refl, sym, ◌∙◌, ap, ap₂, subst}
-use mathlib.Core.Bool.{Bool, true, false}
+use mathlib.Core.Bool.{Bool}
 use mathlib.Core.List.{List, [], ◌∷◌, ◌++◌, append_assoc, append-nil}
 use native.Mathlib.Omega.{arith}
 use lib.IntN.{ℤ, pos}
-use lib.ListN.{length, take, drop}
+use lib.ListN.{length, take}
 use Rattle.laws.specs.Backward.{backward}
 use Rattle.laws.proofs.Backward.{length-backward}
 use Rattle.laws.proofs.Lists.{length-tab}
@@ -20,8 +21,6 @@ use Rattle.kerning_lists.specs.Run.{zeros, contribution}
 use Rattle.kerning_lists.specs.Family.{head_at, walk_of, adds}
 use Rattle.kerning_lists.specs.declared.ListHead.{ListHead}
 use Rattle.kerning_lists.specs.declared.Subtable.{Subtable}
-use Rattle.kerning_lists.specs.declared.Head.{Head}
-use Rattle.kerning_lists.specs.declared.Head.TheVariants.{At, Cut}
 use Rattle.kerning_lists.proofs.Runs.{run_small}
 use Rattle.kerning_lists.proofs.Turns.{length-zeros}
 use Rattle.kerx.specs.Heads.{list_of}
@@ -85,41 +84,17 @@ module _ {used : ℕ} {x y : List ℤ} {back : List ℕ} (l : Lent used x y back
           backs = turned-back 0 (λ (w : Write). w.back) used (λ w. refl) all back some_back k v.backs c;
         }
 
--- the visit of a subtable
-module _ (ankr bytes : List ℕ) (version used : ℕ) (choices : Choices) (glyphs : List ℕ) (s : Subtable) (x y : List ℤ) (back : List ℕ) where
-  abbrev here : List Write
-  here = marking (marks ankr bytes version used choices) glyphs used s
-
-  pub marks-none : s.passed_over ≡ true → Wrote here x y back x y back
-  unfolding marking
-  marks-none o = rw o (wrote_none x y back)
-
-  module _ {part : List ℕ} {x' y' : List ℤ} {back' : List ℕ} (o : s.passed_over ≡ false) (d : part ≡ drop s.body bytes) where
-    pub marks-plain : s.turned ≡ false → Wrote (worked_with ankr part version s.format glyphs used choices).writes x y back x' y' back'
-        → Wrote here x y back x' y' back'
-    unfolding marking
-    marks-plain t w =
-        rw (o, t) (subst (λ (p : List ℕ). Wrote (worked_with ankr p version s.format glyphs used choices).writes x y back x' y' back') d w)
-
-    pub marks-turned : s.turned ≡ true
-        → Wrote (turned_marks used (worked_with ankr part version s.format (backward used glyphs) used choices).writes) x y back x' y' back'
-        → Wrote here x y back x' y' back'
-    unfolding marking
-    marks-turned t w =
-        rw (o, t)
-        (subst (λ (p : List ℕ). Wrote (turned_marks used (worked_with ankr p version s.format (backward used glyphs) used choices).writes) x y back x' y' back') d w)
-
 -- what is ahead of a walk, of which so many heads are read
-module _ (head_at : ℕ → Head) where
+module _ (head_at : ℕ → Option Subtable) where
   abbrev ahead : (read left at : ℕ) → List Subtable
   ahead read left at = take (head_limit - read) (heads_from head_at left at)
 
-  ahead_next : (read left at : ℕ) {s : Subtable} → 0 < left → head_at at ≡ At s → read < head_limit → ahead read left at ≡ s ∷ ahead (read + 1) (left - 1) s.next
+  ahead_next : (read left next at : ℕ) {s : Subtable} → next + 1 ≡ left → head_at at ≡ Some s → read < head_limit → ahead read left at ≡ s ∷ ahead (read + 1) next s.next
   unfolding heads_from
-  ahead_next read zero at h e k = absurd (omega arith)
-  ahead_next read (suc left) at {s} h e k =
+  ahead_next read zero next at h e k = absurd (omega arith)
+  ahead_next read (suc left) next at {s} h e k =
       let n : head_limit - read ≡ suc (head_limit - (read + 1)) = omega arith in
-      let m : suc left - 1 ≡ left = omega arith in
+      let m : left ≡ next = omega arith in
       rw (e, n, m, heads_from)
 
   take_none : (m : ℕ) → take {A = Subtable} m [] ≡ []
@@ -129,7 +104,7 @@ module _ (head_at : ℕ → Head) where
   ahead_limit : (read left at : ℕ) → read ≡ head_limit → ahead read left at ≡ []
   ahead_limit read left at e = let n : head_limit - read ≡ 0 = omega arith in ap (λ (m : ℕ). take m (heads_from head_at left at)) n
 
-  ahead_cut : (read left at : ℕ) → head_at at ≡ Cut → ahead read left at ≡ []
+  ahead_cut : (read left at : ℕ) → head_at at ≡ None → ahead read left at ≡ []
   unfolding heads_from
   ahead_cut read zero at e = take_none (head_limit - read)
   ahead_cut read (suc left) at e = rw (e, heads_from) (take_none (head_limit - read))
@@ -139,7 +114,7 @@ module _ (head_at : ℕ → Head) where
   ahead_done read left at h = let z : left ≡ 0 = omega arith in ap (λ (n : ℕ). ahead read n at) z ∙ take_none (head_limit - read)
 
 module _ (ankr bytes : List ℕ) (list : ListHead) (rtl : Bool) (glyphs : List ℕ) (used : ℕ) (choices : Choices) (x₀ y₀ : List ℤ) (back₀ : List ℕ) where
-  abbrev heads : ℕ → Head
+  abbrev heads : ℕ → Option Subtable
   heads = head_at kerx rtl bytes list.version
 
   abbrev whole : List Subtable
@@ -154,24 +129,27 @@ module _ (ankr bytes : List ℕ) (list : ListHead) (rtl : Bool) (glyphs : List �
     pub wrote : Wrote done x₀ y₀ back₀ x y back
     pub all : done ++ markings work glyphs used (ahead heads read left at) ≡ markings work glyphs used (visited whole)
 
-  pub marking-start : Marking x₀ y₀ back₀ 0 list.count list.first
+  pub marking-start : Marking x₀ y₀ back₀ 0 (list.count - 0) list.first
   unfolding visited
   marking-start =
-      let n : head_limit - 0 ≡ head_limit = omega arith in
-      record { done = []; wrote = wrote_none x₀ y₀ back₀; all = ap (λ (m : ℕ). markings work glyphs used (take m whole)) n }
+      record {
+        done = [];
+        wrote = wrote_none x₀ y₀ back₀;
+        all = ap₂ (λ (m n : ℕ). markings work glyphs used (take m (heads_from heads n list.first))) (omega arith) (omega arith);
+      }
 
   module _ {x y : List ℤ} {back : List ℕ} {read left at : ℕ} (m : Marking x y back read left at) where
-    pub marking-next : {s : Subtable} {x' y' : List ℤ} {back' : List ℕ} → 0 < left → heads at ≡ At s → read < head_limit
-        → Wrote (marking work glyphs used s) x y back x' y' back' → Marking x' y' back' (read + 1) (left - 1) s.next
+    pub marking-next : {s : Subtable} {x' y' : List ℤ} {back' : List ℕ} (next : ℕ) → next + 1 ≡ left → heads at ≡ Some s → read < head_limit
+        → Wrote (marking work glyphs used s) x y back x' y' back' → Marking x' y' back' (read + 1) next s.next
     unfolding markings
-    marking-next {s} h e k w =
-        let rest : List Write = markings work glyphs used (ahead heads (read + 1) (left - 1) s.next) in
+    marking-next {s} next h e k w =
+        let rest : List Write = markings work glyphs used (ahead heads (read + 1) next s.next) in
         record {
           done = m.done ++ marking work glyphs used s;
           wrote = wrote_more m.wrote w;
           all =
               append_assoc m.done (marking work glyphs used s) rest
-              ∙ ap (λ (ss : List Subtable). m.done ++ markings work glyphs used ss) (sym (ahead_next heads read left at h e k))
+              ∙ ap (λ (ss : List Subtable). m.done ++ markings work glyphs used ss) (sym (ahead_next heads read left next at h e k))
               ∙ m.all;
         }
 
@@ -185,7 +163,7 @@ module _ (ankr bytes : List ℕ) (list : ListHead) (rtl : Bool) (glyphs : List �
     pub marking-limit : read ≡ head_limit → Wrote (markings work glyphs used (visited whole)) x₀ y₀ back₀ x y back
     marking-limit e = ends (ahead_limit heads read left at e)
 
-    pub marking-cut : heads at ≡ Cut → Wrote (markings work glyphs used (visited whole)) x₀ y₀ back₀ x y back
+    pub marking-cut : heads at ≡ None → Wrote (markings work glyphs used (visited whole)) x₀ y₀ back₀ x y back
     marking-cut e = ends (ahead_cut heads read left at e)
 
     pub marking-done : left ≤ 0 → Wrote (markings work glyphs used (visited whole)) x₀ y₀ back₀ x y back
@@ -197,23 +175,23 @@ module _ (ankr bytes : List ℕ) (list : ListHead) (rtl : Bool) (glyphs₀ tags�
     pub plain : Going bytes list rtl glyphs₀ tags₀ used along₀ choices glyphs tags along read left at
     pub beside : Marking ankr bytes list rtl glyphs₀ used choices x₀ y₀ back₀ x y back read left at
 
-  pub on-start : Within 0 along₀ → GoingOn glyphs₀ tags₀ along₀ x₀ y₀ back₀ 0 list.count list.first
+  pub on-start : Within 0 along₀ → GoingOn glyphs₀ tags₀ along₀ x₀ y₀ back₀ 0 (list.count - 0) list.first
   on-start w =
       record {
         plain = going_start bytes list rtl glyphs₀ tags₀ used along₀ choices w;
         beside = marking-start ankr bytes list rtl glyphs₀ used choices x₀ y₀ back₀;
       }
 
-  pub on-next : {glyphs tags glyphs' tags' : List ℕ} {along x y after x' y' : List ℤ} {back back' : List ℕ} {read left at : ℕ} {s : Subtable}
-      → GoingOn glyphs tags along x y back read left at → used ≤ room_limit → used ≤ length along₀ → 0 < left → head_at kerx rtl bytes list.version at ≡ At s → read < head_limit
+  pub on-next : {glyphs tags glyphs' tags' : List ℕ} {along x y after x' y' : List ℤ} {back back' : List ℕ} {read left at : ℕ} {s : Subtable} (next : ℕ)
+      → GoingOn glyphs tags along x y back read left at → used ≤ room_limit → used ≤ length along₀ → next + 1 ≡ left → head_at kerx rtl bytes list.version at ≡ Some s → read < head_limit
       → glyphs' ≡ glyphs → tags' ≡ tags → after ≡ add_all (contribution (adds kerx bytes list.version used choices) glyphs used s) along
       → Wrote (marking (marks ankr bytes list.version used choices) glyphs used s) x y back x' y' back'
-      → GoingOn glyphs' tags' after x' y' back' (read + 1) (left - 1) s.next
-  on-next {x = x} {y = y} {x' = x'} {y' = y'} {back = back} {back' = back'} {s = s} g small fits h e k p q a w =
+      → GoingOn glyphs' tags' after x' y' back' (read + 1) next s.next
+  on-next {x = x} {y = y} {x' = x'} {y' = y'} {back = back} {back' = back'} {s = s} next g small fits h e k p q a w =
       record {
-        plain = going_next bytes list rtl glyphs₀ tags₀ used along₀ choices g.plain small fits h e k p q a;
+        plain = going_next bytes list rtl glyphs₀ tags₀ used along₀ choices next g.plain small fits h e k p q a;
         beside =
-            marking-next ankr bytes list rtl glyphs₀ used choices x₀ y₀ back₀ g.beside h e k
+            marking-next ankr bytes list rtl glyphs₀ used choices x₀ y₀ back₀ g.beside next h e k
             (subst (λ (gs : List ℕ). Wrote (marking (marks ankr bytes list.version used choices) gs used s) x y back x' y' back') g.plain.same_glyphs w);
       }
 

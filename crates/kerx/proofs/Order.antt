@@ -1,4 +1,5 @@
 -- The order of a list's subtables does not matter to kerning, where each reads and tries nothing but its own bytes.
+use Rattle.std.specs.Prelude.{Option, Some, None}
 use Prim.Native.Nat.{ℕ, suc, ◌+◌, ◌<◌}
 use mathlib.Core.Path.{◌≡◌, refl, sym, ◌∙◌, ap, ap₂, subst}
 use mathlib.Core.Bool.{Bool, true, false, cond}
@@ -9,7 +10,6 @@ use lib.ListN.{length, get_or, drop, length-append}
 use lib.Seq.{take_all, drop-drop, drop-append_seam, ext_get_or}
 use Rattle.laws.specs.Backward.{backward}
 use Rattle.parse.specs.Reads.{u32_at}
-use Rattle.parse.specs.declared.ReadU32.TheVariants as U32
 use Rattle.parse.proofs.Behind.{Begins, begins-joined}
 use Rattle.answers.specs.Limits.{head_limit}
 use Rattle.line.specs.Line.{Line}
@@ -21,8 +21,6 @@ use Rattle.kerning_lists.specs.Walk.{on_head, list_bytes, heads_from, visited}
 use Rattle.kerning_lists.specs.Run.{zeros, turned_back, contribution, contributions, used_part, ran_over}
 use Rattle.kerning_lists.specs.Family.{head_at, walk_of, adds, ran, run_call}
 use Rattle.kerning_lists.specs.declared.Subtable.{Subtable}
-use Rattle.kerning_lists.specs.declared.Head.{Head}
-use Rattle.kerning_lists.specs.declared.Head.TheVariants.{At}
 use Rattle.kerx.specs.Heads.{subtable_of, head_in, list_of}
 use Rattle.kerx.specs.Kerx.{worked, kerx}
 use Rattle.kerx.specs.Inside.{worked_on, WorkInside, ReadsInside}
@@ -90,11 +88,11 @@ as_many (exchanged before a b behind r) =
 
 -- A subtable's contribution is its own, wherever it stands.
 module _ (rtl : Bool) (version : ℕ) (glyphs : List ℕ) (used : ℕ) (choices : Choices) where
-  alone_is : (part : List ℕ) {s : Subtable} → head_in rtl version 0 part ≡ At s → alone rtl version glyphs used choices part ≡ contribution (adds kerx part version used choices) glyphs used s
+  alone_is : (part : List ℕ) {s : Subtable} → head_in rtl version 0 part ≡ Some s → alone rtl version glyphs used choices part ≡ contribution (adds kerx part version used choices) glyphs used s
   unfolding alone
   alone_is part e = rw e
 
-  module _ {own whole : List ℕ} (b : Begins own whole) (not : tuples_of own version ≡ U32.Short → ⊥) (format : ℕ) where
+  module _ {own whole : List ℕ} (b : Begins own whole) (not : tuples_of own version ≡ None → ⊥) (format : ℕ) where
     visit_stays : (over turned : Bool)
         → (over ≡ false → is_tupled own version choices.reading ≡ false → WorkInside own version format (worked_on turned glyphs used) used choices)
         → cond over [] (cond turned (turned_back used (worked whole version format (backward used glyphs) used choices).additions) (worked whole version format glyphs used choices).additions)
@@ -115,7 +113,7 @@ module _ (rtl : Bool) (version : ℕ) (glyphs : List ℕ) (used : ℕ) (choices 
       (λ (x : Subtable). x.passed_over ≡ false → is_tupled part version choices.reading ≡ false
       → WorkInside part version x.format (worked_on x.turned glyphs used) used choices)
       h.is inside.work in
-      visit_stays b h.tuples s.format s.passed_over s.turned work ∙ sym (alone_is part (inside.head ∙ ap At h.is))
+      visit_stays b h.tuples s.format s.passed_over s.turned work ∙ sym (alone_is part (inside.head ∙ ap Some h.is))
 
   -- so a walk's contributions are those of its subtables, each alone
   module _ (bytes behind : List ℕ) where
@@ -142,7 +140,7 @@ module _ (rtl : Bool) (version : ℕ) (glyphs : List ℕ) (used : ℕ) (choices 
       read : HeadRead rtl version part inside.subtable
       read = head_read rtl version part inside.head
 
-      there : head_at kerx rtl bytes version at ≡ At (subtable_of rtl at (u32_at part 0) read.coverage)
+      there : head_at kerx rtl bytes version at ≡ Some (subtable_of rtl at (u32_at part 0) read.coverage)
       there =
           let e = read.elsewhere at in
           head_stays begins rtl version at (λ p. let z : ◌≡◌ {A = ℕ} 0 1 = cc in omega arith) ∙ e
@@ -153,7 +151,7 @@ module _ (rtl : Bool) (version : ℕ) (glyphs : List ℕ) (used : ℕ) (choices 
       walk-on : walk_at (suc (length parts)) at ≡ subtable_of rtl at (u32_at part 0) read.coverage ∷ walk_at (length parts) (at + length part)
       unfolding heads_from subtable_of
       walk-on =
-          ap (λ (x : Head). on_head x (λ s. s ∷ walk_at (length parts) s.next) []) there
+          ap (λ (x : Option Subtable). on_head x (λ s. s ∷ walk_at (length parts) s.next) []) there
           ∙ ap (λ (n : ℕ). subtable_of rtl at (u32_at part 0) read.coverage ∷ walk_at (length parts) (at + n)) stated
 
       walked_more : Walked parts (at + length part) → Walked (part ∷ parts) at

@@ -1,5 +1,7 @@
 -- Anchors change nothing else: an anchored run answers, counts and adjusts as a run without them does, whatever the ankr table, and an anchored pass by
 -- a subtable of another format is the pass without them.
+use Rattle.std.specs.Prelude.{Option, Some, None, Result, Ok, Err}
+use Rattle.answers.specs.declared.Refusal.{Refusal}
 use Prim.Native.Nat.{ℕ, ◌≤◌}
 use mathlib.Core.Path.{◌≡◌, refl}
 use mathlib.Core.Bool.{Bool, true, false}
@@ -9,8 +11,6 @@ use lib.ListN.{length, drop}
 use borrow.Author.Tests.{ne_eqb, le-ltb}
 use Rattle.answers.specs.Limits.{table_limit}
 use Rattle.answers.specs.Refuse.{refuse}
-use Rattle.answers.specs.declared.Check.{Check}
-use Rattle.answers.specs.declared.Check.TheVariants.{Passed, Refused}
 use Rattle.line.specs.Line.{Line}
 use Rattle.kerning.specs.Additions.{Kerned, called_by}
 use Rattle.kerning.specs.Line.{is_kernable, is_taken, kernable_test, taken_test, kerning_tests}
@@ -23,8 +23,6 @@ use Rattle.kerning_lists.specs.Run as Run'
 use Rattle.kerning_lists.specs.Family.{ran, passed}
 use Rattle.kerning_lists.specs.Family as Family'
 use Rattle.kerning_lists.specs.declared.Subtable.{Subtable}
-use Rattle.kerning_lists.specs.declared.Head.{Head}
-use Rattle.kerning_lists.specs.declared.Head.TheVariants.{At, Cut}
 use Rattle.kerx.specs.Heads.{head_in}
 use Rattle.kerx.specs.Kerx.{kerx}
 use Rattle.kerx.specs.Anchored.{adding, worked_with, passed_with, pass_tests, marked_by, takes_pass, pass_call, ran_with, run_tests, takes_run, ran_unless_refused, run_call}
@@ -47,11 +45,11 @@ module _ (table ankr : List ℕ) (start : ℕ) (l : Line) (along x y : List ℤ)
   unfolding run_call ran_with Family'.run_call
   anchored-run rtl = rw run_tests_lem (go (refuse (Run'.run_tests (length table) start l along)))
     where
-      go : (check : Check)
+      go : (check : Result Unit Refusal)
           → (ran_unless_refused check along x y back (ran_with ankr (list_bytes table start) rtl l.glyphs l.used along x y back choices)).ran
           ≡ unless_refused check along (ran kerx (list_bytes table start) rtl l.glyphs l.used along choices)
-      go Passed = refl
-      go (Refused why) = refl
+      go (Ok tt) = refl
+      go (Err why) = refl
 
   pass_takes : takes_pass l along x y back ≡ is_taken l along
   unfolding takes_pass
@@ -62,15 +60,15 @@ module _ (table ankr : List ℕ) (start : ℕ) (l : Line) (along x y : List ℤ)
   pass_tests_lem = rw (short-enough, pass_takes)
 
   -- by a subtable whose head can't be read or tells another format
-  module _ (version : ℕ) (other : (s : Subtable) → head_in false version 0 (drop start table) ≡ At s → s.format ≡ 4 → ⊥) where
+  module _ (version : ℕ) (other : (s : Subtable) → head_in false version 0 (drop start table) ≡ Some s → s.format ≡ 4 → ⊥) where
     worked_same : passed_with ankr (drop start table) version l.glyphs l.used choices ≡ adding (passed kerx (drop start table) version l.glyphs l.used choices)
     unfolding passed_with passed worked_with
     worked_same = go (head_in false version 0 (drop start table)) refl
       where
-        go : (head : Head) → head_in false version 0 (drop start table) ≡ head
+        go : (head : Option Subtable) → head_in false version 0 (drop start table) ≡ head
             → passed_with ankr (drop start table) version l.glyphs l.used choices ≡ adding (passed kerx (drop start table) version l.glyphs l.used choices)
-        go (At s) e = rw (e, ne_eqb s.format 4 (other s e))
-        go Cut e = rw e
+        go (Some s) e = rw (e, ne_eqb s.format 4 (other s e))
+        go None e = rw e
 
     pub anchored-pass : pass_call table ankr start version l along x y back choices ≡ adding (Family'.pass_call kerx table start version l along choices)
     unfolding pass_call Family'.pass_call
@@ -78,6 +76,6 @@ module _ (table ankr : List ℕ) (start : ℕ) (l : Line) (along x y : List ℤ)
         rw (pass_tests_lem, worked_same)
         (go (refuse (kerning_tests (length table) l along)) (passed kerx (drop start table) version l.glyphs l.used choices))
       where
-        go : (check : Check) (work : Kerned) → marked_by check (adding work) ≡ adding (called_by check work)
-        go Passed work = refl
-        go (Refused why) work = refl
+        go : (check : Result Unit Refusal) (work : Kerned) → marked_by check (adding work) ≡ adding (called_by check work)
+        go (Ok tt) work = refl
+        go (Err why) work = refl

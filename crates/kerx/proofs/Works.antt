@@ -7,22 +7,16 @@ use native.Mathlib.Omega.{arith}
 use lib.Dec.{eqb}
 use lib.IntN.{ℤ, pos}
 use lib.ListN.{length}
-use borrow.Author.Tests.{eq-eqb, ne_eqb}
 use Rattle.answers.specs.Limits.{room_limit}
-use Rattle.answers.specs.declared.Answer.{Answer}
 use Rattle.answers.specs.declared.Answer.TheVariants as Answer'
 use Rattle.answers.specs.declared.Refusal.TheVariants as Refusal'
-use Rattle.tables.specs.declared.units.Reading.TheVariants.{Crate}
 use Rattle.kerning.specs.Additions.{Addition, add_all, nothing_added}
 use Rattle.kerning.specs.Bounds.{Within}
 use Rattle.kerning.specs.declared.choices.Choices.{Choices}
 use Rattle.kerning.proofs.Adding.{add_all-none, length-add_all, within_more}
-use Rattle.pairs.specs.Pairs.{ordered_kerx, classes_kerx, barred}
-use Rattle.pairs.specs.Reply.{reply_of}
+use Rattle.kerning.specs.Heads.{barred}
+use Rattle.pairs.specs.Pairs.{ordered_kerx, classes_kerx}
 use Rattle.pairs.specs.Pass as Pairs'
-use Rattle.pairs.specs.declared.Opened.{Opened}
-use Rattle.pairs.specs.declared.PairReply.{PairReply}
-use Rattle.pairs.specs.declared.PairReply.TheVariants as Reply'
 use Rattle.pairs.proofs.Passes as PairLaws
 use Rattle.kerx_machine.specs.Machine as Machine'
 use Rattle.kerx_machine.specs.Machine.{is_tupled}
@@ -31,41 +25,7 @@ use Rattle.kerning_lists.specs.Run.{turned_back}
 use Rattle.kerning_lists.proofs.Turns.{backward_twice, within-backward, turned_and_back}
 use Rattle.laws.proofs.Backward.{length-backward}
 use Rattle.laws.specs.Backward.{backward}
-use Rattle.kerning_lists.proofs.Calls.{Works, works_same, works_nothing}
-use Rattle.kerx.specs.Kerx.{worked, pair_by}
-
-module _ (bytes : List ℕ) (version format : ℕ) (glyphs : List ℕ) (used : ℕ) (choices : Choices) (before : List ℤ) where
-  abbrev tupled_here : Bool
-  tupled_here = is_tupled bytes version choices.reading
-
-  -- the pairs opened, where tuples are refused or not
-  barred_by : {tupled : Bool} {opened given : Opened} (pairs : Opened) → given ≡ barred tupled opened → tupled ≡ tupled_here → opened ≡ pairs → given ≡ barred tupled_here pairs
-  barred_by pairs g t o = g ∙ ap₂ barred t o
-
-  pub works_ordered : {tupled : Bool} {pairs opened : Opened} {answer : Answer} {after : List ℤ} → format ≡ 0 → opened ≡ barred tupled pairs → tupled ≡ tupled_here
-      → pairs ≡ ordered_kerx bytes → answer ≡ (Pairs'.worked_by bytes opened glyphs used choices.pairs).answer → after ≡ add_all (Pairs'.worked_by bytes opened glyphs used choices.pairs).additions before
-      → Works (worked bytes version format glyphs used choices) before answer after
-  unfolding worked
-  works_ordered z o t p a l =
-      works_same (ap (λ (x : Opened). Pairs'.worked_by bytes x glyphs used choices.pairs) (barred_by (ordered_kerx bytes) o t p) ∙ rw (eq-eqb format 0 z)) (record { answers = a; leaves = l })
-
-  pub works_machine : {answer : Answer} {after : List ℤ} → (format ≡ 0 → ⊥) → format ≡ 1 → answer ≡ (Machine'.worked bytes version glyphs used choices.reading).answer
-      → after ≡ add_all (Machine'.worked bytes version glyphs used choices.reading).additions before → Works (worked bytes version format glyphs used choices) before answer after
-  unfolding worked
-  works_machine n z a l = works_same (rw (ne_eqb format 0 n, eq-eqb format 1 z)) (record { answers = a; leaves = l })
-
-  pub works_classes : {tupled : Bool} {pairs opened : Opened} {answer : Answer} {after : List ℤ} → (format ≡ 0 → ⊥) → (format ≡ 1 → ⊥) → format ≡ 2
-      → opened ≡ barred tupled pairs → tupled ≡ tupled_here → pairs ≡ classes_kerx bytes choices.reading → answer ≡ (Pairs'.worked_by bytes opened glyphs used choices.pairs).answer
-      → after ≡ add_all (Pairs'.worked_by bytes opened glyphs used choices.pairs).additions before → Works (worked bytes version format glyphs used choices) before answer after
-  unfolding worked
-  works_classes n m z o t p a l =
-      works_same (ap (λ (x : Opened). Pairs'.worked_by bytes x glyphs used choices.pairs) (barred_by (classes_kerx bytes choices.reading) o t p) ∙ rw (ne_eqb format 0 n, ne_eqb format 1 m, eq-eqb format 2 z))
-      (record { answers = a; leaves = l })
-
-  pub works_none : (format ≡ 0 → ⊥) → (format ≡ 1 → ⊥) → (format ≡ 2 → ⊥)
-      → Works (worked bytes version format glyphs used choices) before (Answer'.Refused Refusal'.Head) before
-  unfolding worked
-  works_none n m k = works_nothing before (rw (ne_eqb format 0 n, ne_eqb format 1 m, ne_eqb format 2 k))
+use Rattle.kerx.specs.Kerx.{worked}
 
 -- whatever the format, little is added
 pub worked_little : (bytes : List ℕ) (version format : ℕ) (glyphs : List ℕ) (used : ℕ) (choices : Choices) (b : ℕ) (along : List ℤ) → used ≤ room_limit → Within b along
@@ -97,22 +57,6 @@ pub added-back : (used version format : ℕ) (part glyphs : List ℕ) (choices :
 added-back used version format part glyphs choices along h g e w f =
     f ∙ ap (backward used) (w ∙ ap₂ (λ (x : List ℕ) (y : List ℤ). add_all (worked part version format x used choices).additions y) g e)
     ∙ turned_and_back (worked part version format (backward used glyphs) used choices).additions used along h
-
--- the answer for a pair
-module _ (bytes : List ℕ) (version format left right : ℕ) where
-  pub pair_ordered : {opened : Opened} {reply : PairReply} → format ≡ 0 → opened ≡ ordered_kerx bytes → reply ≡ reply_of bytes opened left right
-      → reply ≡ pair_by bytes version format left right
-  unfolding pair_by
-  pair_ordered z o r = r ∙ ap (λ (x : Opened). reply_of bytes x left right) o ∙ rw (eq-eqb format 0 z)
-
-  pub pair_classes : {opened : Opened} {reply : PairReply} → (format ≡ 0 → ⊥) → format ≡ 2 → opened ≡ classes_kerx bytes Crate
-      → reply ≡ reply_of bytes opened left right → reply ≡ pair_by bytes version format left right
-  unfolding pair_by
-  pair_classes n z o r = r ∙ ap (λ (x : Opened). reply_of bytes x left right) o ∙ rw (ne_eqb format 0 n, eq-eqb format 2 z)
-
-  pub pair_other : (format ≡ 0 → ⊥) → (format ≡ 2 → ⊥) → Reply'.Refused Refusal'.Head ≡ pair_by bytes version format left right
-  unfolding pair_by
-  pair_other n m = rw (ne_eqb format 0 n, ne_eqb format 2 m)
 
 -- the line and the adjustments turned round may be worked on
 pub turned_ready : (used : ℕ) (glyphs : List ℕ) (along : List ℤ) {turned : List ℕ} {once : List ℤ} → turned ≡ backward used glyphs → once ≡ backward used along

@@ -1,5 +1,5 @@
 -- What is written by a run: zeroed, turned with the line, and written subtable after subtable.
-use Prim.Native.Nat.{ℕ, suc, ◌+◌, ◌-◌, ◌<◌, ◌≤◌}
+use Prim.Native.Nat.{ℕ, suc, ◌-◌, ◌<◌, ◌≤◌}
 use mathlib.Core.Path.{◌≡◌, refl, sym, ◌∙◌, ap}
 use mathlib.Core.List.{List, [], ◌∷◌}
 use mathlib.Core.Logic.{⊎_elim}
@@ -7,43 +7,18 @@ use native.Mathlib.Omega.{arith}
 use lib.ListN.{length, get_or, set, length-set}
 use lib.Seq.{get_or-set_same, get_or-set_other, ext_get_or}
 use Rattle.laws.specs.Backward.{backward}
-use Rattle.laws.specs.Lists.{tab}
 use Rattle.laws.proofs.Backward.{length-backward}
 use Rattle.laws.proofs.Choices.{if_lt_yes, if_lt_no}
-use Rattle.laws.proofs.Lists.{length-tab, get_d_tab}
 use Rattle.laws.proofs.Numbers.{lt-or-ge, eq-or-ne}
 use Rattle.kerning_lists.specs.Run.{mirrored}
-use Rattle.kerning_lists.proofs.Turns.{backward_twice, get_d_backward}
+use Rattle.std.proofs.Math.ListN.{replicate}
+use Rattle.kerning_lists.proofs.Turns.{backward_twice, get_d_backward, tab_same}
 use Rattle.anchor_machine.specs.Writes.{Write, write_all}
 use Rattle.kerx.specs.Anchored.{turned_marks, nones}
 
--- zeroing distances, place by place
-pub record Zeroing (n : ℕ) (after : List ℕ) (i : ℕ) : Type 0 where
-  pub within : i ≤ n
-  pub long : length after ≡ n
-  pub done : (k : ℕ) → k < i → get_or after k 0 ≡ 0
-
-module _ (n : ℕ) {after : List ℕ} {i : ℕ} (z : Zeroing n after i) where
-  pub zeroing_next : i < length after → Zeroing n (set after i 0) (i + 1)
-  zeroing_next h =
-      record {
-        within = omega (arith, z.long);
-        long = length-set after i 0 ∙ z.long;
-        done = λ k m.
-            ⊎_elim
-            (λ (e : k ≡ i). ap (λ (q : ℕ). get_or (set after i 0) q 0) e ∙ get_or-set_same after i 0 0 h)
-            (λ (ne : k ≡ i → ⊥). get_or-set_other after i k 0 0 ne ∙ z.done k (omega (arith, ne)))
-            (eq-or-ne k i);
-      }
-
-  pub zeroing_done : length after ≤ i → after ≡ nones n
-  unfolding nones
-  zeroing_done h =
-      ext_get_or 0 after (tab (λ p. 0) n) (z.long ∙ sym (length-tab (λ p. 0) n))
-      (λ k m. z.done k (omega arith) ∙ sym (get_d_tab (λ p. 0) n k 0 (omega (arith, z.long))))
-
-pub zeroing_start : (back : List ℕ) → Zeroing (length back) back 0
-zeroing_start back = record { within = omega arith; long = refl; done = λ k h. absurd (omega arith) }
+pub nones_same : (n : ℕ) → nones n ≡ replicate n 0
+unfolding nones
+nones_same n = tab_same 0 n
 
 mirrored_twice : (n p : ℕ) → mirrored n (mirrored n p) ≡ p
 mirrored_twice n p =

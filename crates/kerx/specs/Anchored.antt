@@ -1,5 +1,6 @@
 -- Anchored passes and runs of kerx: format 4 besides, by an ankr table, with what is written to three slices beside the adjustments.
-use Rattle.std.specs.Prelude.{ℕ, Bool, false, not, cond, List, [], ◌∷◌, ◌++◌, ℤ, length, drop}
+use Rattle.answers.specs.declared.Refusal.{Refusal}
+use Rattle.std.specs.Prelude.{ℕ, Bool, false, not, cond, List, [], ◌∷◌, ◌++◌, ℤ, length, drop, Result, Ok, Err}
 use Rattle.laws.specs.Backward.{backward}
 use Rattle.laws.specs.Choose.{if_eq}
 use Rattle.laws.specs.Lists.{both, tab}
@@ -7,19 +8,19 @@ use Rattle.answers.specs.Refuse.{Test, refuse, table_test}
 use Rattle.answers.specs.declared.Answer.{Answer}
 use Rattle.answers.specs.declared.Answer.TheVariants as Answer'
 use Rattle.answers.specs.declared.Refusal.TheVariants as Refusal'
-use Rattle.answers.specs.declared.Check.{Check}
-use Rattle.answers.specs.declared.Check.TheVariants as Check'
 use Rattle.tables.specs.declared.units.Reading.{Reading}
 use Rattle.line.specs.Line.{Line}
 use Rattle.kerning.specs.Additions.{Addition, Kerned}
+use Rattle.kerning.specs.Heads.{barred}
+use Rattle.kerning.specs.declared.heads.Unready.{Unready}
+use Rattle.kerning.specs.declared.heads.Unready.TheVariants.{Short}
 use Rattle.kerning.specs.Line.{is_kernable, is_taken}
 use Rattle.kerning.specs.declared.choices.Choices.{Choices}
 use Rattle.kerx_machine.specs.Machine.{body_of, is_tupled}
 use Rattle.anchors.specs.Anchors.{anchor_test}
 use Rattle.anchor_machine.specs.Writes.{Write, Anchored, write_x, write_y, write_back, are_long}
 use Rattle.anchor_machine.specs.Machine as Anchor'
-use Rattle.anchor_machine.specs.declared.Opened.{Opened}
-use Rattle.anchor_machine.specs.declared.Opened.TheVariants as Opened'
+use Rattle.anchor_machine.specs.declared.Anchoring.{Anchoring}
 use Rattle.anchor_machine.specs.declared.AnchorState.{AnchorState}
 use Rattle.anchor_machine.specs.declared.AnchorStep.{AnchorStep}
 use Rattle.kerning_lists.specs.Walk.{on_head, list_bytes, visited}
@@ -30,8 +31,8 @@ use Rattle.kerx.specs.Heads.{head_in, list_of}
 use Rattle.kerx.specs.Kerx.{worked, kerx}
 
 -- the machine of format 4, whose state table begins where format 1's does
-unfoldable pub anchors_of : List ℕ → (version : ℕ) → Reading → Opened
-anchors_of bytes version reading = Anchor'.barred (is_tupled bytes version reading) (Anchor'.opened reading (body_of bytes))
+unfoldable pub anchors_of : List ℕ → (version : ℕ) → Reading → Result Anchoring Unready
+anchors_of bytes version reading = barred (is_tupled bytes version reading) (Anchor'.opened reading (body_of bytes))
 
 -- what an anchored pass answers, its additions and its writes
 pub record Marked : Type 0 where
@@ -65,9 +66,9 @@ unfoldable pub pass_tests : (table_length ankr_length : ℕ) → (takes : Bool) 
 pass_tests table_length ankr_length takes =
     table_test table_length ∷ anchor_test ankr_length ∷ record { holds = not takes; refusal = Refusal'.Line } ∷ []
 
-abbrev pub marked_by : Check → Marked → Marked
-marked_by Check'.Passed work = work
-marked_by (Check'.Refused why) work = neither (Answer'.Refused why)
+abbrev pub marked_by : Result Unit Refusal → Marked → Marked
+marked_by (Ok tt) work = work
+marked_by (Err why) work = neither (Answer'.Refused why)
 
 -- LINE: what a pass tests without anchors, and slices of another length than the room
 unfoldable pub takes_pass : Line → List ℤ → (x y : List ℤ) → (back : List ℕ) → Bool
@@ -78,9 +79,9 @@ pass_call table ankr start version l along x y back choices =
     marked_by (refuse (pass_tests (length table) (length ankr) (takes_pass l along x y back))) (passed_with ankr (drop start table) version l.glyphs l.used choices)
 
 -- a lone step by the subtable at `start`: HEAD for every format but 4
-unfoldable pub machine_of : List ℕ → (version : ℕ) → Reading → Opened
+unfoldable pub machine_of : List ℕ → (version : ℕ) → Reading → Result Anchoring Unready
 machine_of bytes version reading =
-    on_head (head_in false version 0 bytes) (λ s. if_eq s.format 4 (anchors_of bytes version reading) Opened'.Short) Opened'.Short
+    on_head (head_in false version 0 bytes) (λ s. if_eq s.format 4 (anchors_of bytes version reading) (Err Short)) (Err Short)
 
 unfoldable pub step_call : (table ankr : List ℕ) → (start version : ℕ) → AnchorState → (used index glyph : ℕ) → List ℤ → (x y : List ℤ) → (back : List ℕ) → Reading
     → AnchorStep
@@ -150,9 +151,9 @@ unfoldable pub takes_run : Line → List ℤ → (x y : List ℤ) → (back : Li
 takes_run l along x y back = both (are_long (length l.glyphs) x y back) (is_kernable l along)
 
 -- a refused run counts no heads and changes nothing
-abbrev pub ran_unless_refused : Check → List ℤ → (x y : List ℤ) → (back : List ℕ) → AnchoredRan → AnchoredRan
-ran_unless_refused Check'.Passed along x y back r = r
-ran_unless_refused (Check'.Refused why) along x y back r =
+abbrev pub ran_unless_refused : Result Unit Refusal → List ℤ → (x y : List ℤ) → (back : List ℕ) → AnchoredRan → AnchoredRan
+ran_unless_refused (Ok tt) along x y back r = r
+ran_unless_refused (Err why) along x y back r =
     record { ran = record { answer = Answer'.Refused why; heads = 0; along = along }; x = x; y = y; back = back }
 
 unfoldable pub run_call : (table ankr : List ℕ) → (start : ℕ) → (rtl : Bool) → Line → List ℤ → (x y : List ℤ) → (back : List ℕ) → Choices → AnchoredRan

@@ -1,5 +1,5 @@
 -- kerx's list and the heads of its subtables, over the bytes from the table's own start on.
-use Rattle.std.specs.Prelude.{ℕ, ◌+◌, ◌%◌, Bool, not, cond, List}
+use Rattle.std.specs.Prelude.{ℕ, ◌+◌, ◌%◌, Bool, not, cond, List, Option, Some, None}
 use Rattle.laws.specs.Lists.{either}
 use Rattle.laws.specs.Choose.{if_lt}
 use Rattle.parse.specs.Reads.{read_u32}
@@ -7,8 +7,6 @@ use Rattle.parse.specs.Use.{on_u32}
 use Rattle.laws.specs.Bits.{is_set}
 use Rattle.kerning_lists.specs.Walk.{u16_or_zero, u32_or_zero}
 use Rattle.kerning_lists.specs.declared.Subtable.{Subtable}
-use Rattle.kerning_lists.specs.declared.Head.{Head}
-use Rattle.kerning_lists.specs.declared.Head.TheVariants.{At, Cut}
 use Rattle.kerning_lists.specs.declared.ListHead.{ListHead}
 
 -- the crate's `should_reverse`: a subtable with 0x10000000 goes against the line's direction
@@ -27,14 +25,14 @@ subtable_of rtl at size coverage =
     }
 
 -- the head at a place, by the bytes from there on: size at 0, coverage at 4 and, from version 4 on, the tuple count at 8
-unfoldable pub head_in : (rtl : Bool) → (version at : ℕ) → (part : List ℕ) → Head
+unfoldable pub head_in : (rtl : Bool) → (version at : ℕ) → (part : List ℕ) → Option Subtable
 head_in rtl version at part =
     on_u32 (read_u32 part 0)
     (λ size. on_u32 (read_u32 part 4)
-    (λ coverage. if_lt version 4 (At (subtable_of rtl at size coverage))
-    (on_u32 (read_u32 part 8) (λ tuples. At (subtable_of rtl at size coverage)) Cut))
-    Cut)
-    Cut
+    (λ coverage. if_lt version 4 (Some (subtable_of rtl at size coverage))
+    (on_u32 (read_u32 part 8) (λ tuples. Some (subtable_of rtl at size coverage)) None))
+    None)
+    None
 
 -- the list: version at 0, a 32-bit count at 4, the first subtable at 8
 unfoldable pub list_of : List ℕ → ListHead

@@ -1,5 +1,5 @@
 -- What it is that every byte read or tried for a subtable lies inside its stated size: that on its own bytes alone no read comes out short.
-use Rattle.std.specs.Prelude.{ℕ, ◌≡◌, Bool, false, cond, List}
+use Rattle.std.specs.Prelude.{ℕ, ◌≡◌, Bool, false, cond, List, Some}
 use Rattle.laws.specs.Backward.{backward}
 use Rattle.kerning.specs.declared.choices.Choices.{Choices}
 use Rattle.pairs.specs.Inside.{PairsInside}
@@ -7,7 +7,6 @@ use Rattle.pairs.specs.Pairs.{ordered_kerx, classes_kerx}
 use Rattle.kerx_machine.specs.Inside.{MachineInside}
 use Rattle.kerx_machine.specs.Machine.{is_tupled}
 use Rattle.kerning_lists.specs.declared.Subtable.{Subtable}
-use Rattle.kerning_lists.specs.declared.Head.TheVariants.{At}
 use Rattle.kerx.specs.Heads.{head_in}
 
 -- the glyphs that a subtable works on: the line's, turned round or not
@@ -24,6 +23,6 @@ pub record WorkInside (bytes : List ℕ) (version format : ℕ) (glyphs : List �
 -- variations, nor, in the manual's reading, on one with tuples
 pub record ReadsInside (rtl : Bool) (version : ℕ) (glyphs : List ℕ) (used : ℕ) (choices : Choices) (bytes : List ℕ) : Type 0 where
   pub subtable : Subtable
-  pub head : head_in rtl version 0 bytes ≡ At subtable
+  pub head : head_in rtl version 0 bytes ≡ Some subtable
   pub work : subtable.passed_over ≡ false → is_tupled bytes version choices.reading ≡ false
       → WorkInside bytes version subtable.format (worked_on subtable.turned glyphs used) used choices

@@ -1,16 +1,17 @@
 -- The kerx table: what its subtables do, and the family that it is.
-use Rattle.std.specs.Prelude.{ℕ, Bool, List}
+use Rattle.answers.specs.declared.Refusal.{Refusal}
+use Rattle.tables.specs.declared.lookup.Why.{Why}
+use Rattle.std.specs.Prelude.{ℕ, Bool, List, Result, Err, ℤ}
 use Rattle.laws.specs.Choose.{if_eq}
 use Rattle.answers.specs.declared.Answer.TheVariants as Answer'
 use Rattle.answers.specs.declared.Refusal.TheVariants as Refusal'
 use Rattle.tables.specs.declared.units.Reading.TheVariants.{Crate}
 use Rattle.kerning.specs.Additions.{Kerned, nothing_added}
 use Rattle.kerning.specs.declared.choices.Choices.{Choices}
-use Rattle.pairs.specs.Pairs.{ordered_kerx, classes_kerx, barred}
+use Rattle.kerning.specs.Heads.{barred}
+use Rattle.pairs.specs.Pairs.{ordered_kerx, classes_kerx}
 use Rattle.pairs.specs.Reply.{reply_of}
 use Rattle.pairs.specs.Pass as Pairs'
-use Rattle.pairs.specs.declared.PairReply.{PairReply}
-use Rattle.pairs.specs.declared.PairReply.TheVariants as Reply'
 use Rattle.kerx_machine.specs.Machine as Machine'
 use Rattle.kerx_machine.specs.Machine.{is_tupled}
 use Rattle.kerning_lists.specs.Family.{Family}
@@ -28,10 +29,10 @@ worked bytes version format glyphs used choices =
     (nothing_added (Answer'.Refused Refusal'.Head))))
 
 -- the answer for a pair of glyphs, which has the crate's reading; the machine has no pairs
-unfoldable pub pair_by : List ℕ → (version format left right : ℕ) → PairReply
+unfoldable pub pair_by : List ℕ → (version format left right : ℕ) → Result (Result ℤ Why) Refusal
 pair_by bytes version format left right =
     if_eq format 0 (reply_of bytes (ordered_kerx bytes) left right)
-    (if_eq format 2 (reply_of bytes (classes_kerx bytes Crate) left right) (Reply'.Refused Refusal'.Head))
+    (if_eq format 2 (reply_of bytes (classes_kerx bytes Crate) left right) (Err Refusal'.Head))
 
 abbrev pub kerx : Family
 kerx = record { list_of = list_of; head_in = head_in; worked = worked; pair_by = pair_by }

@@ -1,10 +1,9 @@
 -- Two kerx lists with the same subtables in two orders, and on what conditions their runs leave the same along numbers: each condition of document 02's
 -- W-214 is a definition of its own. Format 4, whose anchors the last one written decides, adds nothing in a run without anchors.
-use Rattle.std.specs.Prelude.{ℕ, ◌≤◌, ◌≡◌, Bool, List, [], ◌∷◌, ◌++◌, ℤ, length, drop}
+use Rattle.std.specs.Prelude.{ℕ, ◌≤◌, ◌≡◌, Bool, List, [], ◌∷◌, ◌++◌, ℤ, length, drop, Ok}
 use Rattle.parse.specs.Reads.{u32_at}
 use Rattle.answers.specs.Limits.{head_limit}
 use Rattle.answers.specs.Refuse.{refuse}
-use Rattle.answers.specs.declared.Check.TheVariants.{Passed}
 use Rattle.line.specs.Line.{Line}
 use Rattle.kerning.specs.Additions.{Addition}
 use Rattle.kerning.specs.declared.choices.Choices.{Choices}
@@ -40,7 +39,7 @@ pub record ListHas (table : List ℕ) (start version : ℕ) (parts : List (List 
 
 -- no call is refused
 abbrev pub NotRefused : (table : List ℕ) → (start : ℕ) → Line → (along : List ℤ) → Type 0
-NotRefused table start l along = refuse (run_tests (length table) start l along) ≡ Passed
+NotRefused table start l along = refuse (run_tests (length table) start l along) ≡ Ok tt
 
 -- the head limit isn't reached
 abbrev pub BelowLimit : (parts : List (List ℕ)) → Type 0

@@ -11,23 +11,25 @@ ghost use Rattle.line.specs.Line.{line_of};
 ghost use Rattle.kerning.specs.Additions.{add_all};
 ghost use Rattle.kerning.specs.Bounds.{Within};
 ghost use Rattle.kerning.specs.Choices.{unchosen};
-ghost use Rattle.kerning_lists.specs.Family.{head_at, walk_of, passed, pass_call, pair_in, pair_call, adds, run_call, list_from, list_call, subtable_call};
+ghost use Rattle.kerning_lists.specs.Family.{head_at, walk_of, pass_call, pair_call, adds, run_call, list_call, subtable_call};
 ghost use Rattle.kerning_lists.specs.Walk.{walk_answer, visited, heads_from};
 ghost use Rattle.kerning_lists.specs.Run.{zeros, turned_back, contribution, contributions, used_part};
 ghost use Rattle.anchor_machine.specs.Writes.{write_x, write_y, write_back};
 ghost use Rattle.kerx.specs.Anchored as Anchored;
 ghost use Rattle.kerx.specs.Anchored.{anchors_of, worked_with, passed_with, machine_of, turned_marks, marks, marking, run_marks, nones, takes_pass, takes_run};
-ghost use Rattle.kerx.specs.Indexed.{refuse_pairs, refuse_unindexed, kerning_tests, anchoring_tests, kerning_indexed, anchoring_indexed, worked_indexed, passed_indexed, indexed_call};
+ghost use Rattle.kerx.specs.Indexed.{refuse_pairs, refuse_unindexed, machine_tests, kerning_indexed, anchoring_indexed, worked_indexed, passed_indexed, indexed_call};
 ghost use Rattle.kerx.specs.Lent.{Lent, visited_by, list_marks};
-ghost use Rattle.kerx.specs.Heads.{should_reverse, subtable_of, head_in, list_of};
-ghost use Rattle.kerx.specs.Kerx.{worked, pair_by, kerx};
+ghost use Rattle.kerx.specs.Heads.{should_reverse, subtable_of, list_of};
+ghost use Rattle.kerx.specs.Kerx.{worked, kerx};
 
-use anchor_machine::{AnchorState, AnchorStep, Opened};
-use answers::{Answer, Check, Refusal};
-use kerning::choices;
+use anchor_machine::{AnchorState, AnchorStep, Anchoring};
+use answers::{Answer, Refusal};
 use kerning::choices::Choices;
-use kerning_lists::{Cursor, Head, ListHead, ListStart, Run, Subtable, SubtableReply};
-use pairs::PairReply;
+use kerning::heads;
+use kerning::heads::Unready;
+use kerning_lists::{Cursor, ListHead, Lists, NextSubtable, Run, Subtable};
+use pairs::PairTable;
+use tables::lookup::Why;
 use tables::units::Reading;
 
 // The bits of a subtable's coverage.
@@ -39,19 +41,6 @@ const VARIATIONS: u32 = 0x2000_0000;
 
 const BACKWARD: u32 = 0x1000_0000;
 
-// Whether a run passes over a subtable: a vertical one, a cross-stream one, or one with variations.
-fn passed_over(coverage: u32) -> bool
-    ensures { result ≡ (subtable_of false 0 0 coverage).passed_over }
-{
-    if parse::is_set(coverage, VERTICAL) {
-        return true;
-    }
-    kerning_lists::one_of(
-        parse::is_set(coverage, CROSS_STREAM),
-        parse::is_set(coverage, VARIATIONS),
-    )
-}
-
 // Whether a subtable goes through the line the other way round.
 fn should_reverse(coverage: u32, rtl: bool) -> bool
     ensures { result ≡ should_reverse coverage rtl }
@@ -62,12 +51,16 @@ fn should_reverse(coverage: u32, rtl: bool) -> bool
     rtl
 }
 
+// A run passes over a subtable that is vertical, cross-stream or has variations.
+#[tactic(auto, unfolding(crate::specs::Heads::subtable_of))]
 fn subtable_of(rtl: bool, at: usize, size: u32, coverage: u32) -> Subtable
     requires { at < 2 ^ 63 }
     ensures { result ≡ subtable_of rtl at size coverage }
 {
     Subtable {
-        passed_over: passed_over(coverage),
+        passed_over: parse::is_set(coverage, VERTICAL)
+            || parse::is_set(coverage, CROSS_STREAM)
+            || parse::is_set(coverage, VARIATIONS),
         turned: should_reverse(coverage, rtl),
         format: coverage % 256,
         body: at,
@@ -75,173 +68,114 @@ fn subtable_of(rtl: bool, at: usize, size: u32, coverage: u32) -> Subtable
     }
 }
 
-// The head at a place, by the bytes from there on.
-fn head_in(rtl: bool, version: u16, at: usize, part: &[u8]) -> Head
-    requires { at < 2 ^ 63 }
-    ensures { result ≡ head_in rtl version at part.now }
-{
-    let parse::ReadU32::Got(size) = parse::read_u32(part, 0) else {
-        return Head::Cut;
-    };
-    let parse::ReadU32::Got(coverage) = parse::read_u32(part, 4) else {
-        return Head::Cut;
-    };
-    if version < 4 {
-        return Head::At(subtable_of(rtl, at, size, coverage));
-    }
-    let parse::ReadU32::Got(_) = parse::read_u32(part, 8) else {
-        return Head::Cut;
-    };
-    Head::At(subtable_of(rtl, at, size, coverage))
-}
+// What kerx says for itself of its lists.
+struct Kerx;
 
-// The head at a place of the list; there is none at or past the table's end.
-fn head_at(rtl: bool, bytes: &[u8], version: u16, at: usize) -> Head
-    ensures { result ≡ head_at kerx rtl bytes.now version at }
-{
-    if bytes.len() <= at {
-        return Head::Cut;
-    }
-    head_in(rtl, version, at, parse::from(bytes, at))
-}
+impl Lists for Kerx {
+    ghost family = { kerx };
 
-// The list at the start of a table's bytes.
-fn list_of(bytes: &[u8]) -> ListHead
-    ensures { result ≡ list_of bytes.now }
-{
-    ListHead {
-        version: kerning_lists::u16_or_zero(bytes, 0),
-        count: kerning_lists::u32_or_zero(bytes, 4),
-        first: 8,
+    #[tactic(auto, unfolding(crate::specs::Heads::list_of))]
+    fn list_of(bytes: &[u8]) -> ListHead {
+        ListHead {
+            version: kerning_lists::u16_or_zero(bytes, 0),
+            count: kerning_lists::u32_or_zero(bytes, 4),
+            first: 8,
+        }
     }
-}
 
-// The list at `start`, from its first subtable on.
-fn list_from(table: &[u8], start: usize) -> Cursor
-    requires { start ≤ length table.now }
-    ensures { result ≡ list_from kerx table.now start }
-{
-    let list = list_of(kerning_lists::list_bytes(table, start));
-    Cursor {
-        place: start + list.first,
-        left: list.count as usize,
-        version: list.version,
+    #[tactic(auto, using(parse::proofs::Laws::u32_value), unfolding(crate::specs::Heads::head_in))]
+    fn head_in(rtl: bool, version: u16, at: usize, part: &[u8]) -> Option<Subtable> {
+        let size = parse::read_u32(part, 0)?;
+        let coverage = parse::read_u32(part, 4)?;
+        if 4 <= version {
+            parse::read_u32(part, 8)?;
+        }
+        Some(subtable_of(rtl, at, size, coverage))
+    }
+
+    #[tactic(auto, unfolding(crate::specs::Kerx::worked, kerning::specs::Additions::add_all))]
+    fn work(
+        bytes: &[u8],
+        version: u16,
+        format: u32,
+        glyphs: &[u16],
+        used: usize,
+        along: &mut [i64],
+        choices: Choices,
+    ) -> Answer {
+        let rule = choices.pairs;
+        let reading = choices.reading;
+        let tupled = kerx_machine::is_tupled(bytes, version, reading);
+        match format {
+            0 => {
+                let opened = heads::barred(tupled, pairs::ordered_kerx(bytes));
+                pairs::work(bytes, opened, glyphs, used, along, rule)
+            }
+            1 => kerx_machine::work(bytes, version, glyphs, used, along, reading),
+            2 => {
+                let opened = heads::barred(tupled, pairs::classes_kerx(bytes, reading));
+                pairs::work(bytes, opened, glyphs, used, along, rule)
+            }
+            _ => Answer::Refused(Refusal::Head),
+        }
+    }
+
+    #[tactic(auto, unfolding(crate::specs::Kerx::pair_by))]
+    fn pair_by(
+        bytes: &[u8],
+        version: u16,
+        format: u32,
+        left: u16,
+        right: u16,
+    ) -> Result<Result<i16, Why>, Refusal> {
+        let opened = match format {
+            0 => pairs::ordered_kerx(bytes),
+            2 => pairs::classes_kerx(bytes, Reading::Crate),
+            _ => return Err(Refusal::Head),
+        };
+        pairs::reply(bytes, opened, left, right)
     }
 }
 
 // The subtables of the list at `start`.
-pub fn subtables(table: &[u8], start: usize) -> ListStart
+pub fn subtables(table: &[u8], start: usize) -> Result<Cursor, Refusal>
     ensures { result ≡ list_call kerx table.now start }
 {
-    if let Check::Refused(why) = kerning_lists::refuse_list(table.len(), start) {
-        return ListStart::Refused(why);
-    }
-    ListStart::From(list_from(table, start))
+    kerning_lists::subtables::<Kerx>(table, start)
 }
 
 // The next subtable of a list, whatever the cursor's numbers are; it is turned as in a line from left to right.
-pub fn next_subtable(table: &[u8], cursor: Cursor) -> SubtableReply
+pub fn next_subtable(table: &[u8], cursor: Cursor) -> Result<Option<NextSubtable>, Refusal>
     ensures { result ≡ subtable_call kerx table.now cursor }
 {
-    if let Check::Refused(why) = answers::refuse_table(table.len()) {
-        return SubtableReply::Refused(why);
-    }
-    let head = head_at(false, table, cursor.version, cursor.place);
-    SubtableReply::Next(kerning_lists::next_by(head, cursor))
-}
-
-// The pass by the subtable that begins with `bytes`, of a format.
-fn work(
-    bytes: &[u8],
-    version: u16,
-    format: u32,
-    glyphs: &[u16],
-    used: usize,
-    along: &mut [i64],
-    choices: Choices,
-) -> Answer
-    requires { (used ≤ length glyphs.now) × (used ≤ length along.old) × (used ≤ room_limit) × Within (2 ^ 60) along.old }
-    ensures answer { result ≡ (worked bytes.now version format glyphs.now used choices).answer }
-    ensures along { along.new ≡ add_all (worked bytes.now version format glyphs.now used choices).additions
-        along.old }
-{
-    let rule = choices.pairs;
-    let reading = choices.reading;
-    let tupled = kerx_machine::is_tupled(bytes, version, reading);
-    if format == 0 {
-        return pairs::work(
-            bytes,
-            pairs::barred(tupled, pairs::ordered_kerx(bytes)),
-            glyphs,
-            used,
-            along,
-            rule,
-        );
-    }
-    if format == 1 {
-        return kerx_machine::work(bytes, version, glyphs, used, along, reading);
-    }
-    if format == 2 {
-        return pairs::work(
-            bytes,
-            pairs::barred(tupled, pairs::classes_kerx(bytes, reading)),
-            glyphs,
-            used,
-            along,
-            rule,
-        );
-    }
-    Answer::Refused(Refusal::Head)
-}
-
-// The answer for a pair by the subtable that begins with `bytes`, of a format.
-fn pair_by(bytes: &[u8], version: u16, format: u32, left: u16, right: u16) -> PairReply
-    ensures { result ≡ pair_by bytes.now version format left right }
-{
-    if format == 0 {
-        return pairs::reply(bytes, pairs::ordered_kerx(bytes), left, right);
-    }
-    if format == 2 {
-        return pairs::reply(
-            bytes,
-            pairs::classes_kerx(bytes, Reading::Crate),
-            left,
-            right,
-        );
-    }
-    PairReply::Refused(Refusal::Head)
-}
-
-// The answer for a pair by the subtable that begins with `bytes`, its head included.
-fn pair_in(bytes: &[u8], version: u16, left: u16, right: u16) -> PairReply
-    ensures { result ≡ pair_in kerx bytes.now version left right }
-{
-    let Head::At(subtable) = head_in(false, version, 0, bytes) else {
-        return PairReply::Refused(Refusal::Head);
-    };
-    pair_by(bytes, version, subtable.format, left, right)
+    kerning_lists::next_subtable::<Kerx>(table, cursor)
 }
 
 // What a pair of glyphs adds, by the subtable at `start` of a list of this version.
-pub fn pair(table: &[u8], start: usize, version: u16, left: u16, right: u16) -> PairReply
+pub fn pair(
+    table: &[u8],
+    start: usize,
+    version: u16,
+    left: u16,
+    right: u16,
+) -> Result<Result<i16, Why>, Refusal>
     ensures { result ≡ pair_call kerx table.now start version left right }
 {
-    if let Check::Refused(why) = answers::refuse_table(table.len()) {
-        return PairReply::Refused(why);
-    }
-    pair_in(parse::from(table, start), version, left, right)
+    kerning_lists::pair::<Kerx>(table, start, version, left, right)
 }
 
 // The machine of format 4 of the subtable that begins with `bytes`.
-fn anchors_of(bytes: &[u8], version: u16, reading: Reading) -> Opened
+#[tactic(auto, unfolding(crate::specs::Anchored::anchors_of))]
+fn anchors_of(bytes: &[u8], version: u16, reading: Reading) -> Result<Anchoring, Unready>
     ensures { result ≡ anchors_of bytes.now version reading }
 {
     let tupled = kerx_machine::is_tupled(bytes, version, reading);
     let machine = anchor_machine::open(reading, parse::from(bytes, kerx_machine::BODY));
-    anchor_machine::barred(tupled, machine)
+    heads::barred(tupled, machine)
 }
 
 // The pass by the subtable that begins with `bytes`, of a format, format 4 included.
+#[tactic(auto, unfolding(crate::specs::Anchored::worked_with, kerning::specs::Additions::add_all, anchor_machine::specs::Writes::write_all))]
 fn work_with(
     ankr: &[u8],
     bytes: &[u8],
@@ -273,9 +207,10 @@ fn work_with(
         let body = parse::from(bytes, kerx_machine::BODY);
         return anchor_machine::work(ankr, body, machine, glyphs, used, x, y, back);
     }
-    work(bytes, version, format, glyphs, used, along, choices)
+    Kerx::work(bytes, version, format, glyphs, used, along, choices)
 }
 
+// kept: x, y and the distances go side by side, as the entries are lent them and as the clauses of `run_anchored` and `pass_anchored` name them.
 // What a subtable of a run does, by its bytes: without slices for what format 4 writes, that is left out.
 fn work_in_run(
     ankr: &[u8],
@@ -302,7 +237,7 @@ fn work_in_run(
         choices).writes back.old }
 {
     if x.len() < used {
-        let _ = work(part, version, format, glyphs, used, along, choices);
+        let _ = Kerx::work(part, version, format, glyphs, used, along, choices);
         return;
     }
     let _ = work_with(
@@ -350,6 +285,7 @@ fn work_turned(
 }
 
 // A subtable of the list adds its own, unless the run passes over it.
+#[tactic(auto, unfolding(kerning_lists::specs::Run::contribution, kerning::specs::Additions::add_all, crate::specs::Anchored::marking, anchor_machine::specs::Writes::write_all))]
 fn visit(
     ankr: &[u8],
     bytes: &[u8],
@@ -443,11 +379,9 @@ fn run_list(
     ensures back { back.new ≡ write_back (list_marks ankr.now bytes.now list rtl glyphs.old used choices)
         back.old }
 {
-    let mut heads = 0;
-    let mut left = list.count;
     let mut at = list.first;
-    while 0 < left {
-        let Head::At(subtable) = head_at(rtl, bytes, list.version, at) else {
+    for heads in 0..list.count {
+        let Some(subtable) = kerning_lists::head_at::<Kerx>(rtl, bytes, list.version, at) else {
             return Run {
                 answer: Answer::Done,
                 heads,
@@ -473,17 +407,16 @@ fn run_list(
             back,
             choices,
         );
-        heads += 1;
-        left -= 1;
         at = subtable.next;
     }
     Run {
         answer: Answer::Done,
-        heads,
+        heads: list.count,
     }
 }
 
 // The used adjustments, zeroed first, with what the list's subtables add and write.
+#[tactic(auto, unfolding(kerning_lists::specs::Run::used_part, kerning_lists::specs::Family::walk_of, crate::specs::Anchored::run_marks))]
 fn run_part(
     ankr: &[u8],
     bytes: &[u8],
@@ -518,7 +451,7 @@ fn run_part(
     run_list(
         ankr,
         bytes,
-        list_of(bytes),
+        Kerx::list_of(bytes),
         rtl,
         glyphs,
         tags,
@@ -532,6 +465,7 @@ fn run_part(
 }
 
 // Whether the line is one that LINE takes for an anchored run, with slices as long as its room.
+#[tactic(auto, unfolding(crate::specs::Anchored::takes_run))]
 fn takes_run(
     glyphs: &[u16],
     tags: &[u16],
@@ -545,32 +479,33 @@ fn takes_run(
     ensures { result ≡ takes_run (line_of glyphs.now tags.now homes.now used) along.now x.now
         y.now back.now }
 {
-    if !anchor_machine::are_long(glyphs.len(), x, y, back) {
-        return false;
-    }
-    kerning::kernable(glyphs, tags, homes, used, along)
+    anchor_machine::are_long(glyphs.len(), x, y, back)
+        && kerning::kernable(glyphs, tags, homes, used, along)
 }
 
 // The tests before an anchored run: TABLE, ANCHOR, LINE, HEAD.
-fn refuse_run(table_length: usize, ankr_length: usize, start: usize, takes: bool) -> Check
+#[tactic(auto, unfolding(crate::specs::Anchored::run_tests, kerning_lists::specs::Run::start_test, answers::specs::Refuse::refuse, answers::specs::Refuse::table_test))]
+fn refuse_run(
+    table_length: usize,
+    ankr_length: usize,
+    start: usize,
+    takes: bool,
+) -> Result<(), Refusal>
     ensures { result ≡ refuse (Anchored.run_tests table_length ankr_length start takes) }
 {
-    if let Check::Refused(why) = answers::refuse_table(table_length) {
-        return Check::Refused(why);
-    }
-    if let Check::Refused(why) = anchors::refuse_anchors(ankr_length) {
-        return Check::Refused(why);
-    }
+    answers::refuse_table(table_length)?;
+    anchors::refuse_anchors(ankr_length)?;
     if !takes {
-        return Check::Refused(Refusal::Line);
+        return Err(Refusal::Line);
     }
     if table_length < start {
-        return Check::Refused(Refusal::Head);
+        return Err(Refusal::Head);
     }
-    Check::Passed
+    Ok(())
 }
 
 // A whole run over the list at `start`, of a line that goes from right to left or not, by the choices made, with marks anchored by an ankr table.
+#[tactic(auto, unfolding(crate::specs::Anchored::run_call))]
 pub fn run_anchored(
     table: &[u8],
     ankr: &[u8],
@@ -608,7 +543,7 @@ pub fn run_anchored(
         choices).back }
 {
     let takes = takes_run(glyphs, tags, homes, used, along, x, y, back);
-    if let Check::Refused(why) = refuse_run(table.len(), ankr.len(), start, takes) {
+    if let Err(why) = refuse_run(table.len(), ankr.len(), start, takes) {
         return Run {
             answer: Answer::Refused(why),
             heads: 0,
@@ -630,6 +565,7 @@ pub fn run_anchored(
 
 // A whole run over the list at `start` by the choices made, of a line that goes from right to left or not. The line is turned and turned back,
 // and so unchanged.
+#[tactic(auto, using(kerning_lists::proofs::Calls::run_ready), unfolding(kerning_lists::specs::Family::run_call))]
 pub fn run_by(
     table: &[u8],
     start: usize,
@@ -650,7 +586,7 @@ pub fn run_by(
     ensures along { along.new ≡ (run_call kerx table.now start rtl
         (line_of glyphs.old tags.old homes.now used) along.old choices).along }
 {
-    if let Check::Refused(why) = kerning_lists::refuse_run(
+    if let Err(why) = kerning_lists::refuse_run(
         table.len(),
         start,
         glyphs,
@@ -711,35 +647,7 @@ pub fn run(
         homes,
         used,
         along,
-        choices::none(),
-    )
-}
-
-// The pass by the subtable that begins with `bytes`, its head included.
-fn pass_in(
-    bytes: &[u8],
-    version: u16,
-    glyphs: &[u16],
-    used: usize,
-    along: &mut [i64],
-    choices: Choices,
-) -> Answer
-    requires { (used ≤ length glyphs.now) × (used ≤ length along.old) × (used ≤ room_limit) × Within (2 ^ 60) along.old }
-    ensures answer { result ≡ (passed kerx bytes.now version glyphs.now used choices).answer }
-    ensures along { along.new ≡ add_all (passed kerx bytes.now version glyphs.now used choices).additions
-        along.old }
-{
-    let Head::At(subtable) = head_in(false, version, 0, bytes) else {
-        return Answer::Refused(Refusal::Head);
-    };
-    work(
-        bytes,
-        version,
-        subtable.format,
-        glyphs,
-        used,
-        along,
-        choices,
+        Choices::default(),
     )
 }
 
@@ -760,23 +668,8 @@ pub fn pass_by(
     ensures along { along.new ≡ add_all (pass_call kerx table.now start version
         (line_of glyphs.now tags.now homes.now used) along.old choices).additions along.old }
 {
-    if let Check::Refused(why) = kerning::refuse_pass(
-        table.len(),
-        glyphs,
-        tags,
-        homes,
-        used,
-        along,
-    ) {
-        return Answer::Refused(why);
-    }
-    pass_in(
-        parse::from(table, start),
-        version,
-        glyphs,
-        used,
-        along,
-        choices,
+    kerning_lists::pass_by::<Kerx>(
+        table, start, version, glyphs, tags, homes, used, along, choices,
     )
 }
 
@@ -805,11 +698,12 @@ pub fn pass(
         homes,
         used,
         along,
-        choices::none(),
+        Choices::default(),
     )
 }
 
 // The pass with anchored marks by the subtable that begins with `bytes`, its head included.
+#[tactic(auto, unfolding(crate::specs::Anchored::passed_with, kerning::specs::Additions::add_all, anchor_machine::specs::Writes::write_all))]
 fn pass_with(
     ankr: &[u8],
     bytes: &[u8],
@@ -834,7 +728,7 @@ fn pass_with(
     ensures back { back.new ≡ write_back (passed_with ankr.now bytes.now version glyphs.now used choices).writes
         back.old }
 {
-    let Head::At(subtable) = head_in(false, version, 0, bytes) else {
+    let Some(subtable) = Kerx::head_in(false, version, 0, bytes) else {
         return Answer::Refused(Refusal::Head);
     };
     work_with(
@@ -853,6 +747,7 @@ fn pass_with(
 }
 
 // Whether the line is one that LINE takes for an anchored pass, with slices as long as its room.
+#[tactic(auto, unfolding(crate::specs::Anchored::takes_pass))]
 fn takes_pass(
     glyphs: &[u16],
     tags: &[u16],
@@ -866,29 +761,25 @@ fn takes_pass(
     ensures { result ≡ takes_pass (line_of glyphs.now tags.now homes.now used) along.now x.now
         y.now back.now }
 {
-    if !anchor_machine::are_long(glyphs.len(), x, y, back) {
-        return false;
-    }
-    kerning::takes(glyphs, tags, homes, used, along)
+    anchor_machine::are_long(glyphs.len(), x, y, back)
+        && kerning::takes(glyphs, tags, homes, used, along)
 }
 
 // The tests before an anchored pass: TABLE, ANCHOR, LINE. HEAD and TUPLES are answers of the pass.
-fn refuse_pass(table_length: usize, ankr_length: usize, takes: bool) -> Check
+#[tactic(auto, unfolding(crate::specs::Anchored::pass_tests, answers::specs::Refuse::refuse, answers::specs::Refuse::table_test))]
+fn refuse_pass(table_length: usize, ankr_length: usize, takes: bool) -> Result<(), Refusal>
     ensures { result ≡ refuse (Anchored.pass_tests table_length ankr_length takes) }
 {
-    if let Check::Refused(why) = answers::refuse_table(table_length) {
-        return Check::Refused(why);
-    }
-    if let Check::Refused(why) = anchors::refuse_anchors(ankr_length) {
-        return Check::Refused(why);
-    }
+    answers::refuse_table(table_length)?;
+    anchors::refuse_anchors(ankr_length)?;
     if !takes {
-        return Check::Refused(Refusal::Line);
+        return Err(Refusal::Line);
     }
-    Check::Passed
+    Ok(())
 }
 
 // The pass over a line, by the subtable at `start` of a list of this version and the choices made, with marks anchored by an ankr table.
+#[tactic(auto, unfolding(crate::specs::Anchored::pass_call, kerning::specs::Additions::add_all, anchor_machine::specs::Writes::write_all))]
 pub fn pass_anchored(
     table: &[u8],
     ankr: &[u8],
@@ -921,7 +812,7 @@ pub fn pass_anchored(
         choices).writes back.old }
 {
     let takes = takes_pass(glyphs, tags, homes, used, along, x, y, back);
-    if let Check::Refused(why) = refuse_pass(table.len(), ankr.len(), takes) {
+    if let Err(why) = refuse_pass(table.len(), ankr.len(), takes) {
         return Answer::Refused(why);
     }
     pass_with(
@@ -939,71 +830,46 @@ pub fn pass_anchored(
 }
 
 // What refuses a pass by pairs before INDEX: HEAD, TUPLES; then INDEX, since pairs have no classes of a state table.
-fn refuse_pairs(opened: pairs::Opened) -> Refusal
+fn refuse_pairs(opened: Result<PairTable, Unready>) -> Refusal
     ensures { result ≡ refuse_pairs opened }
 {
     match opened {
-        pairs::Opened::Ready(_) => Refusal::Index,
-        pairs::Opened::Short => Refusal::Head,
-        pairs::Opened::Tupled => Refusal::Tuples,
+        Ok(_) => Refusal::Index,
+        Err(why) => Refusal::from(why),
     }
 }
 
 // Why a format without a machine refuses an index: HEAD, TUPLES, INDEX.
+#[tactic(auto, unfolding(crate::specs::Indexed::refuse_unindexed))]
 fn refuse_unindexed(bytes: &[u8], version: u16, format: u32, reading: Reading) -> Refusal
     ensures { result ≡ refuse_unindexed bytes.now version format reading }
 {
     let tupled = kerx_machine::is_tupled(bytes, version, reading);
-    if format == 0 {
-        return refuse_pairs(pairs::barred(tupled, pairs::ordered_kerx(bytes)));
-    }
-    if format == 2 {
-        return refuse_pairs(pairs::barred(tupled, pairs::classes_kerx(bytes, reading)));
-    }
-    Refusal::Head
-}
-
-// What refuses an index for the machine of format 1: HEAD, TUPLES, INDEX.
-fn refuse_kerning(machine: kerning_machine::Opened, entries: usize, another: bool) -> Check
-    ensures { result ≡ refuse (kerning_tests machine entries another) }
-{
-    match machine {
-        kerning_machine::Opened::Ready(_) => {
-            if indexes::is_refused(entries, another) {
-                return Check::Refused(Refusal::Index);
-            }
-            return Check::Passed;
-        }
-        kerning_machine::Opened::Short => {
-            return Check::Refused(Refusal::Head);
-        }
-        kerning_machine::Opened::Tupled => {
-            return Check::Refused(Refusal::Tuples);
-        }
+    match format {
+        0 => refuse_pairs(heads::barred(tupled, pairs::ordered_kerx(bytes))),
+        2 => refuse_pairs(heads::barred(tupled, pairs::classes_kerx(bytes, reading))),
+        _ => Refusal::Head,
     }
 }
 
-// What refuses an index for the machine of format 4: HEAD, TUPLES, INDEX.
-fn refuse_anchoring(machine: Opened, entries: usize, another: bool) -> Check
-    ensures { result ≡ refuse (anchoring_tests machine entries another) }
+// What refuses an index for a machine: HEAD, TUPLES, INDEX.
+#[tactic(auto, unfolding(crate::specs::Indexed::machine_tests, indexes::specs::Index::index_test, answers::specs::Refuse::refuse))]
+fn refuse_machine<T: Copy>(
+    machine: Result<T, Unready>,
+    entries: usize,
+    another: bool,
+) -> Result<(), Refusal>
+    ensures { result ≡ refuse (machine_tests machine entries another) }
 {
-    match machine {
-        Opened::Ready(_) => {
-            if indexes::is_refused(entries, another) {
-                return Check::Refused(Refusal::Index);
-            }
-            return Check::Passed;
-        }
-        Opened::Short => {
-            return Check::Refused(Refusal::Head);
-        }
-        Opened::Tupled => {
-            return Check::Refused(Refusal::Tuples);
-        }
+    machine?;
+    if indexes::is_refused(entries, another) {
+        return Err(Refusal::Index);
     }
+    Ok(())
 }
 
 // The pass of format 1 by an index.
+#[tactic(auto, unfolding(crate::specs::Indexed::kerning_indexed, kerning::specs::Additions::add_all))]
 fn work_kerning(
     bytes: &[u8],
     start: usize,
@@ -1024,13 +890,14 @@ fn work_kerning(
     let machine = kerx_machine::open(bytes, version, reading);
     let body = parse::from(bytes, kerx_machine::BODY);
     let another = indexes::is_another(true, body, start, class_start);
-    if let Check::Refused(why) = refuse_kerning(machine, index.len(), another) {
+    if let Err(why) = refuse_machine(machine, index.len(), another) {
         return Answer::Refused(why);
     }
     kerx_machine::work_by(bytes, version, glyphs, used, along, reading, index)
 }
 
 // The pass of format 4 by an index.
+#[tactic(auto, unfolding(crate::specs::Indexed::anchoring_indexed, anchor_machine::specs::Writes::write_all))]
 fn work_anchoring(
     ankr: &[u8],
     bytes: &[u8],
@@ -1058,13 +925,14 @@ fn work_anchoring(
     let machine = anchors_of(bytes, version, reading);
     let body = parse::from(bytes, kerx_machine::BODY);
     let another = indexes::is_another(true, body, start, class_start);
-    if let Check::Refused(why) = refuse_anchoring(machine, index.len(), another) {
+    if let Err(why) = refuse_machine(machine, index.len(), another) {
         return Answer::Refused(why);
     }
     anchor_machine::work_by(ankr, body, machine, glyphs, used, x, y, back, index)
 }
 
 // The pass by an index, by the subtable that begins with `bytes`, of a format.
+#[tactic(auto, unfolding(crate::specs::Indexed::worked_indexed, kerning::specs::Additions::add_all, anchor_machine::specs::Writes::write_all))]
 fn work_indexed(
     ankr: &[u8],
     bytes: &[u8],
@@ -1127,6 +995,7 @@ fn work_indexed(
 }
 
 // The pass by an index, by the subtable that begins with `bytes`, its head included.
+#[tactic(auto, unfolding(crate::specs::Indexed::passed_indexed, kerning::specs::Additions::add_all, anchor_machine::specs::Writes::write_all))]
 fn pass_indexed_in(
     ankr: &[u8],
     bytes: &[u8],
@@ -1155,7 +1024,7 @@ fn pass_indexed_in(
     ensures back { back.new ≡ write_back (passed_indexed ankr.now bytes.now start version glyphs.now used reading
         index.now class_start).writes back.old }
 {
-    let Head::At(subtable) = head_in(false, version, 0, bytes) else {
+    let Some(subtable) = Kerx::head_in(false, version, 0, bytes) else {
         return Answer::Refused(Refusal::Head);
     };
     work_indexed(
@@ -1177,6 +1046,7 @@ fn pass_indexed_in(
 }
 
 // The same as `pass_anchored`, by an index of the class table that begins at `class_start`.
+#[tactic(auto, unfolding(crate::specs::Indexed::indexed_call, kerning::specs::Additions::add_all, anchor_machine::specs::Writes::write_all))]
 pub fn pass_indexed(
     table: &[u8],
     ankr: &[u8],
@@ -1211,7 +1081,7 @@ pub fn pass_indexed(
         reading index.now class_start).writes back.old }
 {
     let takes = takes_pass(glyphs, tags, homes, used, along, x, y, back);
-    if let Check::Refused(why) = refuse_pass(table.len(), ankr.len(), takes) {
+    if let Err(why) = refuse_pass(table.len(), ankr.len(), takes) {
         return Answer::Refused(why);
     }
     pass_indexed_in(
@@ -1232,19 +1102,19 @@ pub fn pass_indexed(
 }
 
 // The machine of format 4, of a subtable of that format.
-fn machine_of(bytes: &[u8], version: u16, reading: Reading) -> Opened
+#[tactic(auto, unfolding(crate::specs::Anchored::machine_of))]
+fn machine_of(bytes: &[u8], version: u16, reading: Reading) -> Result<Anchoring, Unready>
     ensures { result ≡ machine_of bytes.now version reading }
 {
-    let Head::At(subtable) = head_in(false, version, 0, bytes) else {
-        return Opened::Short;
-    };
+    let subtable = Kerx::head_in(false, version, 0, bytes).ok_or(Unready::Short)?;
     if subtable.format != AnchorState::FORMAT {
-        return Opened::Short;
+        return Err(Unready::Short);
     }
     anchors_of(bytes, version, reading)
 }
 
 // A lone step of the machine of anchored marks, by the subtable at `start` of a list of this version and a reading, on a line of so many places.
+#[tactic(auto, unfolding(crate::specs::Anchored::step_call, crate::specs::Anchored::step_writes))]
 pub fn step_anchored(
     state: AnchorState,
     table: &[u8],

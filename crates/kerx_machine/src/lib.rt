@@ -1,16 +1,15 @@
 // kerx format 1: the kerning machine over the extended state table.
 #![tactic(auto)]
 
-ghost use Rattle.std.specs.Prelude.{◌≡◌, ◌≤◌, ◌^◌, length};
-ghost use Rattle.answers.specs.Limits.{room_limit};
+ghost use Rattle.std.specs.Prelude.{◌≡◌};
 ghost use Rattle.kerning.specs.Additions.{add_all};
-ghost use Rattle.kerning.specs.Bounds.{Within};
+ghost use Rattle.kerning_machine.specs.Work.{CanPass};
 ghost use Rattle.kerx_machine.specs.Machine.{tuples_of, has_tuples, is_tupled, entries_of, opened_any, opened, worked, worked_indexed, step_call};
 
 use answers::Answer;
-use kerning_machine::{Kerning, KerningState, KerningStep, Opened, Reading as Entries};
-use parse::ReadU32;
-use state_tables::Made;
+use kerning::heads;
+use kerning::heads::Unready;
+use kerning_machine::{Kerning, KerningState, KerningStep, Reading as Entries};
 use tables::units::Reading;
 
 // The format of this machine.
@@ -20,26 +19,26 @@ pub const FORMAT: u32 = 1;
 pub const BODY: usize = 12;
 
 // The tuple count of a subtable: from version 4 of the list on.
-fn tuples_of(bytes: &[u8], version: u16) -> ReadU32
+#[tactic(auto, unfolding(crate::specs::Machine::tuples_of))]
+fn tuples_of(bytes: &[u8], version: u16) -> Option<u32>
     ensures { result ≡ tuples_of bytes.now version }
 {
     if version < 4 {
-        return ReadU32::Got(0);
+        return Some(0);
     }
     parse::read_u32(bytes, 8)
 }
 
 // Whether a subtable has tuples.
+#[tactic(auto, unfolding(crate::specs::Machine::has_tuples))]
 fn has_tuples(bytes: &[u8], version: u16) -> bool
     ensures { result ≡ has_tuples bytes.now version }
 {
-    let ReadU32::Got(tuples) = tuples_of(bytes, version) else {
-        return false;
-    };
-    tuples != 0
+    tuples_of(bytes, version).is_some_and(|tuples| tuples != 0)
 }
 
 // Whether a subtable has tuples, which the manual's reading refuses.
+#[tactic(auto, unfolding(crate::specs::Machine::is_tupled))]
 pub fn is_tupled(bytes: &[u8], version: u16, reading: Reading) -> bool
     ensures { result ≡ is_tupled bytes.now version reading }
 {
@@ -60,41 +59,36 @@ fn entries_of(reading: Reading, values: u32, tuples: u32) -> Entries
 }
 
 // The machine of a subtable whose bytes begin at its head, with tuples or without.
-fn open_any(bytes: &[u8], version: u16, reading: Reading) -> Opened
+#[tactic(auto, unfolding(crate::specs::Machine::opened_any))]
+fn open_any(bytes: &[u8], version: u16, reading: Reading) -> Result<Kerning, Unready>
     ensures { result ≡ opened_any bytes.now version reading }
 {
-    let ReadU32::Got(coverage) = parse::read_u32(bytes, 4) else {
-        return Opened::Short;
-    };
-    let ReadU32::Got(tuples) = tuples_of(bytes, version) else {
-        return Opened::Short;
-    };
+    let coverage = parse::read_u32(bytes, 4).ok_or(Unready::Short)?;
+    let tuples = tuples_of(bytes, version).ok_or(Unready::Short)?;
     if coverage % 256 != FORMAT {
-        return Opened::Short;
+        return Err(Unready::Short);
     }
     let body = parse::from(bytes, BODY);
-    let Made::Ready(states) = state_tables::extended_by(body, reading) else {
-        return Opened::Short;
-    };
-    let ReadU32::Got(values) = parse::read_u32(body, 16) else {
-        return Opened::Short;
-    };
-    Opened::Ready(Kerning {
+    let states = state_tables::extended_by(body, reading).ok_or(Unready::Short)?;
+    let values = parse::read_u32(body, 16).ok_or(Unready::Short)?;
+    Ok(Kerning {
         states,
         reading: entries_of(reading, values, tuples),
     })
 }
 
 // The machine of a subtable whose bytes begin at its head.
-pub fn open(bytes: &[u8], version: u16, reading: Reading) -> Opened
+#[tactic(auto, unfolding(crate::specs::Machine::opened))]
+pub fn open(bytes: &[u8], version: u16, reading: Reading) -> Result<Kerning, Unready>
     ensures { result ≡ opened bytes.now version reading }
 {
     let tupled = is_tupled(bytes, version, reading);
     let machine = open_any(bytes, version, reading);
-    kerning_machine::barred(tupled, machine)
+    heads::barred(tupled, machine)
 }
 
 // The pass by the subtable whose bytes begin at its head and the classes of an index; HEAD where it can't be opened.
+#[tactic(auto, unfolding(crate::specs::Machine::worked_indexed))]
 pub fn work_by(
     bytes: &[u8],
     version: u16,
@@ -104,7 +98,7 @@ pub fn work_by(
     reading: Reading,
     index: &[u16],
 ) -> Answer
-    requires { (used ≤ length glyphs.now) × (used ≤ length along.old) × (used ≤ room_limit) × Within (2 ^ 60) along.old }
+    requires { CanPass glyphs.now used along.old }
     ensures answer { result ≡ (worked_indexed index.now bytes.now version glyphs.now used reading).answer }
     ensures along { along.new ≡ add_all (worked_indexed index.now bytes.now version glyphs.now used
         reading).additions along.old }
@@ -129,7 +123,7 @@ pub fn work(
     along: &mut [i64],
     reading: Reading,
 ) -> Answer
-    requires { (used ≤ length glyphs.now) × (used ≤ length along.old) × (used ≤ room_limit) × Within (2 ^ 60) along.old }
+    requires { CanPass glyphs.now used along.old }
     ensures answer { result ≡ (worked bytes.now version glyphs.now used reading).answer }
     ensures along { along.new ≡ add_all (worked bytes.now version glyphs.now used reading).additions
         along.old }
@@ -139,6 +133,7 @@ pub fn work(
 }
 
 // A lone step by the subtable at `start` of a list of this version, on a line of so many places.
+#[tactic(auto, unfolding(crate::specs::Machine::step_call))]
 pub fn step_by(
     state: KerningState,
     table: &[u8],

@@ -2,12 +2,12 @@
 // asked for; those it marks are proved in the crate `promises`.
 #![tactic(auto)]
 
-use answers::Reply;
+use answers::Refusal;
 use chains::Edition;
 use morx::Choices;
 use shaper::{SHAPER_ROOM, Shaped};
 use std::io;
-use tables::lookup::{LookupReply, Why};
+use tables::lookup::Why;
 
 // The lookup table of document 01: format 8, first glyph 5, elements 7 and 9.
 const TRIMMED: [u8; 10] = [0, 8, 0, 5, 0, 2, 0, 7, 0, 9];
@@ -17,97 +17,68 @@ const CLASSED: [u8; 26] = [
     0, 0, 0, 4, 0, 0, 0, 16, 0, 0, 0, 0, 0, 0, 0, 0, 0, 8, 0, 5, 0, 2, 0, 7, 0, 9,
 ];
 
-fn print_number(rt: &impl Print, name: &str, number: u64) -> io::Result<()> {
-    print!(rt; "{name}{number}")
-}
-
 // The answer's number, and the value where there is one.
-fn print_reply(rt: &impl Print, reply: Reply) -> io::Result<()> {
+fn print_reply(rt: &impl Print, reply: Result<Option<u32>, Refusal>) -> io::Result<()> {
     match reply {
-        Reply::Value(value) => {
-            print_number(rt, ": answer ", 0)?;
-            print_number(rt, " value ", value as u64)?;
-        }
-        Reply::Nothing => print_number(rt, ": answer ", 1)?,
-        Reply::Refused(why) => print_number(rt, ": answer ", answers::refusal_number(why) as u64)?,
+        Ok(Some(value)) => println!(rt; ": answer 0 value {value}"),
+        Ok(None) => println!(rt; ": answer 1"),
+        Err(why) => println!(rt; ": answer {}", u32::from(why)),
     }
-    println!(rt)
 }
 
-fn print_why(rt: &impl Print, why: Why) -> io::Result<()> {
+fn reason(why: Why) -> &'static str {
     match why {
-        Why::NotCovered => print!(rt; " not covered"),
-        Why::CutShort => print!(rt; " cut short"),
-        Why::UnknownFormat => print!(rt; " unknown format"),
+        Why::NotCovered => "not covered",
+        Why::CutShort => "cut short",
+        Why::UnknownFormat => "unknown format",
     }
 }
 
 // The same of a lookup, and why there is no value.
-fn print_found(rt: &impl Print, reply: LookupReply) -> io::Result<()> {
+fn print_found(rt: &impl Print, reply: Result<Result<u16, Why>, Refusal>) -> io::Result<()> {
     match reply {
-        LookupReply::Element(element) => {
-            print_number(rt, ": answer ", 0)?;
-            print_number(rt, " value ", element as u64)?;
-        }
-        LookupReply::Nothing(why) => {
-            print_number(rt, ": answer ", 1)?;
-            print_why(rt, why)?;
-        }
-        LookupReply::Refused(why) => {
-            print_number(rt, ": answer ", answers::refusal_number(why) as u64)?
-        }
+        Ok(Ok(element)) => println!(rt; ": answer 0 value {element}"),
+        Ok(Err(why)) => println!(rt; ": answer 1 {}", reason(why)),
+        Err(why) => println!(rt; ": answer {}", u32::from(why)),
     }
-    println!(rt)
 }
 
 fn print_lookup(rt: &impl Print, glyph: u16) -> io::Result<()> {
-    print_number(rt, "lookup of glyph ", glyph as u64)?;
+    print!(rt; "lookup of glyph {glyph}")?;
     print_found(rt, tables::lookup::lookup(&TRIMMED, 0, glyph))
 }
 
-// In the first bytes of a table; all of them are there.
-fn print_lookup_cut(rt: &impl Print, table: &[u8], length: usize, glyph: u16) -> io::Result<()> {
-    if table.len() < length {
-        return Ok(());
-    }
-    print_number(rt, "lookup in ", length as u64)?;
-    print_number(rt, " bytes of glyph ", glyph as u64)?;
-    print_found(rt, tables::lookup::lookup(&table[..length], 0, glyph))
+// In a part of a table.
+fn print_lookup_cut(rt: &impl Print, part: &[u8], glyph: u16) -> io::Result<()> {
+    print!(rt; "lookup in {} bytes of glyph {glyph}", part.len())?;
+    print_found(rt, tables::lookup::lookup(part, 0, glyph))
 }
 
 // In a table of another format.
 fn print_lookup_format(rt: &impl Print, format: u8, glyph: u16) -> io::Result<()> {
-    print_number(rt, "lookup in format ", format as u64)?;
-    print_number(rt, " of glyph ", glyph as u64)?;
+    print!(rt; "lookup in format {format} of glyph {glyph}")?;
     print_found(rt, tables::lookup::lookup(&[0, format], 0, glyph))
 }
 
 // The class of a glyph in an extended state table whose class table is that lookup.
 fn print_class(rt: &impl Print, glyph: u16) -> io::Result<()> {
-    print_number(rt, "class of glyph ", glyph as u64)?;
+    print!(rt; "class of glyph {glyph}")?;
     print_reply(
         rt,
         state_tables::classes::class_extended(&CLASSED, 0, glyph),
     )
 }
 
-fn print_glyph(rt: &impl Print, glyph: u16) -> io::Result<()> {
-    print_number(rt, " ", glyph as u64)
-}
-
-fn print_glyphs(rt: &impl Print, glyphs: &[u16]) -> io::Result<()> {
-    for glyph in glyphs {
-        print_glyph(rt, *glyph)?;
+// The first words, each behind a space.
+fn print_first(rt: &impl Print, words: &[u16], count: usize) -> io::Result<()> {
+    for word in words.iter().take(count) {
+        print!(rt; " {word}")?;
     }
     Ok(())
 }
 
-// The first words; all of them are there.
-fn print_first(rt: &impl Print, words: &[u16], count: usize) -> io::Result<()> {
-    if words.len() < count {
-        return Ok(());
-    }
-    print_glyphs(rt, &words[..count])
+fn print_words(rt: &impl Print, words: &[u16]) -> io::Result<()> {
+    print_first(rt, words, words.len())
 }
 
 // The line 10 to 14 after a verb on a window.
@@ -115,14 +86,13 @@ fn print_verb(rt: &impl Print, verb: u16, start: usize, end: usize) -> io::Resul
     let mut glyphs: [u16; 5] = [10, 11, 12, 13, 14];
     let mut tags: [u16; 5] = [0; 5];
     let mut homes: [u16; 5] = [0; 5];
-    line::fresh(&glyphs, &mut tags, &mut homes);
+    let _ = line::fresh(&glyphs, &mut tags, &mut homes);
     let answer = line::lone_verb(&mut glyphs, &mut tags, &homes, 5, verb, start, end);
-    print_number(rt, "verb ", verb as u64)?;
-    print_number(rt, " from ", start as u64)?;
-    print_number(rt, " to ", end as u64)?;
-    print_number(rt, ": answer ", answers::number(answer) as u64)?;
-    print!(rt; " glyphs")?;
-    print_glyphs(rt, &glyphs)?;
+    print!(rt;
+        "verb {verb} from {start} to {end}: answer {} glyphs",
+        u32::from(answer)
+    )?;
+    print_words(rt, &glyphs)?;
     println!(rt)
 }
 
@@ -139,15 +109,15 @@ fn print_offset(rt: &impl Print, action: u32, offset: i32) -> io::Result<()> {
 fn print_shaped(
     rt: &impl Print,
     shaped: Shaped,
-    glyphs: &[u16; SHAPER_ROOM],
-    tags: &[u16; SHAPER_ROOM],
-    homes: &[u16; SHAPER_ROOM],
+    glyphs: &[u16],
+    tags: &[u16],
+    homes: &[u16],
 ) -> io::Result<()> {
-    let answer = shaped.answer;
-    print_number(rt, "shaper: answer ", answers::number(answer) as u64)?;
-    print_number(rt, " heads ", shaped.heads as u64)?;
-    print_number(rt, " length ", shaped.used as u64)?;
-    print!(rt; " glyphs")?;
+    let answer = u32::from(shaped.answer);
+    print!(rt;
+        "shaper: answer {answer} heads {} length {} glyphs",
+        shaped.heads, shaped.used
+    )?;
     print_first(rt, glyphs, shaped.used)?;
     print!(rt; " tags")?;
     print_first(rt, tags, shaped.used)?;
@@ -184,12 +154,13 @@ fn print_run(rt: &impl Print, table: &[u8], requests: &[u32]) -> io::Result<()> 
         3,
         requests,
     );
-    let answer = reply.answer;
-    print_number(rt, "run with requests: ", requests.len() as u64)?;
-    print_number(rt, ", answer ", answers::number(answer) as u64)?;
-    print_number(rt, " heads ", reply.heads as u64)?;
-    print!(rt; " glyphs")?;
-    print_glyphs(rt, &glyphs)?;
+    let answer = u32::from(reply.answer);
+    print!(rt;
+        "run with requests: {}, answer {answer} heads {} glyphs",
+        requests.len(),
+        reply.heads
+    )?;
+    print_words(rt, &glyphs)?;
     println!(rt)
 }
 
@@ -208,7 +179,7 @@ fn main(rt: HostRuntime) -> io::Result<()> {
     print_lookup(&rt, 6)?;
     print_lookup(&rt, 4)?;
     print_lookup(&rt, 7)?;
-    print_lookup_cut(&rt, &TRIMMED, 8, 6)?;
+    print_lookup_cut(&rt, &TRIMMED[..8], 6)?;
     print_lookup_format(&rt, 3, 6)?;
     print_class(&rt, 0xFFFF)?;
     print_offset(&rt, 0x3FFFFFFF, -1)?;

@@ -1,4 +1,5 @@
 -- More turns than a list of actions counts with change nothing.
+use Rattle.std.specs.Prelude.{Option, Some, None}
 use Prim.Native.Nat.{ℕ, zero, suc, ◌+◌, ◌≤◌}
 use mathlib.Core.Path.{◌≡◌, refl, sym, ◌∙◌, ap}
 use mathlib.Core.Bool.{Bool, true, false}
@@ -11,7 +12,6 @@ use Rattle.laws.specs.Lists.{either}
 use Rattle.ligature.specs.Actions.{action_of}
 use Rattle.ligature.specs.Ligature.{Ligation, ligations_of, stored_in, turn_of, Acts, acts}
 use Rattle.ligature.specs.declared.Turn.{Turn}
-use Rattle.ligature.specs.declared.Turn.TheVariants as Turn'
 use Rattle.ligature.proofs.Acting.{none_left, turn_ends, turn_stops, turn_goes}
 
 -- neither of two tests
@@ -35,21 +35,21 @@ module _ (bytes places : List ℕ) (depth more : ℕ) where
     where
       go : ((at total : ℕ) (gs : List ℕ) (ms : List Ligation) → cycles + 1 ≤ 33 → 34 ≤ turns + (cycles + 1)
           → from (more + turns) (number + 1) at total (cycles + 1) gs ms ≡ from turns (number + 1) at total (cycles + 1) gs ms)
-          → (t : Turn) → turn_of (action_of bytes number (get_or glyphs slot 0) sum) slot ≡ t
+          → (t : Option Turn) → turn_of (action_of bytes number (get_or glyphs slot 0) sum) slot ≡ t
           → from (suc (more + turns)) number (suc slot) sum cycles glyphs made ≡ from (suc turns) number (suc slot) sum cycles glyphs made
-      go later Turn'.Ended e =
+      go later None e =
           turn_ends bytes places depth (more + turns) number slot sum cycles glyphs made e
           ∙ sym (turn_ends bytes places depth turns number slot sum cycles glyphs made e)
-      go later (Turn'.On at total last) e = stop (either last (ltb 32 cycles)) refl
+      go later (Some turn) e = stop (either turn.last (ltb 32 cycles)) refl
         where
-          stop : (t : Bool) → either last (ltb 32 cycles) ≡ t
+          stop : (t : Bool) → either turn.last (ltb 32 cycles) ≡ t
               → from (suc (more + turns)) number (suc slot) sum cycles glyphs made ≡ from (suc turns) number (suc slot) sum cycles glyphs made
           stop true f =
               turn_stops bytes places depth (more + turns) number slot sum cycles glyphs made e f
               ∙ sym (turn_stops bytes places depth turns number slot sum cycles glyphs made e f)
           stop false f =
-              let low = ltb-false 32 cycles (not_first last (ltb 32 cycles) f) in
+              let low = ltb-false 32 cycles (not_first turn.last (ltb 32 cycles) f) in
               turn_goes bytes places depth (more + turns) number slot sum cycles glyphs made e f
-              ∙ later at total (stored_in (action_of bytes number (get_or glyphs slot 0) sum) slot glyphs)
+              ∙ later turn.at turn.sum (stored_in (action_of bytes number (get_or glyphs slot 0) sum) slot glyphs)
               (made ++ ligations_of (action_of bytes number (get_or glyphs slot 0) sum) places slot depth) (omega (arith, low)) (omega (arith, h))
               ∙ sym (turn_goes bytes places depth turns number slot sum cycles glyphs made e f)

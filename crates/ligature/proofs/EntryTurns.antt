@@ -1,4 +1,5 @@
 -- More turns than the entries of a step count with change nothing.
+use Rattle.std.specs.Prelude.{Option, Some, None}
 use Prim.Native.Nat.{ℕ, zero, suc, ◌+◌, ◌≤◌}
 use mathlib.Core.Path.{◌≡◌, refl, sym, ◌∙◌, ap, subst⁻¹}
 use mathlib.Core.Bool.{Bool, true, false, not}
@@ -14,12 +15,9 @@ use Rattle.parse.specs.Reads.{u16_at}
 use Rattle.state_tables.specs.Entries.{entry_of, on_entry}
 use Rattle.state_tables.specs.declared.States.{States}
 use Rattle.state_tables.specs.declared.entries.Entry.{Entry}
-use Rattle.state_tables.specs.declared.entries.Entered.{Entered}
-use Rattle.state_tables.specs.declared.entries.Entered.TheVariants as Entered'
 use Rattle.ligature.specs.Actions.{action_of}
 use Rattle.ligature.specs.Ligature.{Ligation, Stack, ligations_of, stored_in, turn_of, Acts, acts, Work, overflows, pushed, performed, entered, Ran, over, ran}
 use Rattle.ligature.specs.declared.Turn.{Turn}
-use Rattle.ligature.specs.declared.Turn.TheVariants as Turn'
 use Rattle.ligature.proofs.Acting.{turn_ends, turn_stops, turn_goes}
 
 -- the cycle count never falls: over a list of actions
@@ -32,17 +30,17 @@ acts_since bytes places depth (suc turns) number (suc slot) sum cycles glyphs ma
     go (λ at total. acts_since bytes places depth turns (number + 1) at total (cycles + 1)) (turn_of (action_of bytes number (get_or glyphs slot 0) sum) slot) refl
   where
     go : ((at total : ℕ) (gs : List ℕ) (ms : List Ligation) → cycles + 1 ≤ (acts bytes places depth turns (number + 1) at total (cycles + 1) gs ms).cycles)
-        → (t : Turn) → turn_of (action_of bytes number (get_or glyphs slot 0) sum) slot ≡ t
+        → (t : Option Turn) → turn_of (action_of bytes number (get_or glyphs slot 0) sum) slot ≡ t
         → cycles ≤ (acts bytes places depth (suc turns) number (suc slot) sum cycles glyphs made).cycles
-    go later Turn'.Ended e =
+    go later None e =
         subst⁻¹ (λ (a : Acts). cycles ≤ a.cycles) (turn_ends bytes places depth turns number slot sum cycles glyphs made e) (omega arith)
-    go later (Turn'.On at total last) e = stop (either last (ltb 32 cycles)) refl
+    go later (Some turn) e = stop (either turn.last (ltb 32 cycles)) refl
       where
-        stop : (t : Bool) → either last (ltb 32 cycles) ≡ t → cycles ≤ (acts bytes places depth (suc turns) number (suc slot) sum cycles glyphs made).cycles
+        stop : (t : Bool) → either turn.last (ltb 32 cycles) ≡ t → cycles ≤ (acts bytes places depth (suc turns) number (suc slot) sum cycles glyphs made).cycles
         stop true f =
             subst⁻¹ (λ (a : Acts). cycles ≤ a.cycles) (turn_stops bytes places depth turns number slot sum cycles glyphs made e f) (omega arith)
         stop false f =
-            let more = later at total (stored_in (action_of bytes number (get_or glyphs slot 0) sum) slot glyphs)
+            let more = later turn.at turn.sum (stored_in (action_of bytes number (get_or glyphs slot 0) sum) slot glyphs)
             (made ++ ligations_of (action_of bytes number (get_or glyphs slot 0) sum) places slot depth) in
             subst⁻¹ (λ (a : Acts). cycles ≤ a.cycles) (turn_goes bytes places depth turns number slot sum cycles glyphs made e f) (omega (arith, more))
 
@@ -77,11 +75,11 @@ module _ (bytes : List ℕ) (states : States) (index glyph class : ℕ) where
 
   -- one turn, by its entry
   module _ (turns state : ℕ) (stack : Stack) (cycles : ℕ) (made : List Ligation) where
-    none : entry_of bytes states state class 2 ≡ Entered'.Ended → from (suc turns) state stack cycles made ≡ over Answer'.Ended state stack made
+    none : entry_of bytes states state class 2 ≡ None → from (suc turns) state stack cycles made ≡ over Answer'.Ended state stack made
     unfolding ran
     none e = rw (e, ran)
 
-    module _ {entry : Entry} (e : entry_of bytes states state class 2 ≡ Entered'.At entry) where
+    module _ {entry : Entry} (e : entry_of bytes states state class 2 ≡ Some entry) where
       abbrev work : Work
       work = entered bytes stack entry index glyph cycles
 
@@ -109,9 +107,9 @@ module _ (bytes : List ℕ) (states : States) (index glyph class : ℕ) where
         ∙ go (λ s k n m. entry_turns turns s k n m) (entry_of bytes states state class 2) refl
       where
         go : ((s : ℕ) (k : Stack) (n : ℕ) (m : List Ligation) → n ≤ 17 → 18 ≤ n + turns → from (more + turns) s k n m ≡ from turns s k n m)
-            → (t : Entered) → entry_of bytes states state class 2 ≡ t → from (suc (more + turns)) state stack cycles made ≡ from (suc turns) state stack cycles made
-        go later Entered'.Ended e = none (more + turns) state stack cycles made e ∙ sym (none turns state stack cycles made e)
-        go later (Entered'.At entry) e = done (entered bytes stack entry index glyph cycles).ended refl
+            → (t : Option Entry) → entry_of bytes states state class 2 ≡ t → from (suc (more + turns)) state stack cycles made ≡ from (suc turns) state stack cycles made
+        go later None e = none (more + turns) state stack cycles made e ∙ sym (none turns state stack cycles made e)
+        go later (Some entry) e = done (entered bytes stack entry index glyph cycles).ended refl
           where
             since : cycles ≤ (entered bytes stack entry index glyph cycles).cycles
             since = entered_since bytes stack entry index glyph cycles

@@ -4,7 +4,7 @@ mod Ligations
 mod Acting
 mod Entering
 mod Running
-mod Scanning
+mod Slots
 mod Runs
 mod Passes
 mod Calls

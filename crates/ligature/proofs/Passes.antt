@@ -1,13 +1,12 @@
 -- A run of one step is the step, and one from the first place on is the pass.
 use Prim.Native.Nat.{ℕ, zero, suc, ◌+◌, ◌-◌, ◌<◌, ◌≤◌}
-use mathlib.Core.Path.{◌≡◌, refl, sym, ◌∙◌, ap, ap₂, subst}
+use mathlib.Core.Path.{◌≡◌, refl, sym, ◌∙◌, ap, ap₂}
 use mathlib.Core.Bool.{Bool, true, false}
-use mathlib.Core.List.{List, [], ◌∷◌, ◌++◌, append-nil, append_assoc}
+use mathlib.Core.List.{List, [], ◌∷◌, ◌++◌, append_assoc}
 use native.Mathlib.Omega.{arith}
-use lib.Dec.{ltb, leb, eqb}
-use lib.ListN.{length, get_or}
-use borrow.Author.Tests.{ltb-true, ltb-false, lt-ltb, le-ltb, le-leb, lt-leb, eq-eqb, ne_eqb}
-use Rattle.answers.specs.declared.Answer.{Answer}
+use lib.Dec.{leb, eqb}
+use lib.ListN.{get_or}
+use borrow.Author.Tests.{lt-ltb, le-ltb, le-leb, lt-leb, eq-eqb, ne_eqb}
 use Rattle.answers.specs.declared.Answer.TheVariants as Answer'
 use Rattle.state_tables.specs.Classes.{class_of}
 use Rattle.state_tables.specs.declared.States.{States}
@@ -19,26 +18,24 @@ use Rattle.machine.specs.Work.{glyph_at}
 use Rattle.machine.proofs.Passing.{turn_goes, turn_stops, turn_ends}
 use Rattle.indexes.specs.Index.{classes_by, indexed}
 use Rattle.indexes.proofs.Laws.{no_index}
-use Rattle.ligature.specs.Ligature.{Stack, stack_in, fresh, Ligation, changes_of, Ran, next, state_of}
+use Rattle.ligature.specs.Ligature.{stack_in, fresh, Ligation, changes_of, Ran, over, next, state_of}
 use Rattle.ligature.specs.Calls.{ligature}
-use Rattle.ligature.specs.Work.{ligated, is_last, run_from, run}
+use Rattle.ligature.specs.Work.{ligated, run_from, run, Leaves, stands_after, Ends}
 use Rattle.ligature.specs.declared.LigatureState.{LigatureState}
 use Rattle.ligature.specs.declared.Reached.{Reached}
+use Rattle.ligature.specs.declared.Stack.{Stack}
 use Rattle.ligature.proofs.Ligations.{used-kept}
-use Rattle.ligature.proofs.Runs.{Reaches, last_step, more-steps}
+use Rattle.ligature.proofs.Runs.{with-step, last_step, more-steps, one-step}
 
 -- the lone step, which is lent no index
-module _ (lent : List ℕ) (z : length lent ≡ 0) (bytes : List ℕ) (states : States) (state : ℕ) (stack : Stack) (l : Line) (index glyph : ℕ) (ends : Bool) where
-  run-once : run lent bytes states true state stack l index glyph ends ≡ next (classes_by lent (class_of bytes states)) bytes states state stack index glyph ends
-  unfolding run run_from is_last
-  run-once = refl
-
-  pub step_reaches : {r : Reached} {places glyphs' stack' homes' : List ℕ} → Reaches l (run lent bytes states true state stack l index glyph ends) r places stack' glyphs' homes'
-      → Reaches l (next (class_of bytes states) bytes states state stack index glyph ends) r places stack' glyphs' homes'
-  step_reaches {r} {places} {glyphs'} {stack'} {homes'} s =
-      subst (λ (n : Ran). Reaches l n r places stack' glyphs' homes')
-      (run-once ∙ ap (λ (c : ℕ → ℕ). next c bytes states state stack index glyph ends) (no_index lent z (class_of bytes states)))
-      s
+pub stepped_alone : (bytes : List ℕ) (states : States) (state : ℕ) (stack : Stack) (l : Line) (index glyph : ℕ) (ends : Bool)
+    → run [] bytes states (index + 1 - index) state stack l index glyph ends ≡ next (class_of bytes states) bytes states state stack index glyph ends
+unfolding run
+stepped_alone bytes states state stack l index glyph ends =
+    let one : index + 1 - index ≡ 1 = omega arith in
+    ap (λ (n : ℕ). run [] bytes states n state stack l index glyph ends) one
+    ∙ one-step (classes_by [] (class_of bytes states)) bytes states (over Answer'.Done state stack []) l index glyph ends
+    ∙ ap (λ (c : ℕ → ℕ). next c bytes states state stack index glyph ends) (no_index [] refl (class_of bytes states))
 
 -- ligatures as changes, in two parts
 changes-append : (xs ys : List Ligation) → changes_of (xs ++ ys) ≡ changes_of xs ++ changes_of ys
@@ -66,120 +63,107 @@ module _ (classes : ℕ → ℕ) (bytes : List ℕ) (states : States) where
   abbrev as_pass : Ran → Passed
   as_pass r = record { answer = r.answer; changes = changes_of r.made }
 
-  abbrev steps : (turns : ℕ) → LigatureState → Line → (place glyph : ℕ) → (ends : Bool) → List Ligation → Ran
-  steps turns s l = run_from classes bytes states false turns s.state (stack_in s) l
+  abbrev steps : (n : ℕ) → Ran → Line → (i : ℕ) → Ran
+  steps n r l i = run_from classes bytes states n r l i (glyph_at l.glyphs l.used i) (leb l.used i)
 
-  abbrev here : LigatureState → (place glyph : ℕ) → (ends : Bool) → Ran
-  here s place glyph ends = next classes bytes states s.state (stack_in s) place glyph ends
+  -- what a pass makes of the line, behind the steps so far
+  abbrev passes : (n : ℕ) → Ran → Line → (i : ℕ) → Passed
+  passes n r l i = after (changes_of r.made) (pass_from (ligature.step classes bytes states) n (state_of r) l i)
 
-  module _ (turns : ℕ) (s : LigatureState) (l : Line) (i : ℕ) (made : List Ligation) where
-    ended : (glyph : ℕ) (ends : Bool) → is_last (here s i glyph ends).answer false l.used i ≡ true
-        → as_pass (steps (suc turns) s l i glyph ends made) ≡ after (changes_of made) (as_pass (here s i glyph ends))
-    ended glyph ends e =
-        ap as_pass (last_step classes bytes states false turns s.state (stack_in s) l i glyph ends made e)
-        ∙ ap (λ (cs : List Change). record { answer = (here s i glyph ends).answer; changes = cs }) (changes-append made (here s i glyph ends).made)
+  -- a step behind those so far
+  taken : (r n : Ran) → as_pass (over n.answer n.state n.stack (r.made ++ n.made)) ≡ after (changes_of r.made) (as_pass n)
+  taken r n = ap (λ (cs : List Change). record { answer = n.answer; changes = cs }) (changes-append r.made n.made)
 
-    -- the end call
-    at-end : l.used ≡ i → as_pass (steps (suc turns) s l i deleted true made) ≡ after (changes_of made) (pass_from (ligature.step classes bytes states) (suc turns) s l i)
-    unfolding is_last
-    at-end e =
-        ended deleted true (rw (le-leb l.used i (omega (arith, e))))
-        ∙ ap (λ (k : ℕ). after (changes_of made) (as_pass (here s k deleted true))) (sym e)
-        ∙ ap (after (changes_of made)) (sym (turn_ends (ligature.step classes bytes states) turns s l i (omega (arith, e))))
+  -- the end call
+  at-end : (r : Ran) (l : Line) (i : ℕ) → l.used ≡ i → as_pass (steps 1 r l i) ≡ passes 1 r l i
+  at-end r l i e =
+      ap as_pass (one-step classes bytes states r l i (glyph_at l.glyphs l.used i) (leb l.used i))
+      ∙ ap₂ (λ (x : ℕ) (y : Bool). as_pass (with-step classes bytes states 0 r l i x y)) (glyph_past l.glyphs l.used i (omega (arith, e))) (le-leb l.used i (omega (arith, e)))
+      ∙ taken r (next classes bytes states r.state r.stack i deleted true)
+      ∙ ap (λ (k : ℕ). after (changes_of r.made) (as_pass (next classes bytes states r.state r.stack k deleted true))) (sym e)
+      ∙ ap (after (changes_of r.made)) (sym (turn_ends (ligature.step classes bytes states) 0 (state_of r) l i (omega (arith, e))))
 
-    module _ (h : i < l.used) where
-      abbrev step : Ran
-      step = here s i (get_or l.glyphs i 0) false
+  module _ (n : ℕ) (r : Ran) (l : Line) (i : ℕ) (h : i < l.used) where
+    abbrev here : Ran
+    here = next classes bytes states r.state r.stack i (get_or l.glyphs i 0) false
 
-      -- a step that is not DONE
-      at-stop : is_done step.answer ≡ false
-          → as_pass (steps (suc turns) s l i (get_or l.glyphs i 0) false made) ≡ after (changes_of made) (pass_from (ligature.step classes bytes states) (suc turns) s l i)
-      unfolding is_last
-      at-stop d =
-          ended (get_or l.glyphs i 0) false (rw (lt-leb l.used i h, d))
-          ∙ ap (after (changes_of made)) (sym (turn_stops (ligature.step classes bytes states) turns s l i h d))
+    -- the steps so far and this one, and the line behind it
+    abbrev so-far : Ran
+    so-far = over here.answer here.state here.stack (r.made ++ here.made)
 
-      -- any other, with what the rest gives
-      at-step : is_done step.answer ≡ true
-          → as_pass (steps turns (state_of step) (ligated step.made l) (i + 1) (glyph_at (ligated step.made l).glyphs (ligated step.made l).used (i + 1))
-          (leb (ligated step.made l).used (i + 1)) (made ++ step.made))
-          ≡ after (changes_of (made ++ step.made)) (pass_from (ligature.step classes bytes states) turns (state_of step) (ligated step.made l) (i + 1))
-          → as_pass (steps (suc turns) s l i (get_or l.glyphs i 0) false made) ≡ after (changes_of made) (pass_from (ligature.step classes bytes states) (suc turns) s l i)
-      unfolding is_last
-      at-step d later =
-          ap as_pass (more-steps classes bytes states false turns s.state (stack_in s) l i (get_or l.glyphs i 0) false made (rw (lt-leb l.used i h, d)))
-          ∙ later
-          ∙ ap (λ (cs : List Change). record { answer = whole.answer; changes = cs ++ whole.changes }) (changes-append made step.made)
-          ∙ ap (λ (cs : List Change). record { answer = whole.answer; changes = cs }) (append_assoc (changes_of made) (changes_of step.made) whole.changes)
-          ∙ ap (λ (k : ℕ). after (changes_of made) (after (changes_of step.made) (pass_from (ligature.step classes bytes states) turns (state_of step) (ligated step.made l) (i + k)))) (sym one)
-          ∙ ap (after (changes_of made)) (sym (turn_goes (ligature.step classes bytes states) turns s l i h d))
-        where
-          whole : Passed
-          whole = pass_from (ligature.step classes bytes states) turns (state_of step) (ligated step.made l) (i + 1)
+    abbrev behind : Line
+    behind = ligated here.made l
 
-          one : advance_of step.answer ≡ 1
-          one = rw d
+    begins : as_pass (steps (suc n) r l i) ≡ as_pass (run_from classes bytes states (suc n) r l i (get_or l.glyphs i 0) false)
+    begins =
+        ap₂ (λ (x : ℕ) (y : Bool). as_pass (run_from classes bytes states (suc n) r l i x y)) (glyph-inside l.glyphs l.used i h) (lt-leb l.used i h)
 
-  abbrev Alike : (turns : ℕ) → LigatureState → Line → (i : ℕ) → List Ligation → Type 0
-  Alike turns s l i made =
-      as_pass (steps turns s l i (glyph_at l.glyphs l.used i) (leb l.used i) made)
-      ≡ after (changes_of made) (pass_from (ligature.step classes bytes states) turns s l i)
+    -- a step that is not DONE
+    at-stop : is_done here.answer ≡ false → as_pass (steps (suc n) r l i) ≡ passes (suc n) r l i
+    at-stop d =
+        begins
+        ∙ ap as_pass (last_step classes bytes states n r l i (get_or l.glyphs i 0) false d)
+        ∙ taken r here
+        ∙ ap (after (changes_of r.made)) (sym (turn_stops (ligature.step classes bytes states) n (state_of r) l i h d))
 
-  none_left : (s : LigatureState) (l : Line) (i : ℕ) (made : List Ligation) → Alike zero s l i made
-  unfolding run_from pass_from
-  none_left s l i made = ap (λ (cs : List Change). record { answer = Answer'.Done; changes = cs }) (sym (append-nil (changes_of made)))
+    -- any other, with what the rest gives
+    at-step : is_done here.answer ≡ true → as_pass (steps n so-far behind (i + 1)) ≡ passes n so-far behind (i + 1)
+        → as_pass (steps (suc n) r l i) ≡ passes (suc n) r l i
+    at-step d later =
+        begins
+        ∙ ap as_pass (more-steps classes bytes states n r l i (get_or l.glyphs i 0) false d)
+        ∙ later
+        ∙ ap (λ (cs : List Change). record { answer = whole.answer; changes = cs ++ whole.changes }) (changes-append r.made here.made)
+        ∙ ap (λ (cs : List Change). record { answer = whole.answer; changes = cs }) (append_assoc (changes_of r.made) (changes_of here.made) whole.changes)
+        ∙ ap (λ (k : ℕ). after (changes_of r.made) (after (changes_of here.made) (pass_from (ligature.step classes bytes states) n (state_of here) behind (i + k)))) (sym one)
+        ∙ ap (after (changes_of r.made)) (sym (turn_goes (ligature.step classes bytes states) n (state_of r) l i h d))
+      where
+        whole : Passed
+        whole = pass_from (ligature.step classes bytes states) n (state_of here) behind (i + 1)
 
-  run_passes : (turns : ℕ) (s : LigatureState) (l : Line) (i : ℕ) (made : List Ligation) → i ≤ l.used → Alike turns s l i made
-  run_passes zero s l i made h = none_left s l i made
-  run_passes (suc turns) s l i made h = place (λ t k made' g. run_passes turns t k (i + 1) made' g) (ltb i l.used) refl
+        one : advance_of here.answer ≡ 1
+        one = rw d
+
+  run_passes : (n : ℕ) (r : Ran) (l : Line) (i : ℕ) → l.used ≡ i + n → as_pass (steps (suc n) r l i) ≡ passes (suc n) r l i
+  run_passes zero r l i e = at-end r l i (omega (arith, e))
+  run_passes (suc n) r l i e = go (λ k m. run_passes n k m (i + 1)) (is_done (here (suc n) r l i h).answer) refl
     where
-      begins : {glyph : ℕ} {ends : Bool} → glyph_at l.glyphs l.used i ≡ glyph → leb l.used i ≡ ends
-          → as_pass (steps (suc turns) s l i glyph ends made) ≡ after (changes_of made) (pass_from (ligature.step classes bytes states) (suc turns) s l i)
-          → Alike (suc turns) s l i made
-      begins g e same = ap₂ (λ (x : ℕ) (y : Bool). as_pass (steps (suc turns) s l i x y made)) g e ∙ same
+      h : i < l.used
+      h = omega (arith, e)
 
-      place : ((t : LigatureState) (k : Line) (made' : List Ligation) → i + 1 ≤ k.used → Alike turns t k (i + 1) made')
-          → (b : Bool) → ltb i l.used ≡ b → Alike (suc turns) s l i made
-      place later false e =
-          let p = ltb-false i l.used e in
-          begins (glyph_past l.glyphs l.used i p) (le-leb l.used i p) (at-end turns s l i made (omega (arith, p, h)))
-      place later true e = begins (glyph-inside l.glyphs l.used i p) (lt-leb l.used i p) (answered (is_done (step turns s l i made p).answer) refl)
-        where
-          p : i < l.used
-          p = ltb-true i l.used e
-
-          answered : (d : Bool) → is_done (step turns s l i made p).answer ≡ d
-              → as_pass (steps (suc turns) s l i (get_or l.glyphs i 0) false made) ≡ after (changes_of made) (pass_from (ligature.step classes bytes states) (suc turns) s l i)
-          answered false d = at-stop turns s l i made p d
-          answered true d =
-              let r : Ran = step turns s l i made p in
-              at-step turns s l i made p d (later (state_of r) (ligated r.made l) (made ++ r.made) (omega (arith, used-kept r.made l, p)))
-
--- an answer, glyphs and homes that are what a pass gives
-pub record Ends (whole : Passed) (l : Line) (answer : Answer) (glyphs homes : List ℕ) : Type 0 where
-  pub answers : answer ≡ whole.answer
-  pub left : glyphs ≡ (apply_all whole.changes l).glyphs
-  pub joined : homes ≡ (apply_all whole.changes l).homes
+      go : ((k : Ran) (m : Line) → m.used ≡ i + 1 + n → as_pass (steps (suc n) k m (i + 1)) ≡ passes (suc n) k m (i + 1))
+          → (d : Bool) → is_done (here (suc n) r l i h).answer ≡ d → as_pass (steps (suc (suc n)) r l i) ≡ passes (suc (suc n)) r l i
+      go later false d = at-stop (suc n) r l i h d
+      go later true d =
+          at-step (suc n) r l i h d
+          (later (so-far (suc n) r l i h) (behind (suc n) r l i h) (omega (arith, used-kept (here (suc n) r l i h).made l, e)))
 
 module _ (index bytes : List ℕ) (states : States) (l : Line) where
-  from_fresh : LigatureState → (glyph : ℕ) → (ends : Bool) → Ran
-  from_fresh s glyph ends = run index bytes states false s.state (stack_in s) l 0 glyph ends
+  abbrev classes : ℕ → ℕ
+  classes = classes_by index (class_of bytes states)
 
-  whole-pass : as_pass (classes_by index (class_of bytes states)) bytes states (from_fresh fresh (glyph_at l.glyphs l.used 0) (leb l.used 0)) ≡ passed (indexed index ligature) bytes states l
+  from_fresh : (steps : ℕ) → LigatureState → (glyph : ℕ) → (ends : Bool) → Ran
+  from_fresh steps s glyph ends = run index bytes states steps s.state (stack_in s) l 0 glyph ends
+
+  whole-pass : as_pass classes bytes states (from_fresh (suc l.used) fresh (glyph_at l.glyphs l.used 0) (leb l.used 0)) ≡ passed (indexed index ligature) bytes states l
   unfolding from_fresh run passed passed_by changes_of
   whole-pass =
-      let n : suc (l.used - 0) ≡ ligature.rest fresh l 0 = omega arith in
-      run_passes (classes_by index (class_of bytes states)) bytes states (suc (l.used - 0)) fresh l 0 [] (omega arith)
-      ∙ ap (λ (turns : ℕ). pass_from (ligature.step (classes_by index (class_of bytes states)) bytes states) turns fresh l 0) n
+      let n : suc l.used ≡ ligature.rest fresh l 0 = omega arith in
+      run_passes classes bytes states l.used (over Answer'.Done fresh.state (stack_in fresh) []) l 0 (omega arith)
+      ∙ ap (λ (turns : ℕ). pass_from (ligature.step classes bytes states) turns fresh l 0) n
 
-  pub pass-ends : {s : LigatureState} {glyph : ℕ} {r : Reached} {places stack glyphs' homes' : List ℕ} → s ≡ fresh → glyph ≡ glyph_at l.glyphs l.used 0
-      → Reaches l (run index bytes states false s.state (stack_in s) l 0 glyph (eqb l.used 0)) r places stack glyphs' homes' → Ends (passed (indexed index ligature) bytes states l) l r.answer glyphs' homes'
+  pub pass-ends : {steps : ℕ} {s : LigatureState} {stack stack' : Stack} {glyph : ℕ} {r : Reached} {glyphs' homes' : List ℕ} → steps ≡ suc l.used → s ≡ fresh
+      → stack ≡ stack_in s → glyph ≡ glyph_at l.glyphs l.used 0
+      → Leaves (stands_after (run index bytes states steps s.state stack l 0 glyph (eqb l.used 0)) l) r stack' glyphs' homes'
+      → Ends (passed (indexed index ligature) bytes states l) l r.answer glyphs' homes'
   unfolding from_fresh
-  pass-ends {s} {glyph} {r} f g reaches =
-      let same : from_fresh s glyph (eqb l.used 0) ≡ from_fresh fresh (glyph_at l.glyphs l.used 0) (leb l.used 0) =
-      ap₂ (λ (t : LigatureState) (x : ℕ). from_fresh t x (eqb l.used 0)) f g
-      ∙ ap (from_fresh fresh (glyph_at l.glyphs l.used 0)) (none-used l.used) in
-      let w = ap (as_pass (classes_by index (class_of bytes states)) bytes states) same ∙ whole-pass in
+  pass-ends {steps} {s} {stack} {stack'} {glyph} {r} n f k g reaches =
+      let same : run index bytes states steps s.state stack l 0 glyph (eqb l.used 0) ≡ from_fresh (suc l.used) fresh (glyph_at l.glyphs l.used 0) (leb l.used 0) =
+      ap (λ (x : Stack). run index bytes states steps s.state x l 0 glyph (eqb l.used 0)) k
+      ∙ ap (λ (t : LigatureState). from_fresh steps t glyph (eqb l.used 0)) f
+      ∙ ap₂ (λ (m x : ℕ). from_fresh m fresh x (eqb l.used 0)) n g
+      ∙ ap (from_fresh (suc l.used) fresh (glyph_at l.glyphs l.used 0)) (none-used l.used) in
+      let w = ap (as_pass classes bytes states) same ∙ whole-pass in
       record {
         answers = ap (λ (x : Reached). x.answer) reaches.answers ∙ ap (λ (p : Passed). p.answer) w;
         left = reaches.written ∙ ap (λ (p : Passed). (apply_all p.changes l).glyphs) w;

@@ -1,12 +1,11 @@
 -- The ligature machine on a subtable: how that is opened, and which states are refused.
-use Rattle.std.specs.Prelude.{ℕ, ◌+◌, ◌-◌, Bool, not, List, [], ◌∷◌, ltb, leb, get_or}
+use Rattle.state_tables.specs.declared.States.{States}
+use Rattle.std.specs.Prelude.{ℕ, ◌+◌, ◌-◌, Bool, not, List, [], ◌∷◌, ltb, leb, get_or, Option, None}
 use Rattle.laws.specs.Lists.{every}
 use Rattle.answers.specs.Refuse.{Test}
 use Rattle.answers.specs.declared.Refusal.TheVariants as Refusal'
 use Rattle.parse.specs.Reads.{read_u32}
 use Rattle.parse.specs.Use.{on_u32}
-use Rattle.state_tables.specs.declared.Made.{Made}
-use Rattle.state_tables.specs.declared.Made.TheVariants as Made'
 use Rattle.machine.specs.Head.{body_of}
 use Rattle.machine.specs.Call as Call'
 use Rattle.machine.specs.Machine.{Machine}
@@ -15,8 +14,8 @@ use Rattle.ligature.specs.declared.LigatureState.{LigatureState}
 
 -- the state table of a ligature subtable, where the numbers at 16, 20 and 24, behind its head, can be read too: the last can't without
 -- the others
-unfoldable pub opened : List ℕ → Made
-opened bytes = on_u32 (read_u32 (body_of bytes) 24) (λ ligatures. Call'.opened bytes 2) Made'.Short
+unfoldable pub opened : List ℕ → Option States
+opened bytes = on_u32 (read_u32 (body_of bytes) 24) (λ ligatures. Call'.opened bytes 2) None
 
 -- no place of a used slot is above the length
 unfoldable pub are_inside : (places : List ℕ) → (depth used : ℕ) → Bool

@@ -1,5 +1,5 @@
 -- The ligature machine's step, as the crate's `next`.
-use Rattle.std.specs.Prelude.{ℕ, zero, suc, ◌+◌, ◌-◌, Bool, true, false, not, List, [], ◌∷◌, ◌++◌, ltb, leb, get_or, set, take, drop}
+use Rattle.std.specs.Prelude.{ℕ, zero, suc, ◌+◌, ◌-◌, Bool, true, false, not, List, [], ◌∷◌, ◌++◌, ltb, leb, get_or, set, take, drop, Option, Some, None}
 use Rattle.laws.specs.Lists.{both, either, tab}
 use Rattle.answers.specs.declared.Answer.{Answer}
 use Rattle.answers.specs.declared.Answer.TheVariants as Answer'
@@ -14,16 +14,11 @@ use Rattle.machine.specs.Pass.{Stepped, advance_of}
 use Rattle.ligature.specs.Actions.{action_of}
 use Rattle.ligature.specs.declared.actions.Action.{Action}
 use Rattle.ligature.specs.declared.actions.Action.TheVariants as Action'
+pub use Rattle.ligature.specs.declared.Stack.{Stack}
 use Rattle.ligature.specs.declared.Turn.{Turn}
-use Rattle.ligature.specs.declared.Turn.TheVariants as Turn'
 use Rattle.ligature.specs.declared.LigatureState.{LigatureState}
 
 -- the stack: the places and the glyphs of its slots, of which the first `depth` are used
-pub record Stack : Type 0 where
-  pub places : List ℕ
-  pub glyphs : List ℕ
-  pub depth : ℕ
-
 abbrev pub stack_of : (places glyphs : List ℕ) → (depth : ℕ) → Stack
 stack_of places glyphs depth = record { places = places; glyphs = glyphs; depth = depth }
 
@@ -47,27 +42,27 @@ changes_of [] = []
 changes_of (l ∷ ls) = Change.ligature l.at l.glyph l.parts ∷ changes_of ls
 
 -- the ligature that an action makes at a slot: its components are the places of the used slots above
-abbrev pub ligations_of : Action → (places : List ℕ) → (slot depth : ℕ) → List Ligation
-ligations_of Action'.Ended places slot depth = []
-ligations_of (Action'.Adds sum) places slot depth = []
-ligations_of (Action'.Makes sum ligature last) places slot depth =
+abbrev pub ligations_of : Option Action → (places : List ℕ) → (slot depth : ℕ) → List Ligation
+ligations_of None places slot depth = []
+ligations_of (Some (Action'.Adds sum)) places slot depth = []
+ligations_of (Some (Action'.Makes sum ligature last)) places slot depth =
     record { at = get_or places slot 0; glyph = ligature; parts = take (depth - (slot + 1)) (drop (slot + 1) places) } ∷ []
 
 -- it takes the slot's glyph's place on the stack
-abbrev pub stored_in : Action → (slot : ℕ) → List ℕ → List ℕ
-stored_in Action'.Ended slot glyphs = glyphs
-stored_in (Action'.Adds sum) slot glyphs = glyphs
-stored_in (Action'.Makes sum ligature last) slot glyphs = set glyphs slot ligature
+abbrev pub stored_in : Option Action → (slot : ℕ) → List ℕ → List ℕ
+stored_in None slot glyphs = glyphs
+stored_in (Some (Action'.Adds sum)) slot glyphs = glyphs
+stored_in (Some (Action'.Makes sum ligature last)) slot glyphs = set glyphs slot ligature
 
 -- how the stack stands after an action: its slot is popped, but a ligature stays on it
-abbrev pub turn_of : Action → (slot : ℕ) → Turn
-turn_of Action'.Ended slot = Turn'.Ended
-turn_of (Action'.Adds sum) slot = Turn'.On slot sum false
-turn_of (Action'.Makes sum ligature last) slot = Turn'.On (slot + 1) sum last
+abbrev pub turn_of : Option Action → (slot : ℕ) → Option Turn
+turn_of None slot = None
+turn_of (Some (Action'.Adds sum)) slot = Some (record { at = slot; sum = sum; last = false })
+turn_of (Some (Action'.Makes sum ligature last)) slot = Some (record { at = slot + 1; sum = sum; last = last })
 
-abbrev pub on_turn : {A : Type 0} → Turn → ((at sum : ℕ) → (last : Bool) → A) → A → A
-on_turn (Turn'.On at sum last) use-it otherwise = use-it at sum last
-on_turn Turn'.Ended use-it otherwise = otherwise
+abbrev pub on_turn : {A : Type 0} → Option Turn → ((at sum : ℕ) → (last : Bool) → A) → A → A
+on_turn (Some turn) use-it otherwise = use-it turn.at turn.sum turn.last
+on_turn None use-it otherwise = otherwise
 
 -- what a list of actions comes to: whether it ended the step, the used slots afterwards, the cycle count, the glyphs on the stack, and the
 -- ligatures made
@@ -89,7 +84,7 @@ module _ (bytes places : List ℕ) (depth : ℕ) where
   acts zero number at sum cycles glyphs made = acted false at cycles glyphs made
   acts (suc turns) number zero sum cycles glyphs made = acted false 0 cycles glyphs made
   acts (suc turns) number (suc slot) sum cycles glyphs made =
-      let action : Action = action_of bytes number (get_or glyphs slot 0) sum in
+      let action : Option Action = action_of bytes number (get_or glyphs slot 0) sum in
       let all : List Ligation = made ++ ligations_of action places slot depth in
       on_turn (turn_of action slot)
       (λ at total last.

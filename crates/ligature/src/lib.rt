@@ -3,28 +3,28 @@
 
 pub mod actions;
 
-ghost use Rattle.std.specs.Prelude.{◌≡◌, false, [], ◌∷◌, ◌+◌, ◌<◌, ◌≤◌, length};
+ghost use Rattle.std.specs.Prelude.{◌≡◌, true, cond, None, Some, IfSome, [], ◌∷◌, ◌+◌, ◌-◌, ◌<◌, ◌≤◌, length};
 ghost use Rattle.answers.specs.Refuse.{refuse};
 ghost use Rattle.state_tables.specs.Opened.{class_by, LiesIn, Remembers};
 ghost use Rattle.line.specs.Line.{line_of};
 ghost use Rattle.line.specs.Test.{line_test};
-ghost use Rattle.ligature.specs.Ligature.{stack_of, fresh, ligations_of, stored_in, turn_of, acts, overflows, pushed, entered, ran};
+ghost use Rattle.ligature.specs.Ligature.{fresh, turn_of, overflows, pushed, stack_in};
 ghost use Rattle.machine.specs.Entry.{class_here};
-ghost use Rattle.machine.specs.Pass.{advance_of};
 ghost use Rattle.machine.specs.Call.{step_tests};
 ghost use Rattle.machine.specs.Machine.{passed, subtable_of, pass_call, call_leaves, step_call, step_leaves};
 ghost use Rattle.machine.specs.Work.{passed_leaves, work_leaves};
 ghost use Rattle.indexes.specs.Index.{classes_by, indexed};
 ghost use Rattle.ligature.specs.Calls.{opened, are_inside, state_tests, ligature};
-ghost use Rattle.ligature.specs.Work.{ligated, after_acts, after_entry, after_step, after_run, is_last, step_of};
+ghost use Rattle.ligature.specs.Work.{Leaves, Ends, after_action, after_acts, after_entry, after_step, after_run, step_of};
 
 use actions::Action;
-use answers::{Answer, Check, Refusal};
-use state_tables::entries::{Entered, Entry};
+use answers::{Answer, Refusal};
+use state_tables::entries::Entry;
 use state_tables::opened::Classes;
-use state_tables::{Made, States, entries, opened};
+use state_tables::{States, entries, opened};
 
 // The state of a pass: the state table's state, and the stack, a place and a glyph for each slot, of which the first `depth` are used.
+// kept: `aat_ligature_step` takes a state's slots from C and hands them back, all places before all glyphs, and those above the depth too.
 #[derive(Clone, Copy)]
 pub struct LigatureState {
     pub state: u16,
@@ -41,37 +41,71 @@ pub struct LigatureStep {
     pub advance: usize,
 }
 
+// The stack of a state, as a pass has it in place.
+// kept: no ghost field says that the depth is at most 32, since the definitions speak of this very struct and would carry the proof.
+#[derive(Clone, Copy)]
+pub struct Stack {
+    pub places: [usize; LigatureState::DEPTH],
+    pub glyphs: [u16; LigatureState::DEPTH],
+    pub depth: usize,
+}
+
+impl From<LigatureState> for Stack {
+    ghost from_gives = { λ state stack. stack ≡ stack_in state };
+
+    fn from(state: LigatureState) -> Stack {
+        let LigatureState {
+            places,
+            glyphs,
+            depth,
+            ..
+        } = state;
+        Stack {
+            places,
+            glyphs,
+            depth,
+        }
+    }
+}
+
+impl Stack {
+    // Pushes a place and a glyph, where the stack is not full.
+    fn push(&mut self, place: usize, glyph: u16) -> Option<()>
+        ensures full { result ≡ cond (overflows true self.old.depth) None (Some tt) }
+        ensures stack { self.new ≡ cond (overflows true self.old.depth) self.old (pushed true self.old place glyph) }
+    {
+        if LigatureState::DEPTH <= self.depth {
+            return None;
+        }
+        self.places[self.depth] = place;
+        self.glyphs[self.depth] = glyph;
+        self.depth += 1;
+        Some(())
+    }
+}
+
 // How the stack stands after an action: so many slots are left, with this sum, and whether the action was the last.
 #[derive(Clone, Copy)]
-enum Turn {
-    Ended,
-    On { at: usize, sum: u32, last: bool },
+struct Turn {
+    at: usize,
+    sum: u32,
+    last: bool,
 }
 
-// What an entry or its actions came to: whether they ended the step, the stack's depth, and the cycle count.
-#[derive(Clone, Copy)]
-struct Did {
-    ended: bool,
-    depth: usize,
-    cycles: u16,
-}
-
-// What a step came to: its answer, the new state, and the stack's depth.
+// What a step came to: its answer, and the new state.
 #[derive(Clone, Copy)]
 struct Reached {
     answer: Answer,
     state: u16,
-    depth: usize,
 }
 
 // How the stack stands after an action at a slot.
 fn turn_of(action: Action, slot: usize) -> Turn
     requires { slot < 32 }
-    ensures { result ≡ turn_of action slot }
+    ensures { Some result ≡ turn_of (Some action) slot }
 {
     match action {
-        Action::Ended => Turn::Ended,
-        Action::Adds(sum) => Turn::On {
+        Action::Adds(sum) => Turn {
             at: slot,
             sum,
             last: false,
@@ -80,7 +114,7 @@ fn turn_of(action: Action, slot: usize) -> Turn
             sum,
             ligature: _,
             last,
-        } => Turn::On {
+        } => Turn {
             at: slot + 1,
             sum,
             last,
@@ -90,153 +124,80 @@ fn turn_of(action: Action, slot: usize) -> Turn
 
 // The ligature of an action at a slot: it is written at the slot's place, takes up the places of the used slots above, and stays on the
 // stack.
+// kept: C lends a line slice by slice (`aat_ligature_pass`), and so it stands in the work of every crate.
+#[tactic(auto, unfolding(crate::specs::Ligature::changes_of, line::specs::Changes::apply_all, line::specs::Changes::apply))]
 fn make(
     action: Action,
-    places: &[usize; LigatureState::DEPTH],
-    stack: &mut [u16; LigatureState::DEPTH],
+    stack: &mut Stack,
     glyphs: &mut [u16],
     tags: &[u16],
     homes: &mut [u16],
     used: usize,
     slot: usize,
-    depth: usize,
 )
-    requires { (slot < depth) × (depth ≤ 32) × (used ≤ length glyphs.old) × (used ≤ length tags.now) }
-    ensures stack { stack.new ≡ stored_in action slot stack.old }
-    ensures glyphs { glyphs.new ≡ (ligated (ligations_of action places.now slot depth)
-        (line_of glyphs.old tags.now homes.old used)).glyphs }
-    ensures homes { homes.new ≡ (ligated (ligations_of action places.now slot depth)
-        (line_of glyphs.old tags.now homes.old used)).homes }
+    requires { (slot < stack.old.depth) × (stack.old.depth ≤ 32) × (used ≤ length glyphs.old) × (used ≤ length tags.now) }
+    ensures { Leaves (after_action action slot stack.old (line_of glyphs.old tags.now homes.old used)) tt stack.new glyphs.new homes.new }
 {
-    match action {
-        Action::Ended => return,
-        Action::Adds(_) => return,
-        Action::Makes {
-            sum: _,
-            ligature,
-            last: _,
-        } => {
-            let place = places[slot];
-            let slots = &places[..];
-            let parts = &slots[slot + 1..depth];
-            line::edits::ligate(glyphs, tags, homes, used, place, ligature, parts);
-            stack[slot] = ligature;
-        }
-    }
+    let Action::Makes { ligature, .. } = action else {
+        return;
+    };
+    let parts = &stack.places[slot + 1..stack.depth];
+    line::edits::ligate(
+        glyphs,
+        tags,
+        homes,
+        used,
+        stack.places[slot],
+        ligature,
+        parts,
+    );
+    stack.glyphs[slot] = ligature;
 }
 
-// The actions from number `first` on, from the top of the stack down. One that ends the step leaves the depth as it was.
+// The actions from number `first` on, from the top of the stack down, and the cycle count behind them. One that ends the step gives none and
+// leaves the depth as it was.
+#[tactic(auto, using(crate::proofs::Acting::acting_goes))]
 fn act(
     bytes: &[u8],
-    places: &[usize; LigatureState::DEPTH],
-    stack: &mut [u16; LigatureState::DEPTH],
+    stack: &mut Stack,
     glyphs: &mut [u16],
     tags: &[u16],
     homes: &mut [u16],
     used: usize,
     first: u16,
-    depth: usize,
     spent: u16,
-) -> Did
-    requires { (depth ≤ 32) × (spent ≤ 33) × (used ≤ length glyphs.old) × (used ≤ length tags.now) }
-    ensures did { result ≡ (after_acts bytes.now places.now stack.old depth first spent glyphs.old
-        tags.now homes.old used).answer }
-    ensures stack { stack.new ≡ (after_acts bytes.now places.now stack.old depth first spent glyphs.old
-        tags.now homes.old used).stack }
-    ensures glyphs { glyphs.new ≡ (after_acts bytes.now places.now stack.old depth first spent
-        glyphs.old tags.now homes.old used).line.glyphs }
-    ensures homes { homes.new ≡ (after_acts bytes.now places.now stack.old depth first spent glyphs.old
-        tags.now homes.old used).line.homes }
-    ensures bounds { (result.depth ≤ depth) × (spent ≤ result.cycles) × (result.cycles ≤ 33) }
+) -> Option<u16>
+    requires { (stack.old.depth ≤ 32) × (spent ≤ 33) × (used ≤ length glyphs.old) × (used ≤ length tags.now) }
+    ensures leaves { Leaves (after_acts bytes.now stack.old first spent (line_of glyphs.old tags.now homes.old used)) result stack.new
+        glyphs.new homes.new }
+    ensures bounds { (stack.new.depth ≤ stack.old.depth) × IfSome result (λ cycles. (spent ≤ cycles) × (cycles ≤ 33)) }
 {
-    let mut number = first;
-    let mut at = depth;
+    let mut at = stack.depth;
     let mut sum = 0;
     let mut cycles = spent;
-    while 0 < at {
-        let slot = at - 1;
-        let action = actions::action_of(bytes, number, stack[slot], sum);
-        make(
-            action, places, stack, glyphs, tags, homes, used, slot, depth,
-        );
-        let Turn::On {
-            at: left,
-            sum: total,
-            last,
-        } = turn_of(action, slot)
-        else {
-            return Did {
-                ended: true,
-                depth,
-                cycles,
-            };
+    for number in first..=u16::MAX {
+        let Some(slot) = at.checked_sub(1) else {
+            break;
         };
-        if last {
-            return Did {
-                ended: false,
-                depth: left,
-                cycles,
-            };
+        let action = actions::action_of(bytes, number, stack.glyphs[slot], sum)?;
+        make(action, stack, glyphs, tags, homes, used, slot);
+        let turn = turn_of(action, slot);
+        at = turn.at;
+        sum = turn.sum;
+        if turn.last || LigatureState::ACTIONS < cycles {
+            break;
         }
-        if LigatureState::ACTIONS < cycles {
-            return Did {
-                ended: false,
-                depth: left,
-                cycles,
-            };
-        }
-        number += 1;
-        at = left;
-        sum = total;
         cycles += 1;
     }
-    Did {
-        ended: false,
-        depth: at,
-        cycles,
-    }
+    stack.depth = at;
+    Some(cycles)
 }
 
-// Whether a push finds the stack full.
-fn overflows(sets: bool, depth: usize) -> bool
-    ensures { result ≡ overflows sets depth }
-{
-    if !sets {
-        return false;
-    }
-    LigatureState::DEPTH <= depth
-}
-
-// Pushes the step's place and glyph where the entry says so. Returns the depth afterwards.
-fn push(
-    places: &mut [usize; LigatureState::DEPTH],
-    stack: &mut [u16; LigatureState::DEPTH],
-    depth: usize,
-    sets: bool,
-    index: usize,
-    glyph: u16,
-) -> usize
-    requires { (overflows sets depth ≡ false) × (depth ≤ 32) }
-    ensures depth { result ≡ (pushed sets (stack_of places.old stack.old depth) index glyph).depth }
-    ensures places { places.new ≡ (pushed sets (stack_of places.old stack.old depth) index glyph).places }
-    ensures stack { stack.new ≡ (pushed sets (stack_of places.old stack.old depth) index glyph).glyphs }
-    ensures bound { result ≤ 32 }
-{
-    if !sets {
-        return depth;
-    }
-    places[depth] = index;
-    stack[depth] = glyph;
-    depth + 1
-}
-
-// What an entry does: the push, then the actions.
+// What an entry does: the push, then the actions. The cycle count behind them, where they don't end the step.
 fn enter(
     bytes: &[u8],
     entry: Entry,
-    places: &mut [usize; LigatureState::DEPTH],
-    stack: &mut [u16; LigatureState::DEPTH],
-    depth: usize,
+    stack: &mut Stack,
     glyphs: &mut [u16],
     tags: &[u16],
     homes: &mut [u16],
@@ -244,52 +205,30 @@ fn enter(
     index: usize,
     glyph: u16,
     cycles: u16,
-) -> Did
-    requires { (depth ≤ 32) × (cycles ≤ 33) × (used ≤ length glyphs.old) × (used ≤ length tags.now) × (entry.payload + 2 ≤ length bytes.now) }
-    ensures did { result ≡ (after_entry bytes.now entry places.old stack.old depth glyphs.old tags.now
-        homes.old used index glyph cycles).answer }
-    ensures places { places.new ≡ (after_entry bytes.now entry places.old stack.old depth glyphs.old
-        tags.now homes.old used index glyph cycles).places }
-    ensures stack { stack.new ≡ (after_entry bytes.now entry places.old stack.old depth glyphs.old
-        tags.now homes.old used index glyph cycles).stack }
-    ensures glyphs { glyphs.new ≡ (after_entry bytes.now entry places.old stack.old depth glyphs.old
-        tags.now homes.old used index glyph cycles).line.glyphs }
-    ensures homes { homes.new ≡ (after_entry bytes.now entry places.old stack.old depth glyphs.old
-        tags.now homes.old used index glyph cycles).line.homes }
-    ensures bounds { (result.depth ≤ 32) × (cycles ≤ result.cycles) × (result.cycles ≤ 33) }
+) -> Option<u16>
+    requires { (stack.old.depth ≤ 32) × (cycles ≤ 33) × (used ≤ length glyphs.old) × (used ≤ length tags.now) × (entry.payload + 2 ≤ length bytes.now) }
+    ensures leaves { Leaves (after_entry bytes.now entry stack.old (line_of glyphs.old tags.now homes.old used) index glyph cycles) result
+        stack.new glyphs.new homes.new }
+    ensures bounds { (stack.new.depth ≤ 32) × IfSome result (λ spent. (cycles ≤ spent) × (spent ≤ 33)) }
 {
-    let sets = machine::is_set(entry.flags, LigatureState::SET_COMPONENT);
-    if overflows(sets, depth) {
-        return Did {
-            ended: true,
-            depth,
-            cycles,
-        };
+    if machine::is_set(entry.flags, LigatureState::SET_COMPONENT) {
+        stack.push(index, glyph)?;
     }
-    let deep = push(places, stack, depth, sets, index, glyph);
     if !machine::is_set(entry.flags, LigatureState::PERFORM_ACTION) {
-        return Did {
-            ended: false,
-            depth: deep,
-            cycles,
-        };
+        return Some(cycles);
     }
     let number = entries::one_number(bytes, entry.payload);
-    act(
-        bytes, places, stack, glyphs, tags, homes, used, number, deep, cycles,
-    )
+    act(bytes, stack, glyphs, tags, homes, used, number, cycles)
 }
 
-// The crate's `next` behind the class, over the bytes from the state table on, with the stack in lent arrays. Entries and their actions
-// share one cycle count.
+// The crate's `next` behind the class, over the bytes from the state table on, with a stack and a line that are lent.
+#[tactic(auto, using(crate::proofs::Running::running_goes, state_tables::proofs::Laws::entry_payload))]
 fn next(
     bytes: &[u8],
     states: States,
     class: u16,
     state: u16,
-    places: &mut [usize; LigatureState::DEPTH],
-    stack: &mut [u16; LigatureState::DEPTH],
-    depth: usize,
+    stack: &mut Stack,
     glyphs: &mut [u16],
     tags: &[u16],
     homes: &mut [u16],
@@ -297,81 +236,44 @@ fn next(
     index: usize,
     glyph: u16,
 ) -> Reached
-    requires { (depth ≤ 32) × (used ≤ length glyphs.old) × (used ≤ length tags.now) }
-    ensures reached { result ≡ (after_step bytes.now states class state places.old stack.old depth glyphs.old
-        tags.now homes.old used index glyph).answer }
-    ensures places { places.new ≡ (after_step bytes.now states class state places.old stack.old depth
-        glyphs.old tags.now homes.old used index glyph).places }
-    ensures stack { stack.new ≡ (after_step bytes.now states class state places.old stack.old depth
-        glyphs.old tags.now homes.old used index glyph).stack }
-    ensures glyphs { glyphs.new ≡ (after_step bytes.now states class state places.old stack.old depth
-        glyphs.old tags.now homes.old used index glyph).line.glyphs }
-    ensures homes { homes.new ≡ (after_step bytes.now states class state places.old stack.old depth
-        glyphs.old tags.now homes.old used index glyph).line.homes }
-    ensures depth { result.depth ≤ 32 }
+    requires { (stack.old.depth ≤ 32) × (used ≤ length glyphs.old) × (used ≤ length tags.now) }
+    ensures leaves { Leaves (after_step bytes.now states class state stack.old (line_of glyphs.old tags.now homes.old used) index glyph)
+        result stack.new glyphs.new homes.new }
+    ensures depth { stack.new.depth ≤ 32 }
 {
     let mut at = state;
-    let mut deep = depth;
     let mut cycles = 0;
-    while cycles <= LigatureState::ENTRIES + 1 {
-        let Entered::At(entry) = entries::entry_of(bytes, states, at, class, 2) else {
+    // kept: entries and their actions share one count, which moves on by more than 1, so that no range counts the turns.
+    loop {
+        let Some(entry) = entries::entry_of(bytes, states, at, class, 2) else {
             return Reached {
                 answer: Answer::Ended,
                 state: at,
-                depth: deep,
             };
         };
-        let did = enter(
-            bytes, entry, places, stack, deep, glyphs, tags, homes, used, index, glyph, cycles,
-        );
         at = entry.state;
-        deep = did.depth;
-        if did.ended {
+        let Some(spent) = enter(
+            bytes, entry, stack, glyphs, tags, homes, used, index, glyph, cycles,
+        ) else {
             return Reached {
                 answer: Answer::Ended,
                 state: at,
-                depth: deep,
             };
-        }
-        if !machine::is_set(entry.flags, LigatureState::DONT_ADVANCE) {
+        };
+        if !machine::is_set(entry.flags, LigatureState::DONT_ADVANCE)
+            || LigatureState::ENTRIES < spent
+        {
             return Reached {
                 answer: Answer::Done,
                 state: at,
-                depth: deep,
             };
         }
-        if LigatureState::ENTRIES < did.cycles {
-            return Reached {
-                answer: Answer::Done,
-                state: at,
-                depth: deep,
-            };
-        }
-        cycles = did.cycles + 1;
-    }
-    Reached {
-        answer: Answer::Done,
-        state: at,
-        depth: deep,
+        cycles = spent + 1;
     }
 }
 
-// The class of the end of text is 0, that of a place its glyph's.
-fn class_now(bytes: &[u8], opened: Classes, memo: &mut [u32; 64], glyph: u16, ends: bool) -> u16
-    requires { LiesIn bytes.now opened × Remembers (class_by bytes.now opened) memo.old }
-    ensures class { result ≡ class_here (class_by bytes.now opened) glyph ends }
-    ensures memo { Remembers (class_by bytes.now opened) memo.new }
-{
-    if ends {
-        return 0;
-    }
-    let Classes::Words { base, first, count } = opened else {
-        return opened::remembered(bytes, opened, memo, glyph);
-    };
-    opened::class_in_words(bytes, base, first, count, glyph)
-}
-
-// The same by an index, where that reaches the glyph.
+// The class of a glyph, by an index where that reaches it, or of the end of text.
+#[tactic(auto, unfolding(machine::specs::Entry::class_here))]
 fn class_by(
     bytes: &[u8],
     opened: Classes,
@@ -387,79 +289,60 @@ fn class_by(
     if ends {
         return 0;
     }
-    if (glyph as usize) < lent.len() {
-        return lent[glyph as usize];
-    }
-    class_now(bytes, opened, memo, glyph, false)
+    indexes::class_by(bytes, opened, memo, glyph, lent)
 }
 
-// Whether a step is the last of a run: the only one, the end call, or one that is not DONE.
-fn is_last(answer: Answer, once: bool, used: usize, place: usize) -> bool
-    ensures { result ≡ is_last answer once used place }
-{
-    if once {
-        return true;
-    }
-    if used <= place {
-        return true;
-    }
-    !machine::is_done(answer)
-}
-
-// The steps from a place on, up to the end call; `once`, the first of them alone. The pass and the lone step share this loop, so that `next`
-// has one caller and is compiled into it.
+// The steps from a place on, up to the end of a range, of which one that is not DONE is the last. The pass and the lone step share this
+// loop, so that `next` has one caller and is compiled into it.
 fn run(
     bytes: &[u8],
     states: States,
     begun: u16,
-    places: &mut [usize; LigatureState::DEPTH],
-    stack: &mut [u16; LigatureState::DEPTH],
-    deep: usize,
+    stack: &mut Stack,
     glyphs: &mut [u16],
     tags: &[u16],
     homes: &mut [u16],
     used: usize,
     index: usize,
+    end: usize,
     first: u16,
     over: bool,
-    once: bool,
     lent: &[u16],
 ) -> Reached
-    requires { (deep ≤ 32) × (used ≤ length glyphs.old) × (used ≤ length tags.now) }
-    ensures reached { result ≡ (after_run lent.now bytes.now states once begun places.old stack.old deep
-        glyphs.old tags.now homes.old used index first over).answer }
-    ensures places { places.new ≡ (after_run lent.now bytes.now states once begun places.old stack.old
-        deep glyphs.old tags.now homes.old used index first over).places }
-    ensures stack { stack.new ≡ (after_run lent.now bytes.now states once begun places.old stack.old
-        deep glyphs.old tags.now homes.old used index first over).stack }
-    ensures glyphs { glyphs.new ≡ (after_run lent.now bytes.now states once begun places.old stack.old
-        deep glyphs.old tags.now homes.old used index first over).line.glyphs }
-    ensures homes { homes.new ≡ (after_run lent.now bytes.now states once begun places.old stack.old
-        deep glyphs.old tags.now homes.old used index first over).line.homes }
+    requires { (stack.old.depth ≤ 32) × (used ≤ length glyphs.old) × (used ≤ length tags.now) }
+    ensures { Leaves (after_run lent.now bytes.now states (end - index) begun stack.old
+        (line_of glyphs.old tags.now homes.old used) index first over) result stack.new glyphs.new homes.new }
 {
     let opened = opened::open(bytes, states);
     let mut memo = opened::nothing_found();
-    let mut state = begun;
-    let mut depth = deep;
-    let mut place = index;
+    let mut reached = Reached {
+        answer: Answer::Done,
+        state: begun,
+    };
     let mut glyph = first;
     let mut ends = over;
-    loop {
+    for place in index..end {
         let class = class_by(bytes, opened, &mut memo, glyph, ends, lent);
-        let reached = next(
-            bytes, states, class, state, places, stack, depth, glyphs, tags, homes, used, place,
+        reached = next(
+            bytes,
+            states,
+            class,
+            reached.state,
+            stack,
+            glyphs,
+            tags,
+            homes,
+            used,
+            place,
             glyph,
         );
-        let answer = reached.answer;
-        if is_last(answer, once, used, place) {
-            return reached;
+        if !machine::is_done(reached.answer) {
+            break;
         }
-        state = reached.state;
-        depth = reached.depth;
-        place += 1;
-        glyph = machine::glyph_at(glyphs, used, place);
-        ends = used <= place;
+        glyph = machine::glyph_at(glyphs, used, place + 1);
+        ends = used <= place + 1;
     }
+    reached
 }
 
 impl LigatureState {
@@ -490,6 +373,7 @@ impl LigatureState {
     pub const ACTIONS: u16 = 32;
 
     // The state at the start of a pass.
+    #[tactic(auto, unfolding(laws::specs::Lists::tab))]
     pub fn new() -> LigatureState
         ensures { result ≡ fresh }
     {
@@ -502,6 +386,7 @@ impl LigatureState {
     }
 
     // The tests before a step: TABLE, LINE, PLACE, STATE, HEAD.
+    #[tactic(auto, unfolding(crate::specs::Calls::state_tests, machine::specs::Call::step_tests, machine::specs::Call::place_test, machine::specs::Call::head_test, line::specs::Test::line_test, answers::specs::Refuse::refuse))]
     fn refuse_step(
         self,
         table_length: usize,
@@ -510,34 +395,29 @@ impl LigatureState {
         homes: &[u16],
         used: usize,
         index: usize,
-        made: Made,
-    ) -> Check
+        made: Option<States>,
+    ) -> Result<(), Refusal>
         ensures { result ≡ refuse (step_tests table_length (line_test (line_of glyphs.now tags.now homes.now used) ∷ []) used
             index (state_tests self used) made) }
     {
-        if let Check::Refused(why) = answers::refuse_table(table_length) {
-            return Check::Refused(why);
-        }
+        answers::refuse_table(table_length)?;
         if !line::valid::takes(glyphs, tags, homes, used) {
-            return Check::Refused(Refusal::Line);
+            return Err(Refusal::Line);
         }
         if used < index {
-            return Check::Refused(Refusal::Place);
+            return Err(Refusal::Place);
         }
-        if LigatureState::DEPTH < self.depth {
-            return Check::Refused(Refusal::State);
+        if LigatureState::DEPTH < self.depth || !inside(&self.places, self.depth, used) {
+            return Err(Refusal::State);
         }
-        let places = self.places;
-        if !inside(&places, self.depth, used) {
-            return Check::Refused(Refusal::State);
+        if made.is_none() {
+            return Err(Refusal::Head);
         }
-        if let Made::Short = made {
-            return Check::Refused(Refusal::Head);
-        }
-        Check::Passed
+        Ok(())
     }
 
     // One step by the subtable at `start`; a refused one hands the state back as given.
+    #[tactic(auto, using(crate::proofs::Calls::stepped_fits, crate::proofs::Passes::stepped_alone), unfolding(machine::specs::Machine::step_call, machine::specs::Machine::step_leaves, machine::specs::Call::lone_step, line::specs::Changes::apply_all))]
     pub fn step(
         self,
         table: &[u8],
@@ -559,58 +439,50 @@ impl LigatureState {
     {
         let bytes = parse::from(table, start);
         let made = open(bytes);
-        if let Check::Refused(why) = self.refuse_step(
-            table.len(),
-            glyphs,
-            tags,
-            homes,
-            used,
-            index,
-            made,
-        ) {
+        if let Err(why) = self.refuse_step(table.len(), glyphs, tags, homes, used, index, made) {
             return LigatureStep {
                 answer: Answer::Refused(why),
                 state: self,
                 advance: 0,
             };
         }
-        let Made::Ready(states) = made else {
+        let Some(states) = made else {
             return LigatureStep {
                 answer: Answer::Refused(Refusal::Head),
                 state: self,
                 advance: 0,
             };
         };
-        let none = [0u16; 0];
-        let mut places = self.places;
-        let mut stack = self.glyphs;
+        let mut stack = Stack::from(self);
         let reached = run(
             parse::from(bytes, 12),
             states,
             self.state,
-            &mut places,
             &mut stack,
-            self.depth,
             glyphs,
             tags,
             homes,
             used,
             index,
+            index + 1,
             glyph,
             ends,
-            true,
-            &none,
+            &[],
         );
-        let answer = reached.answer;
+        let Stack {
+            places,
+            glyphs,
+            depth,
+        } = stack;
         LigatureStep {
-            answer,
+            answer: reached.answer,
             state: LigatureState {
                 state: reached.state,
                 places,
-                glyphs: stack,
-                depth: reached.depth,
+                glyphs,
+                depth,
             },
-            advance: advance_of(answer),
+            advance: usize::from(machine::is_done(reached.answer)),
         }
     }
 }
@@ -620,33 +492,15 @@ fn inside(places: &[usize; LigatureState::DEPTH], depth: usize, used: usize) -> 
     requires { depth ≤ 32 }
     ensures { result ≡ are_inside places.now depth used }
 {
-    let mut slot = 0;
-    while slot < depth {
-        if used < places[slot] {
-            return false;
-        }
-        slot += 1;
-    }
-    true
-}
-
-// A step advances by 1 when DONE.
-fn advance_of(answer: Answer) -> usize
-    ensures { result ≡ advance_of answer }
-{
-    if machine::is_done(answer) {
-        return 1;
-    }
-    0
+    places[..depth].iter().all(|place| *place <= used)
 }
 
 // The state table of the subtable that the bytes begin with; the numbers at 16, 20 and 24, where its lists are, can be read too.
-pub fn open(bytes: &[u8]) -> Made
+#[tactic(auto, unfolding(crate::specs::Calls::opened))]
+pub fn open(bytes: &[u8]) -> Option<States>
     ensures { result ≡ opened bytes.now }
 {
-    let parse::ReadU32::Got(_) = parse::read_u32(parse::from(bytes, 12), 24) else {
-        return Made::Short;
-    };
+    parse::read_u32(parse::from(bytes, 12), 24)?;
     machine::open(bytes, LigatureState::KIND)
 }
 
@@ -661,37 +515,31 @@ fn pass_line(
     index: &[u16],
 ) -> Answer
     requires { (used ≤ length glyphs.old) × (used ≤ length tags.now) }
-    ensures answer { result ≡ (passed (indexed index.now ligature) bytes.now states
-        (line_of glyphs.old tags.now homes.old used)).answer }
-    ensures glyphs { glyphs.new ≡ (passed_leaves (indexed index.now ligature) bytes.now states
-        (line_of glyphs.old tags.now homes.old used)).glyphs }
-    ensures homes { homes.new ≡ (passed_leaves (indexed index.now ligature) bytes.now states
-        (line_of glyphs.old tags.now homes.old used)).homes }
+    ensures { Ends (passed (indexed index.now ligature) bytes.now states (line_of glyphs.old tags.now homes.old used))
+        (line_of glyphs.old tags.now homes.old used) result glyphs.new homes.new }
 {
     let fresh = LigatureState::new();
-    let mut places = fresh.places;
-    let mut stack = fresh.glyphs;
+    let first = machine::glyph_at(glyphs, used, 0);
     let reached = run(
         bytes,
         states,
         fresh.state,
-        &mut places,
-        &mut stack,
-        fresh.depth,
+        &mut Stack::from(fresh),
         glyphs,
         tags,
         homes,
         used,
         0,
-        machine::glyph_at(glyphs, used, 0),
+        used + 1,
+        first,
         used == 0,
-        false,
         index,
     );
     reached.answer
 }
 
 // The pass over a line that LINE has taken, by the subtable that the bytes begin with and the classes of an index.
+#[tactic(auto, unfolding(machine::specs::Work::work_leaves, line::specs::Changes::apply_all))]
 pub fn work_by(
     bytes: &[u8],
     glyphs: &mut [u16],
@@ -708,8 +556,7 @@ pub fn work_by(
     ensures homes { homes.new ≡ (work_leaves (subtable_of (indexed index.now ligature)) bytes.now
         (line_of glyphs.old tags.now homes.old used)).homes }
 {
-    let made = open(bytes);
-    let Made::Ready(states) = made else {
+    let Some(states) = open(bytes) else {
         return Answer::Refused(Refusal::Head);
     };
     pass_line(
@@ -739,11 +586,11 @@ pub fn work(
     ensures homes { homes.new ≡ (work_leaves (subtable_of ligature) bytes.now
         (line_of glyphs.old tags.now homes.old used)).homes }
 {
-    let none = [0u16; 0];
-    work_by(bytes, glyphs, tags, homes, used, &none)
+    work_by(bytes, glyphs, tags, homes, used, &[])
 }
 
 // The pass over a line, by the subtable at `start`.
+#[tactic(auto, using(crate::proofs::Calls::taken_fits), unfolding(machine::specs::Machine::pass_call, machine::specs::Machine::call_leaves, machine::specs::Work::work_leaves, line::specs::Changes::apply_all))]
 pub fn pass(
     table: &[u8],
     start: usize,
@@ -760,7 +607,7 @@ pub fn pass(
         (line_of glyphs.old tags.now homes.old used)).homes }
 {
     let bytes = parse::from(table, start);
-    if let Check::Refused(why) = machine::refuse_pass(
+    if let Err(why) = machine::refuse_pass(
         table.len(),
         glyphs,
         tags,

@@ -1,12 +1,12 @@
 -- Demand 3: the line stays valid, every character belongs to exactly one place, the one that the history gives, and the length is
 -- the starting length and the glyphs inserted, never above the room. It holds over changes and over calls, from any valid line
 -- and from a fresh one. A pass that comes later owes an `Honest`: which changes it makes, and that they are legal.
+use Rattle.std.specs.Prelude.{Ok}
 use Prim.Native.Nat.{ℕ}
 use mathlib.Core.Path.{◌≡◌}
 use mathlib.Core.List.{List}
 use lib.ListN.{length}
 use Rattle.answers.specs.Refuse.{refuse}
-use Rattle.answers.specs.declared.Check.TheVariants.{Passed}
 use Rattle.line.specs.Line.{Line, Valid}
 use Rattle.line.specs.Edits.{Edit}
 use Rattle.line.specs.Changes.{Change, history_of, apply_all}
@@ -26,7 +26,7 @@ module _ {Call : Type 0} (leaves : Call → Line → Line) (makes : Call → Lin
   over_calls calls l v = placed (start_of l) (history_by leaves makes calls l) (starts l v) (by_calls leaves makes honest calls l v)
 
 -- the same on a line that `fresh` has made: each character starts at its own place, and the length is at first the characters typed
-module _ (glyphs tags homes : List ℕ) (taken : refuse (fresh_tests glyphs tags homes) ≡ Passed) where
+module _ (glyphs tags homes : List ℕ) (taken : refuse (fresh_tests glyphs tags homes) ≡ (Ok tt)) where
   as_typed : (history : List Edit) (l : Line) → By (fresh_of glyphs tags homes) history l → FromFresh (length glyphs) (length homes) history l
   unfolding fresh_of
   as_typed history l by =

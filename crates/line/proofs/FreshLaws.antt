@@ -1,75 +1,48 @@
 -- The fresh line: its ways out, and that a line that is not refused is valid, each character at its own place.
-use Prim.Native.Nat.{ℕ, ◌+◌, ◌<◌, ◌≤◌}
-use mathlib.Core.Path.{◌≡◌, refl, ◌∙◌, sym, ap}
+use Rattle.std.specs.Prelude.{Ok}
+use Prim.Native.Nat.{ℕ, ◌<◌, ◌≤◌}
+use mathlib.Core.Path.{◌≡◌, ◌∙◌, sym, ap}
 use mathlib.Core.Bool.{not}
 use mathlib.Core.List.{List, ◌++◌}
 use native.Mathlib.Nat.{zero-add}
 use native.Mathlib.Omega.{arith}
 use lib.ListN.{length, get_or, take, drop, length-append, length-drop}
 use lib.Seq.{take-length, paste}
-use borrow.Author.Tests.{lt-ltb, le-ltb, eq-eqb, ne_eqb, ltb-false, eqb-true, not-false}
-use Rattle.answers.proofs.Refusals.{refuse-here, refuse-later, refuse-none, passed_here, passed_later}
+use borrow.Author.Tests.{le-ltb, eq-eqb, ltb-false, eqb-true, not-false}
+use Rattle.answers.proofs.Refusals.{refuse-later, refuse-none, passed_here, passed_later}
 use Rattle.answers.specs.Limits.{room_limit}
 use Rattle.answers.specs.Refuse.{refuse}
-use Rattle.answers.specs.declared.Refusal.{Refusal}
-use Rattle.answers.specs.declared.Check.{Check}
-use Rattle.answers.specs.declared.Check.TheVariants.{Passed, Refused}
 use Rattle.laws.proofs.Lists.{get_d_first}
-use Rattle.line.specs.declared.FreshLine.TheVariants as Fresh
 use Rattle.line.specs.Line.{Valid, Belongs}
 use Rattle.line.specs.Changes.{numbers_from}
-use Rattle.line.specs.Entries.{fresh_of, fresh_tests, fresh_by, fresh_call}
+use Rattle.line.specs.Entries.{fresh_of, fresh_tests}
 use Rattle.line.proofs.Once.{length-numbers_from, get_d_numbers_from}
 use Rattle.line.proofs.Loops.{paste_over}
 use Rattle.line.proofs.Room.{room_small}
 
--- the tests, in the code's order
-module _ (glyphs tags homes : List ℕ) where
-  pub fresh_unpaired : (length tags ≡ length glyphs → ⊥) → Refused Refusal.Line ≡ refuse (fresh_tests glyphs tags homes)
-  unfolding fresh_tests
-  fresh_unpaired h = sym (refuse-here _ _ (ap not (ne_eqb _ _ h)))
+-- the tests pass where each of them does
+pub fresh-passed : (glyphs tags homes : List ℕ) → length tags ≡ length glyphs → length glyphs ≤ room_limit → length homes ≤ length glyphs
+    → Ok tt ≡ refuse (fresh_tests glyphs tags homes)
+unfolding fresh_tests
+fresh-passed glyphs tags homes paired h k =
+    sym
+    (refuse-later _ _ (ap not (eq-eqb _ _ paired)) ∙ refuse-later _ _ (le-ltb _ _ h) ∙ refuse-later _ _ (le-ltb _ _ k) ∙ refuse-none)
 
-  module _ (paired : length tags ≡ length glyphs) where
-    pub fresh_unlimited : room_limit < length glyphs → Refused Refusal.Line ≡ refuse (fresh_tests glyphs tags homes)
-    unfolding fresh_tests
-    fresh_unlimited h = sym (refuse-later _ _ (ap not (eq-eqb _ _ paired)) ∙ refuse-here _ _ (lt-ltb _ _ h))
+-- tags and homes, numbered
+pub numbered_from : (tags : List ℕ) (count : ℕ) → paste tags 0 (numbers_from 0 count) count ≡ numbers_from 0 count ++ drop count tags
+numbered_from tags count =
+    let n : length (numbers_from 0 count) ≡ count = length-numbers_from 0 count in
+    let whole : take count (numbers_from 0 count) ≡ numbers_from 0 count =
+    ap (λ (m : ℕ). take m (numbers_from 0 count)) (sym n) ∙ take-length (numbers_from 0 count) in
+    rw (zero-add count, whole)
 
-    pub fresh_crowded : length glyphs ≤ room_limit → length glyphs < length homes → Refused Refusal.Line ≡ refuse (fresh_tests glyphs tags homes)
-    unfolding fresh_tests
-    fresh_crowded h k =
-        sym (refuse-later _ _ (ap not (eq-eqb _ _ paired)) ∙ refuse-later _ _ (le-ltb _ _ h) ∙ refuse-here _ _ (lt-ltb _ _ k))
-
-    pub fresh-passed : length glyphs ≤ room_limit → length homes ≤ length glyphs → Passed ≡ refuse (fresh_tests glyphs tags homes)
-    unfolding fresh_tests
-    fresh-passed h k =
-        sym
-        (refuse-later _ _ (ap not (eq-eqb _ _ paired)) ∙ refuse-later _ _ (le-ltb _ _ h) ∙ refuse-later _ _ (le-ltb _ _ k) ∙ refuse-none)
-
-  -- refused, all is as it was; passed, tags and homes are numbered
-  pub fresh_refused : {check : Check} {why : Refusal} → check ≡ refuse (fresh_tests glyphs tags homes) → check ≡ Refused why
-      → (Fresh.Refused why ≡ (fresh_call glyphs tags homes).reply)
-      × ((tags ≡ (fresh_call glyphs tags homes).tags) × (homes ≡ (fresh_call glyphs tags homes).homes))
-  unfolding fresh_call fresh_by
-  fresh_refused {why = why} e i =
-      let k : refuse (fresh_tests glyphs tags homes) ≡ Refused why = sym e ∙ i in
-      rw k (refl, (refl, refl))
-
-  pub fresh-done : {check : Check} {tags' homes' : List ℕ} → check ≡ refuse (fresh_tests glyphs tags homes) → check ≡ Passed
-      → tags' ≡ paste tags 0 (numbers_from 0 (length homes)) (length homes) → homes' ≡ paste homes 0 (numbers_from 0 (length homes)) (length homes)
-      → (Fresh.Used (length homes) ≡ (fresh_call glyphs tags homes).reply)
-      × ((tags' ≡ (fresh_call glyphs tags homes).tags) × (homes' ≡ (fresh_call glyphs tags homes).homes))
-  unfolding fresh_call fresh_by fresh_of
-  fresh-done e i t h =
-      let k : refuse (fresh_tests glyphs tags homes) ≡ Passed = sym e ∙ i in
-      let n : length (numbers_from 0 (length homes)) ≡ length homes = length-numbers_from 0 (length homes) in
-      let whole : take (length homes) (numbers_from 0 (length homes)) ≡ numbers_from 0 (length homes) =
-      ap (λ (m : ℕ). take m (numbers_from 0 (length homes))) (sym n) ∙ take-length (numbers_from 0 (length homes)) in
-      rw k (refl, (t ∙ rw (zero-add (length homes), whole), h ∙ paste_over homes (numbers_from 0 (length homes)) n))
+pub numbered_over : (homes : List ℕ) → paste homes 0 (numbers_from 0 (length homes)) (length homes) ≡ numbers_from 0 (length homes)
+numbered_over homes = paste_over homes (numbers_from 0 (length homes)) (length-numbers_from 0 (length homes))
 
 numbered : (n k : ℕ) → k < n → get_or (numbers_from 0 n) k 0 ≡ k
 numbered n k h = get_d_numbers_from 0 n k h ∙ zero-add k
 
-module _ (glyphs tags homes : List ℕ) (taken : refuse (fresh_tests glyphs tags homes) ≡ Passed) where
+module _ (glyphs tags homes : List ℕ) (taken : refuse (fresh_tests glyphs tags homes) ≡ (Ok tt)) where
   lengths : length tags ≡ length glyphs
   unfolding fresh_tests
   lengths = eqb-true _ _ (not-false _ (passed_here _ _ taken))
@@ -122,9 +95,6 @@ module _ (glyphs tags homes : List ℕ) (taken : refuse (fresh_tests glyphs tags
       record { character = h; inside = k; home = tag_there c k ∙ sym (numbered (length homes) c k) }
 
 -- so that there is room for the numbers, and each is one of 16 bits
-module _ (glyphs tags homes : List ℕ) {check : Check} (e : check ≡ refuse (fresh_tests glyphs tags homes)) (i : check ≡ Passed) where
-  pub fresh-fits : 0 + length homes ≤ length tags
-  fresh-fits = omega (arith, lengths glyphs tags homes (sym e ∙ i), roomy glyphs tags homes (sym e ∙ i))
-
-  pub fresh-small : 0 + length homes ≤ 65536
-  fresh-small = omega (arith, room_small, limited glyphs tags homes (sym e ∙ i), roomy glyphs tags homes (sym e ∙ i))
+pub fresh_fits : (glyphs tags homes : List ℕ) → refuse (fresh_tests glyphs tags homes) ≡ Ok tt → (length homes ≤ length tags) × (length homes ≤ 65535)
+fresh_fits glyphs tags homes taken =
+    omega (arith, room_small, lengths glyphs tags homes taken, roomy glyphs tags homes taken, limited glyphs tags homes taken)

@@ -1,20 +1,21 @@
 -- The loops of the edits: what each turn leaves, and what is reached at the end.
-use Prim.Native.Nat.{ℕ, zero, suc, ◌+◌, ◌-◌, ◌*◌, ◌/◌, ◌<◌, ◌≤◌, min}
-use mathlib.Core.Path.{◌≡◌, refl, ◌∙◌, sym, ap, ap₂}
-use mathlib.Core.List.{List, [], ◌∷◌, ◌++◌, append-nil, append_assoc}
+use Prim.Native.Nat.{ℕ, suc, ◌+◌, ◌-◌, ◌*◌, ◌/◌, ◌<◌, ◌≤◌, min}
+use mathlib.Core.Path.{◌≡◌, refl, ◌∙◌, sym, ap}
+use mathlib.Core.List.{List, reverse, ◌∷◌, ◌++◌, append-nil, append_assoc}
 use mathlib.Core.Logic.{⊎_elim}
-use native.Mathlib.Nat.{zero-add, suc-add}
+use native.Mathlib.Nat.{zero-add}
 use native.Mathlib.Numerals.{add-one}
 use native.Mathlib.Omega.{arith}
-use lib.ListN.{length, get_or, take, drop, set, length-append, length-set, drop_of_length-le, take-append-drop}
-use lib.Seq.{take-nil, drop-nil, take-length, drop-length, take-suc, take-take, drop-cons, append_snoc, set-append_left, set_at, get_or-set_same, get_or-set_other, get_or-take, get_or-drop, ext_get_or, take-append-le, drop_at, length-take-le, paste, paste-zero, paste-suc, slice, slice_empty, slice-cons}
+use lib.ListN.{length, get_or, take, drop, set, length-set, drop_of_length-le}
+use lib.Seq.{take-length, drop-length, take-take, drop-cons, get_or-set_same, get_or-set_other, get_or-drop, ext_get_or, take-append-le, drop_at, length-take-le, paste, paste-zero, paste-suc, slice}
+use Rattle.std.specs.List.{copy_within}
+use Rattle.std.proofs.lemmas.List.{drop-take}
 use borrow.Rule.Slice.PartMut.{mid_of, put_mid}
 use Rattle.laws.specs.Backward.{backward}
 use Rattle.laws.specs.Choose.{if_eq}
 use Rattle.laws.proofs.Backward.{length-backward, backward-inside, backward_outside}
-use Rattle.laws.proofs.Lists.{length-tab, get_d_tab, get_d_first, get_d_behind}
+use Rattle.laws.proofs.Lists.{length-tab, get_d_tab, get_d_behind}
 use Rattle.laws.proofs.Numbers.{lt-or-ge, eq-or-ne}
-use Rattle.laws.proofs.Parts.{part_is, part_put}
 use Rattle.parse.specs.Reads.{u16_at}
 use Rattle.line.specs.Steps.{raised}
 use Rattle.line.specs.Changes.{numbers_from, rehomed, spliced, emptied, handed, emptied_all, handed_all, glyphs_of}
@@ -68,10 +69,10 @@ unfolding glyphs_of
 get_d_glyphs_of bytes k h = get_d_tab _ (length bytes / 2) k 0 h
 
 -- the three lists that are written so: numbers in order, glyphs from bytes, and homes
-pub number-next : (before : List ℕ) (at first count : ℕ) {after : List ℕ} {k : ℕ} → at + count ≤ length before
+pub number_next : (before : List ℕ) (at first count : ℕ) {after : List ℕ} {k : ℕ} → at + count ≤ length before
     → Pasting before at (numbers_from first count) count after k → k < count
     → Pasting before at (numbers_from first count) count (set after (at + k) (first + k)) (k + 1)
-number-next before at first count {k = k} fits p h =
+number_next before at first count {k = k} fits p h =
     pasting_next before at (numbers_from first count) count (length-numbers_from first count) fits p h refl (sym (get_d_numbers_from first count k h))
 
 pub put_next : (before : List ℕ) (at : ℕ) (bytes : List ℕ) {after : List ℕ} {k glyph : ℕ} → at + length bytes / 2 ≤ length before
@@ -81,108 +82,28 @@ put_next before at bytes {k = k} fits p h e =
     pasting_next before at (glyphs_of bytes) (length bytes / 2) (length-glyphs_of bytes) fits p h refl (e ∙ sym (get_d_glyphs_of bytes k h))
 
 pub rehome_next : (before : List ℕ) (from to : ℕ) {after : List ℕ} {c x : ℕ} → Pasting before 0 (rehomed from to before) (length before) after c
-    → c < length after → x ≡ if_eq (get_or after c 0) from to (get_or after c 0)
+    → c < length before → x ≡ if_eq (get_or after c 0) from to (get_or after c 0)
     → Pasting before 0 (rehomed from to before) (length before) (set after c x) (c + 1)
-rehome_next before from to {after} {c} p h e =
-    let k : c < length before = omega (arith, p.long) in
+rehome_next before from to {after} {c} p k e =
     let same : get_or after c 0 ≡ get_or before c 0 =
     rw p.same (paste_rest before (rehomed from to before) c (omega (arith, length-rehomed from to before))) in
     pasting_next before 0 (rehomed from to before) (length before) (length-rehomed from to before) (omega arith) p k (sym (zero-add c))
     (e ∙ rw same (sym (get_d_rehomed from to before c k)))
 
 pub rehome_done : (before : List ℕ) (from to : ℕ) {after : List ℕ} {c : ℕ} → Pasting before 0 (rehomed from to before) (length before) after c
-    → length after ≤ c → after ≡ rehomed from to before
+    → length before ≤ c → after ≡ rehomed from to before
 rehome_done before from to p h =
-    pasting_done before 0 (rehomed from to before) (length before) p (omega (arith, p.long))
+    pasting_done before 0 (rehomed from to before) (length before) p h
     ∙ paste_over before (rehomed from to before) (length-rehomed from to before)
 
--- Raising what stands from a place to the used length, from above.
-pub record Raising (before : List ℕ) (used count : ℕ) (after : List ℕ) (place : ℕ) : Type 0 where
-  pub within : place ≤ used
-  pub same : after ≡ raised place used count before
-  pub long : length after ≡ length before
-
-module _ (before : List ℕ) (used count : ℕ) (fits : used + count ≤ length before) where
-  pub raising_start : Raising before used count before used
-  unfolding raised
-  raising_start =
-      record {
-        within = omega arith;
-        same =
-            sym (rw (slice_empty used before, append-nil (take (used + count) before)) (take-append-drop (used + count) before));
-        long = refl;
-      }
-
-  -- one place lower
-  raised_read : (q : ℕ) → q < used → get_or (raised (suc q) used count before) q 0 ≡ get_or before q 0
-  unfolding raised
-  raised_read q h =
-      let long : length (take (suc q + count) before) ≡ suc q + count = length-take-le (suc q + count) before (omega arith) in
-      get_d_first (take (suc q + count) before ++ slice (suc q) used before) (drop (used + count) before) 0 q
-      (rw (length-append (take (suc q + count) before) (slice (suc q) used before), long) (omega arith))
-      ∙ get_d_first (take (suc q + count) before) (slice (suc q) used before) 0 q (rw long (omega arith))
-      ∙ get_or-take (suc q + count) before q 0 (omega arith)
-
-  raised-write : (q : ℕ) → q < used → set (raised (suc q) used count before) (q + count) (get_or before q 0) ≡ raised q used count before
-  unfolding raised
-  raised-write q h =
-      let p : List ℕ = take (q + count) before in
-      let v : ℕ = get_or before q 0 in
-      let y : ℕ = get_or before (q + count) 0 in
-      let ys : List ℕ = slice (suc q) used before in
-      let zs : List ℕ = drop (used + count) before in
-      let long : length p ≡ q + count = length-take-le (q + count) before (omega arith) in
-      let n : suc q + count ≡ suc (q + count) = omega arith in
-      let e : take (suc q + count) before ≡ p ++ (y ∷ []) =
-      ap (λ (m : ℕ). take m before) n ∙ take-suc before (q + count) 0 (omega arith) in
-      let one : length (p ++ (y ∷ [])) ≡ suc (q + count) = length-append p (y ∷ []) ∙ rw long (add-one (q + count)) in
-      rw e
-      (set-append_left (p ++ (y ∷ []) ++ ys) zs (q + count) v
-      (rw (length-append (p ++ (y ∷ [])) ys, one) (omega arith))
-      ∙ rw (set-append_left (p ++ (y ∷ [])) ys (q + count) v (rw one (omega arith)), set_at p y [] v (q + count) long, append_snoc p v ys)
-      (rw (slice-cons q used before 0 h (omega arith))))
-
-  pub raising_next : {after : List ℕ} {place : ℕ} → Raising before used count after place → 0 < place
-      → Raising before used count (set after (place - 1 + count) (get_or after (place - 1) 0)) (place - 1)
-  raising_next {after} {place} r h =
-      let q : ℕ = place - 1 in
-      let e : place ≡ suc q = omega arith in
-      let i : q < used = omega (arith, r.within) in
-      let s : after ≡ raised (suc q) used count before = rw (← e) r.same in
-      record {
-        within = omega (arith, r.within);
-        same = rw s (rw (raised_read q i) (raised-write q i));
-        long = length-set after (q + count) (get_or after q 0) ∙ r.long;
-      }
-
-  pub raising_done : {after : List ℕ} {at place : ℕ} → Raising before used count after place → at ≤ place → place ≤ at
-      → after ≡ raised at used count before
-  raising_done {after} {at} {place} r h k = let e : place ≡ at = omega arith in rw e at r.same
-
--- the same in a part that begins at the place
-raised-behind : (at rest count : ℕ) (xs : List ℕ) → take at xs ++ raised 0 rest count (drop at xs) ≡ raised at (at + rest) count xs
+-- what stands from a place to the used length, moved up
+raised_within : (at used count : ℕ) (xs : List ℕ) → at ≤ used → copy_within xs at used (at + count) ≡ raised at used count xs
 unfolding raised
-raised-behind zero rest count xs = rw (zero-add rest)
-raised-behind (suc at) rest count [] =
-    rw (
-      take-nil {A = ℕ} (0 + count),
-      take-nil {A = ℕ} (suc at + count),
-      take-nil {A = ℕ} rest,
-      take-nil {A = ℕ} (suc at + rest),
-      drop-nil {A = ℕ} (rest + count),
-      drop-nil {A = ℕ} (suc at + rest + count),
-    )
-raised-behind (suc at) rest count (x ∷ xs) =
-    rw (suc-add at rest, suc-add at count, suc-add (at + rest) count) (ap (λ (z : List ℕ). x ∷ z) (raised-behind at rest count xs))
-
-pub raised_part : (at used : ℕ) (xs : List ℕ) {count : ℕ} {part : List ℕ} → at ≤ used → count ≡ 1
-    → part ≡ raised 0 (used - at) 1 (mid_of at (length xs - at) xs) → put_mid at (length xs - at) xs part ≡ raised at used count xs
-raised_part at used xs {count} {part} h one e =
-    let all : at + (used - at) ≡ used = omega arith in
-    part_put at xs part
-    ∙ ap (λ (z : List ℕ). take at xs ++ z) (e ∙ ap (raised 0 (used - at) 1) (part_is at xs))
-    ∙ raised-behind at (used - at) 1 xs
-    ∙ ap₂ (λ (end n : ℕ). raised at end n xs) all (sym one)
+raised_within at used count xs h =
+    let e : at + (used - at) ≡ used = omega arith in
+    let end : at + count + (used - at) ≡ used + count = omega arith in
+    let middle : slice at used xs ≡ take (used - at) (drop at xs) = rw e at (drop-take at (used - at) xs) in
+    rw (end, ← middle)
 
 -- the gap filled: the insertion
 pub raised_filled : (at used : ℕ) (new xs : List ℕ) → at ≤ used → used + length new ≤ length xs
@@ -203,8 +124,14 @@ raised_filled at used new xs inside fits =
     (sym (append_assoc (take at xs ++ new) (slice at used xs) (drop (used + n) xs)))
 
 pub filled : (at used : ℕ) (new xs : List ℕ) {place count : ℕ} {wide after : List ℕ} → place ≡ min at used → length new ≡ count
-    → used + count ≤ length xs → wide ≡ raised place used count xs → after ≡ paste wide place new count → after ≡ spliced (min at used) used new xs
-filled at used new xs p n fits r q = q ∙ rw (r, ← n, p) (raised_filled (min at used) used new xs (omega arith) (omega arith))
+    → used + count ≤ length xs → wide ≡ copy_within xs place used (place + count) → after ≡ paste wide place new count → after ≡ spliced (min at used) used new xs
+filled at used new xs p n fits r q =
+    q ∙ rw (r, ← n, p, raised_within (min at used) used (length new) xs (omega arith)) (raised_filled (min at used) used new xs (omega arith) (omega arith))
+
+-- the first n turned round
+pub turned_part : (n : ℕ) (xs : List ℕ) → put_mid 0 n xs (reverse (mid_of 0 n xs)) ≡ backward n xs
+unfolding backward
+turned_part n xs = refl
 
 -- Turning the first n round, from both ends.
 pub record Turning (before : List ℕ) (n : ℕ) (after : List ℕ) (low high : ℕ) : Type 0 where

@@ -1,10 +1,10 @@
 -- Which way a list of tests goes.
+use Rattle.std.specs.Prelude.{Ok, Err}
 use mathlib.Core.Path.{◌≡◌, ◌∙◌, sym, ap}
 use mathlib.Core.Bool.{Bool, true, false, not}
 use borrow.Author.Tests.{not-false}
 use mathlib.Core.List.{List, ◌∷◌}
 use Rattle.answers.specs.Refuse.{Test, refuse}
-use Rattle.answers.specs.declared.Check.TheVariants.{Passed, Refused}
 use Rattle.answers.specs.declared.Refusal.TheVariants.{Line}
 use Rattle.line.specs.Line as L
 use Rattle.line.specs.Line.{Valid}
@@ -14,7 +14,7 @@ use Rattle.line.proofs.Exact.{valid_of}
 
 -- LINE among them: the LINE test's code, `taken`, decides it
 module _ (l : L.Line) (ts : List Test) where
-  pub refuse-line : {taken : Bool} → taken ≡ is_valid l → not taken ≡ true → refuse (line_test l ∷ ts) ≡ Refused Line
+  pub refuse-line : {taken : Bool} → taken ≡ is_valid l → not taken ≡ true → refuse (line_test l ∷ ts) ≡ Err Line
   unfolding line_test
   refuse-line e n = refuse-here (line_test l) ts (ap not (sym e) ∙ n)
 
@@ -22,6 +22,6 @@ module _ (l : L.Line) (ts : List Test) where
   unfolding line_test
   refuse_past_line e n = refuse-later (line_test l) ts (ap not (sym e) ∙ n)
 
-  pub passed-line : refuse (line_test l ∷ ts) ≡ Passed → Valid l
+  pub passed-line : refuse (line_test l ∷ ts) ≡ Ok tt → Valid l
   unfolding line_test
   passed-line e = valid_of l (not-false _ (passed_here (line_test l) ts e))

@@ -1,72 +1,19 @@
 -- Each way out of an edit's code leaves what the definition says.
 use Prim.Native.Nat.{ℕ, suc, ◌+◌, ◌-◌, ◌<◌, ◌≤◌, min}
 use mathlib.Core.Path.{◌≡◌, ◌∙◌, sym, ap}
-use mathlib.Core.Bool.{true, false}
 use mathlib.Core.List.{List, ◌++◌}
 use mathlib.Core.Logic.{⊎_elim}
 use native.Mathlib.Omega.{arith}
-use lib.ListN.{length, get_or, take, drop, set, length-drop}
+use lib.ListN.{length, get_or, take, drop, length-drop}
 use lib.Seq.{ext_get_or}
 use borrow.Rule.Slice.PartMut.{mid_of, put_mid}
-use Rattle.laws.proofs.Choices.{if_lt_yes, if_lt_no}
 use Rattle.laws.proofs.Numbers.{lt-or-ge}
 use Rattle.laws.proofs.Parts.{part_is, part_put}
 use Rattle.verbs.specs.Verbs.{from_of, rearranged}
 use Rattle.verbs.proofs.Laws.{from_of_outside}
 use Rattle.line.specs.Edits.{width_of}
-use Rattle.line.specs.Changes.{windowed, spliced, written, is_part, emptied, rehomed, handed, emptied_all, handed_all, joined_glyphs, joined_homes}
+use Rattle.line.specs.Changes.{windowed, spliced}
 use Rattle.line.proofs.Slices.{beyond, beyond_before, beyond_from, length-windowed, get_d_windowed, length-spliced, spliced-before, spliced-moved, spliced-rest}
-
--- a glyph written
-module _ (used at glyph : ℕ) (glyphs : List ℕ) where
-  pub written_off : used ≤ at → glyphs ≡ written used at glyph glyphs
-  unfolding written
-  written_off h = sym (if_lt_no _ _ h)
-
-  pub written_on : at < used → set glyphs at glyph ≡ written used at glyph glyphs
-  unfolding written
-  written_on h = sym (if_lt_yes _ _ h)
-
--- a component that does not count, and one that does
-module _ (used at part : ℕ) where
-  module _ (glyphs : List ℕ) where
-    pub emptied_not : is_part used at part ≡ false → glyphs ≡ emptied used at part glyphs
-    unfolding emptied
-    emptied_not e = rw e
-
-    pub emptied-there : is_part used at part ≡ true → set glyphs part 0xFFFF ≡ emptied used at part glyphs
-    unfolding emptied
-    emptied-there e = rw e
-
-  module _ (tags homes : List ℕ) where
-    pub handed_not : is_part used at part ≡ false → homes ≡ handed used at part tags homes
-    unfolding handed
-    handed_not e = rw e
-
-    pub handed-over : {after : List ℕ} → is_part used at part ≡ true → after ≡ rehomed (get_or tags part 0) (get_or tags at 0) homes
-        → after ≡ handed used at part tags homes
-    unfolding handed
-    handed-over e i = rw e i
-
--- a ligature: off the line, or with all its components joined
-module _ (used at glyph : ℕ) (parts tags : List ℕ) where
-  pub joined_off : used ≤ at → (glyphs : List ℕ) → glyphs ≡ joined_glyphs used at glyph parts glyphs
-  unfolding joined_glyphs
-  joined_off h glyphs = sym (if_lt_no _ _ h)
-
-  pub homes_off : used ≤ at → (homes : List ℕ) → homes ≡ joined_homes used at parts tags homes
-  unfolding joined_homes
-  homes_off h homes = sym (if_lt_no _ _ h)
-
-  pub joined-on : {after : List ℕ} → at < used → (glyphs : List ℕ) → after ≡ emptied_all used at parts (set glyphs at glyph)
-      → after ≡ joined_glyphs used at glyph parts glyphs
-  unfolding joined_glyphs
-  joined-on h glyphs e = rw (if_lt_yes (emptied_all used at parts (set glyphs at glyph)) glyphs h) e
-
-  pub homes-on : {after : List ℕ} → at < used → (homes : List ℕ) → after ≡ handed_all used at parts tags homes
-      → after ≡ joined_homes used at parts tags homes
-  unfolding joined_homes
-  homes-on h homes e = rw (if_lt_yes (handed_all used at parts tags homes) homes h) e
 
 -- a window: with no place in the line, or lent from its first place on
 windowed-none : (first verb : ℕ) (xs : List ℕ) → windowed first 0 verb xs ≡ xs

@@ -90,9 +90,9 @@ pub record Marking (words : ℕ) (tags : List ℕ) (used : ℕ) (seen : List ℕ
   pub so_far : every (λ q. both (ltb (get_or tags q 0) used) (is_new tags q (get_or tags q 0))) p ≡ true
   pub bits : (t : ℕ) → t < used → has_seen seen t ≡ not (is_new tags p t)
 
-pub marking-start : (words : ℕ) (tags : List ℕ) (used : ℕ) (seen : List ℕ) → seen ≡ replicate words 0 → used ≤ words * 64 → Marking words tags used seen 0
+pub marking_start : (words : ℕ) (tags : List ℕ) (used : ℕ) (seen : List ℕ) → seen ≡ replicate words 0 → used ≤ words * 64 → Marking words tags used seen 0
 unfolding is_new
-marking-start words tags used seen clear enough =
+marking_start words tags used seen clear enough =
     record {
       within = omega arith;
       long = ap length clear ∙ length-replicate {A = ℕ} words 0;
@@ -104,48 +104,46 @@ marking-start words tags used seen clear enough =
           ∙ ap not (sym (every-none (λ q. not (eqb (get_or tags q 0) t))));
     }
 
-module _ (words : ℕ) (tags : List ℕ) (used : ℕ) (seen : List ℕ) (p : ℕ) (m : Marking words tags used seen p) (more : p < used) where
+module _ (words : ℕ) (tags : List ℕ) (used : ℕ) (seen : List ℕ) (p : ℕ) (m : Marking words tags used seen p) (more : p < used) {tag : ℕ}
+    (is : tag ≡ get_or tags p 0) where
   -- a tag of the line has its word
-  pub marking-word : get_or tags p 0 < used → get_or tags p 0 / 64 < length seen
-  marking-word h = omega (arith, m.enough, m.long)
+  pub marking_word : tag < used → tag / 64 < length seen
+  marking_word h = omega (arith, m.enough, m.long)
 
   -- a tag that is too large, or that was met before
-  pub marking_large : used ≤ get_or tags p 0 → false ≡ is_once_each tags used
+  pub marking_large : used ≤ tag → false ≡ is_once_each tags used
   unfolding is_once_each
-  marking_large h = sym (every_fails _ used p (rw (le-ltb (get_or tags p 0) used h)) more)
+  marking_large h = sym (every_fails _ used p (rw (← is, le-ltb tag used h)) more)
 
-  pub marking_again : {met : Bool} → get_or tags p 0 < used → met ≡ has_seen seen (get_or tags p 0) → met ≡ true
-      → false ≡ is_once_each tags used
+  pub marking_again : {met : Bool} → tag < used → met ≡ has_seen seen tag → met ≡ true → false ≡ is_once_each tags used
   unfolding is_once_each
   marking_again h e i =
-      let old : is_new tags p (get_or tags p 0) ≡ false = not-true _ (sym (m.bits (get_or tags p 0) h) ∙ sym e ∙ i) in
-      sym (every_fails _ used p (rw (lt-ltb (get_or tags p 0) used h) old) more)
+      let old : is_new tags p tag ≡ false = not-true _ (sym (m.bits tag h) ∙ sym e ∙ i) in
+      sym (every_fails _ used p (rw (← is, lt-ltb tag used h) old) more)
 
-  marked : get_or tags p 0 < used → has_seen seen (get_or tags p 0) ≡ false → Marking words tags used (with_tag seen (get_or tags p 0)) (p + 1)
+  pub marking_next : {met : Bool} {after : List ℕ} → tag < used → met ≡ has_seen seen tag → met ≡ false → after ≡ with_tag seen tag
+      → Marking words tags used after (p + 1)
   unfolding is_new with_tag every
-  marked h e =
-      let new : is_new tags p (get_or tags p 0) ≡ true = not-false _ (sym (m.bits (get_or tags p 0) h) ∙ e) in
-      let wide : get_or tags p 0 / 64 < length seen = marking-word h in
-      record {
+  marking_next h e i a =
+      let new : is_new tags p tag ≡ true = not-false _ (sym (m.bits tag h) ∙ sym e ∙ i) in
+      let wide : tag / 64 < length seen = marking_word h in
+      rw a
+      (record {
         within = omega arith;
-        long = length-set seen (get_or tags p 0 / 64) _ ∙ m.long;
+        long = length-set seen (tag / 64) _ ∙ m.long;
         enough = m.enough;
-        so_far = rw (add-one p) (every_more _ p m.so_far (rw (lt-ltb (get_or tags p 0) used h) new));
+        so_far = rw (add-one p) (every_more _ p m.so_far (rw (← is, lt-ltb tag used h) new));
         bits = λ t i.
-            rw (add-one p)
+            rw (add-one p, ← is)
             (⊎_elim
-            (λ (j : get_or tags p 0 ≡ t). ap (has_seen (with_tag seen (get_or tags p 0))) (sym j) ∙ seen_same seen (get_or tags p 0) wide ∙ rw (eq-eqb (get_or tags p 0) t j))
-            (λ (j : get_or tags p 0 ≡ t → ⊥).
-            seen_other seen (get_or tags p 0) wide t (λ (q : t ≡ get_or tags p 0). j (sym q)) ∙ m.bits t i ∙ rw (ne_eqb (get_or tags p 0) t j))
-            (eq-or-ne (get_or tags p 0) t));
-      }
+            (λ (j : tag ≡ t). ap (has_seen (with_tag seen tag)) (sym j) ∙ seen_same seen tag wide ∙ rw (eq-eqb tag t j))
+            (λ (j : tag ≡ t → ⊥).
+            seen_other seen tag wide t (λ (q : t ≡ tag). j (sym q)) ∙ m.bits t i ∙ rw (ne_eqb tag t j))
+            (eq-or-ne tag t));
+      })
 
-  pub marking-next : {met : Bool} {after : List ℕ} → get_or tags p 0 < used → met ≡ has_seen seen (get_or tags p 0) → met ≡ false
-      → after ≡ with_tag seen (get_or tags p 0) → Marking words tags used after (p + 1)
-  marking-next h e i a = rw a (marked h (sym e ∙ i))
-
-pub marking-done : (words : ℕ) (tags : List ℕ) (used : ℕ) (seen : List ℕ) (p : ℕ) → Marking words tags used seen p → used ≤ p → true ≡ is_once_each tags used
+pub marking_done : (words : ℕ) (tags : List ℕ) (used : ℕ) (seen : List ℕ) (p : ℕ) → Marking words tags used seen p → used ≤ p → true ≡ is_once_each tags used
 unfolding is_once_each
-marking-done words tags used seen p m h =
+marking_done words tags used seen p m h =
     let e : p ≡ used = omega (arith, m.within) in
     sym (rw e at m.so_far)

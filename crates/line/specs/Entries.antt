@@ -1,14 +1,10 @@
 -- What the public entries answer and leave: the fresh line and the lone verb.
-use Rattle.std.specs.Prelude.{ℕ, ◌%◌, not, List, [], ◌∷◌, ◌++◌, ltb, eqb, length, drop}
+use Rattle.answers.specs.declared.Refusal.{Refusal}
+use Rattle.std.specs.Prelude.{ℕ, ◌%◌, not, List, [], ◌∷◌, ◌++◌, ltb, eqb, length, drop, Result, Ok, Err}
 use Rattle.laws.specs.Choose.{if_eq}
 use Rattle.answers.specs.Limits.{room_limit}
 use Rattle.answers.specs.Refuse.{Test, refuse}
-use Rattle.answers.specs.declared.Refusal.TheVariants as Refusal
 use Rattle.answers.specs.declared.Answer.{Answer}
-use Rattle.answers.specs.declared.Check.{Check}
-use Rattle.answers.specs.declared.Check.TheVariants.{Passed, Refused}
-use Rattle.line.specs.declared.FreshLine.{FreshLine}
-use Rattle.line.specs.declared.FreshLine.TheVariants as Fresh
 use Rattle.line.specs.Line.{Line, line_of}
 use Rattle.line.specs.Test.{line_test}
 use Rattle.line.specs.Changes.{Change, numbers_from, apply_all}
@@ -28,30 +24,30 @@ fresh_tests glyphs tags homes =
 
 -- the reply of `fresh`, and the slices that it was lent
 pub record FreshLeft : Type 0 where
-  pub reply : FreshLine
+  pub reply : Result ℕ Refusal
   pub tags : List ℕ
   pub homes : List ℕ
 
 -- refused: all as it was; passed: the fresh line
-unfoldable pub fresh_by : Check → (glyphs tags homes : List ℕ) → FreshLeft
-fresh_by Passed glyphs tags homes =
+unfoldable pub fresh_by : Result Unit Refusal → (glyphs tags homes : List ℕ) → FreshLeft
+fresh_by (Ok tt) glyphs tags homes =
     let l : Line = fresh_of glyphs tags homes in
-    record { reply = Fresh.Used l.used; tags = l.tags; homes = l.homes }
-fresh_by (Refused why) glyphs tags homes = record { reply = Fresh.Refused why; tags = tags; homes = homes }
+    record { reply = Ok l.used; tags = l.tags; homes = l.homes }
+fresh_by (Err why) glyphs tags homes = record { reply = Err why; tags = tags; homes = homes }
 
 -- the fresh line, by its tests
 unfoldable pub fresh_call : (glyphs tags homes : List ℕ) → FreshLeft
 fresh_call glyphs tags homes = fresh_by (refuse (fresh_tests glyphs tags homes)) glyphs tags homes
 
 -- the answer of a reply: a used length is DONE
-abbrev pub fresh_answer : FreshLine → Answer
-fresh_answer (Fresh.Used n) = Answer.Done
-fresh_answer (Fresh.Refused why) = Answer.Refused why
+abbrev pub fresh_answer : Result ℕ Refusal → Answer
+fresh_answer (Ok n) = Answer.Done
+fresh_answer (Err why) = Answer.Refused why
 
 -- the number lent for the used length, afterwards: the used length, or as it was
-abbrev pub fresh_used : FreshLine → ℕ → ℕ
-fresh_used (Fresh.Used n) was = n
-fresh_used (Fresh.Refused why) was = was
+abbrev pub fresh_used : Result ℕ Refusal → ℕ → ℕ
+fresh_used (Ok n) was = n
+fresh_used (Err why) was = was
 
 -- what a call on a line answers and leaves
 pub record Left : Type 0 where
@@ -71,14 +67,14 @@ unfoldable pub verb_makes : (verb start end : ℕ) → List Change
 verb_makes verb start end = if_eq (verb % 16) 0 [] (Change.window start end verb ∷ [])
 
 -- a refused call makes no changes
-unfoldable pub made_by : Check → List Change → List Change
-made_by Passed changes = changes
-made_by (Refused why) changes = []
+unfoldable pub made_by : Result Unit Refusal → List Change → List Change
+made_by (Ok tt) changes = changes
+made_by (Err why) changes = []
 
 -- DONE, or the refusal
-unfoldable pub answer_by : Check → Answer
-answer_by Passed = Answer.Done
-answer_by (Refused why) = Answer.Refused why
+unfoldable pub answer_by : Result Unit Refusal → Answer
+answer_by (Ok tt) = Answer.Done
+answer_by (Err why) = Answer.Refused why
 
 -- the changes of a call of the lone verb
 unfoldable pub verb_changes : Line → (verb start end : ℕ) → List Change

@@ -1,110 +1,55 @@
 // The edits on the lent line: each leaves what `apply` says of its slices.
-ghost use Rattle.std.specs.Prelude.{◌≡◌, suc, ◌+◌, ◌/◌, ◌≤◌, ◌<◌, min, length};
+ghost use Rattle.std.specs.Prelude.{◌≡◌, ◌+◌, ◌/◌, ◌≤◌, ◌<◌, min, length};
 ghost use Rattle.std.proofs.Math.Seq.{paste};
 ghost use Rattle.answers.specs.Limits.{room_limit};
 ghost use Rattle.laws.specs.Backward.{backward};
-ghost use Rattle.laws.specs.Choose.{if_eq};
 ghost use Rattle.line.specs.Edits.{width_of};
-ghost use Rattle.line.specs.Steps.{raised};
 ghost use Rattle.line.specs.Changes.{windowed, spliced, numbers_from, written, emptied, rehomed, handed, joined_glyphs, joined_homes, glyphs_of};
 
 // The glyph of a place whose characters a ligature has taken.
 const DELETED: u16 = 0xFFFF;
 
-// The smaller of two numbers.
-fn least(a: usize, b: usize) -> usize
-    ensures { result ≡ min a b }
-{
-    if a < b { a } else { b }
-}
-
 // Writes a glyph at a place of the line; elsewhere it is skipped.
+#[tactic(auto, unfolding(crate::specs::Changes::written))]
 pub fn write(glyphs: &mut [u16], used: usize, at: usize, glyph: u16)
     requires { used ≤ length glyphs.old }
     ensures { glyphs.new ≡ written used at glyph glyphs.old }
 {
-    if used <= at {
-        return;
-    }
-    glyphs[at] = glyph;
-}
-
-// Turns the used part of one slice round.
-fn reverse_part(part: &mut [u16], used: usize)
-    requires { used ≤ length part.old }
-    ensures { part.new ≡ backward used part.old }
-{
-    let mut low = 0;
-    let mut high = used;
-    while low < high {
-        high -= 1;
-        let first = part[low];
-        part[low] = part[high];
-        part[high] = first;
-        low += 1;
+    if at < used {
+        glyphs[at] = glyph;
     }
 }
 
 // Turns the used part of the line round.
+#[tactic(auto, using(crate::proofs::Loops::turned_part))]
 pub fn reverse(glyphs: &mut [u16], tags: &mut [u16], used: usize)
     requires { (used ≤ length glyphs.old) × (used ≤ length tags.old) }
     ensures glyphs { glyphs.new ≡ backward used glyphs.old }
     ensures tags { tags.new ≡ backward used tags.old }
 {
-    reverse_part(glyphs, used);
-    reverse_part(tags, used);
-}
-
-// The first ones move up one place. As the distance is fixed and they begin the slice, compilers make one move of memory of it.
-fn raise_one(part: &mut [u16], used: usize)
-    requires { used < length part.old }
-    ensures { part.new ≡ raised 0 used 1 part.old }
-{
-    let mut place = used;
-    while 0 < place {
-        place -= 1;
-        part[place + 1] = part[place];
-    }
-}
-
-// What stands from `at` to the used length moves up `count` places.
-fn raise(part: &mut [u16], at: usize, used: usize, count: usize)
-    requires { (at ≤ used) × (used + count ≤ length part.old) }
-    ensures { part.new ≡ raised at used count part.old }
-{
-    if count == 1 {
-        raise_one(&mut part[at..], used - at);
-        return;
-    }
-    let mut place = used;
-    while at < place {
-        place -= 1;
-        part[place + count] = part[place];
-    }
+    glyphs[..used].reverse();
+    tags[..used].reverse();
 }
 
 // Writes `count` numbers from `first` up, in order.
+#[tactic(auto, using(crate::proofs::Loops::pasting_start, crate::proofs::Loops::number_next, crate::proofs::Loops::pasting_done))]
 pub fn number(part: &mut [u16], at: usize, first: usize, count: usize)
     requires { (at + count ≤ length part.old) × (first + count ≤ 65536) }
     ensures { part.new ≡ paste part.old at (numbers_from first count) count }
 {
-    let mut k = 0;
-    while k < count {
+    for k in 0..count {
         part[at + k] = (first + k) as u16;
-        k += 1;
     }
 }
 
 // Writes the glyphs of a list of big-endian bytes.
+#[tactic(auto, using(crate::proofs::Loops::pasting_start, crate::proofs::Loops::pasting_done))]
 fn put(glyphs: &mut [u16], at: usize, new: &[u8])
     requires { at + length new.now / 2 ≤ length glyphs.old }
     ensures { glyphs.new ≡ paste glyphs.old at (glyphs_of new.now) (length new.now / 2) }
 {
-    let count = new.len() / 2;
-    let mut k = 0;
-    while k < count {
+    for k in 0..new.len() / 2 {
         glyphs[at + k] = parse::u16_at(new, k * 2);
-        k += 1;
     }
 }
 
@@ -121,37 +66,27 @@ pub fn insert(glyphs: &mut [u16], tags: &mut [u16], used: usize, at: usize, new:
     if count == 0 {
         return used;
     }
-    let place = least(at, used);
-    raise(glyphs, place, used, count);
+    let place = at.min(used);
+    glyphs.copy_within(place..used, place + count);
     put(glyphs, place, new);
-    raise(tags, place, used, count);
+    tags.copy_within(place..used, place + count);
     number(tags, place, used, count);
     used + count
 }
 
-// A character's home after the characters of one tag went to another.
-fn sent(home: u16, from: u16, to: u16) -> u16
-    ensures { result ≡ if_eq home from to home }
-{
-    if home == from {
-        return to;
-    }
-    home
-}
-
 // The characters of one tag go to another.
+#[tactic(auto, using(crate::proofs::Loops::pasting_start, crate::proofs::Loops::rehome_done))]
 fn rehome(homes: &mut [u16], from: u16, to: u16)
     ensures { homes.new ≡ rehomed from to homes.old }
 {
-    let mut c = 0;
-    while c < homes.len() {
-        homes[c] = sent(homes[c], from, to);
-        c += 1;
+    for home in homes.iter_mut() {
+        *home = if *home == from { to } else { *home };
     }
 }
 
 // One component of a ligature at a place of the line: its place is deleted and its characters go to the ligature's tag. At the
 // ligature's own place, and off the line, it is skipped.
+#[tactic(auto, unfolding(crate::specs::Changes::is_part, crate::specs::Changes::emptied, crate::specs::Changes::handed))]
 pub fn join(
     glyphs: &mut [u16],
     tags: &[u16],
@@ -164,17 +99,14 @@ pub fn join(
     ensures glyphs { glyphs.new ≡ emptied used at part glyphs.old }
     ensures homes { homes.new ≡ handed used at part tags.now homes.old }
 {
-    if used <= part {
-        return;
+    if part < used && part != at {
+        glyphs[part] = DELETED;
+        rehome(homes, tags[part], tags[at]);
     }
-    if part == at {
-        return;
-    }
-    glyphs[part] = DELETED;
-    rehome(homes, tags[part], tags[at]);
 }
 
 // A ligature with its components, one after the other; off the line all of it is skipped.
+#[tactic(auto, using(crate::proofs::Loops::joining_start, crate::proofs::Loops::joining_glyphs, crate::proofs::Loops::joining_homes), unfolding(crate::specs::Changes::joined_glyphs, crate::specs::Changes::joined_homes))]
 pub fn ligate(
     glyphs: &mut [u16],
     tags: &[u16],
@@ -192,21 +124,13 @@ pub fn ligate(
         return;
     }
     glyphs[at] = glyph;
-    let mut k = 0;
-    while k < parts.len() {
-        join(glyphs, tags, homes, used, at, parts[k]);
-        k += 1;
+    for &part in parts {
+        join(glyphs, tags, homes, used, at, part);
     }
 }
 
-// The place behind a window's last, cut to the line.
-fn end_of(last: usize, used: usize) -> usize
-    ensures { result ≡ min (suc last) used }
-{
-    if last < used { last + 1 } else { used }
-}
-
 // A verb on the window from `first` to `last`, whose end is cut to the line.
+#[tactic(auto, using(crate::proofs::Returns::window_off, crate::proofs::Returns::window_on))]
 pub fn rearrange(
     glyphs: &mut [u16],
     tags: &mut [u16],
@@ -219,7 +143,7 @@ pub fn rearrange(
     ensures glyphs { glyphs.new ≡ windowed first (width_of first last used) verb glyphs.old }
     ensures tags { tags.new ≡ windowed first (width_of first last used) verb tags.old }
 {
-    let end = end_of(last, used);
+    let end = last.saturating_add(1).min(used);
     if end <= first {
         return;
     }

@@ -1,4 +1,5 @@
 -- The index that is given is the manual's.
+use Rattle.std.specs.Prelude.{Option, Some, None, Ok}
 use Prim.Native.Nat.{ℕ, zero, suc, ◌+◌, ◌*◌, ◌<◌, ◌≤◌}
 use mathlib.Core.Path.{◌≡◌, refl, sym, ◌∙◌, ap}
 use mathlib.Core.Bool.{Bool, true, false}
@@ -10,20 +11,13 @@ use borrow.Author.Tests.{le-ltb}
 use Rattle.laws.proofs.Numbers.{lt-or-ge, eq-or-ne}
 use Rattle.answers.specs.Limits.{table_limit}
 use Rattle.answers.specs.Refuse.{refuse, table_test}
-use Rattle.answers.specs.declared.Reply.TheVariants.{Value, Nothing}
 use Rattle.parse.specs.Reads.{read_u16, read_u32}
 use Rattle.parse.specs.Use.{on_u16, on_u32}
-use Rattle.parse.specs.declared.ReadU16.{ReadU16}
-use Rattle.parse.specs.declared.ReadU16.TheVariants as U16
-use Rattle.parse.specs.declared.ReadU32.{ReadU32}
-use Rattle.parse.specs.declared.ReadU32.TheVariants as U32
 use Rattle.parse.proofs.Laws.{inside_yes, inside_past, inside-cut, read_u16_got, read_u16-short, read_u32_got, u32_value}
-use Rattle.ltag.specs.Ltag.{equal, compared, look_at, seek, sought, index_of, language_index}
+use Rattle.ltag.specs.Ltag.{equal, look_at, seek, sought, index_of, language_index}
 use Rattle.ltag.specs.Manual.{tag_count, range_place, tag_place, tag_size, tag_of, Lies, First, EmptyAtEnd, AsManual}
-use Rattle.ltag.specs.declared.Look.{Look}
-use Rattle.ltag.specs.declared.Look.TheVariants.{Same, Other, Bad}
-use Rattle.ltag.proofs.Equal.{equal-same, equal_self}
-use Rattle.ltag.proofs.Seeking.{seek-same, seek-other, seek-bad, seek-none}
+use Rattle.std.proofs.lemmas.Slice.Eq.{bytes_eq-Decides}
+use Rattle.ltag.proofs.Seeking.{seek_same, seek_other, seek_bad, seek_none}
 
 -- the range of tag i is good to the crate: it lies in the table, and its bytes do and begin before the table's end
 pub record Good (bytes : List ℕ) (i : ℕ) : Type 0 where
@@ -31,24 +25,24 @@ pub record Good (bytes : List ℕ) (i : ℕ) : Type 0 where
   pub begins : tag_place bytes i < length bytes
 
 -- the first number from i on, of as many as told, at which a look finds the name
-pub record Hit (look : ℕ → Look) (i left n : ℕ) : Type 0 where
+pub record Hit (look : ℕ → Option Bool) (i left n : ℕ) : Type 0 where
   pub from : i ≤ n
   pub counted : n < i + left
-  pub here : look n ≡ Same
-  pub before : (k : ℕ) → i ≤ k → k < n → look k ≡ Other
+  pub here : look n ≡ Some true
+  pub before : (k : ℕ) → i ≤ k → k < n → look k ≡ Some false
 
-module _ (look : ℕ → Look) where
-  seek_hit : (left i n : ℕ) → seek look left i ≡ Value n → Hit look i left n
-  seek_hit zero i n e = let z : ◌≡◌ {A = ℕ} 0 1 = cc (seek-none look i) in absurd (omega arith)
+module _ (look : ℕ → Option Bool) where
+  seek_hit : (left i n : ℕ) → seek look left i ≡ Some n → Hit look i left n
+  seek_hit zero i n e = let z : ◌≡◌ {A = ℕ} 0 1 = cc (seek_none look i) in absurd (omega arith)
   seek_hit (suc left) i n e = go (look i) refl (seek_hit left (suc i) n)
     where
-      go : (l : Look) → look i ≡ l → (seek look left (suc i) ≡ Value n → Hit look (suc i) left n) → Hit look i (suc left) n
-      go Same f rest =
-          let g : i ≡ n = cc (seek-same look left i f) in
+      go : (l : Option Bool) → look i ≡ l → (seek look left (suc i) ≡ Some n → Hit look (suc i) left n) → Hit look i (suc left) n
+      go (Some true) f rest =
+          let g : i ≡ n = cc (seek_same look left i f) in
           record { from = omega arith; counted = omega arith; here = rw g at f; before = λ k a b. absurd (omega arith) }
-      go Bad f rest = let z : ◌≡◌ {A = ℕ} 0 1 = cc (seek-bad look left i f) in absurd (omega arith)
-      go Other f rest =
-          let h = rest (sym (seek-other look left i f) ∙ e) in
+      go None f rest = let z : ◌≡◌ {A = ℕ} 0 1 = cc (seek_bad look left i f) in absurd (omega arith)
+      go (Some false) f rest =
+          let h = rest (sym (seek_other look left i f) ∙ e) in
           record {
             from = omega (arith, h.from);
             counted = omega (arith, h.counted);
@@ -57,13 +51,13 @@ module _ (look : ℕ → Look) where
                 ⊎_elim (λ (p : k ≡ i). rw p f) (λ (p : k ≡ i → ⊥). h.before k (omega (arith, p)) b) (eq-or-ne k i);
           }
 
-  hit_sought : (left i n : ℕ) → Hit look i left n → seek look left i ≡ Value n
+  hit_sought : (left i n : ℕ) → Hit look i left n → seek look left i ≡ Some n
   hit_sought zero i n h = absurd (omega (arith, h.from, h.counted))
   hit_sought (suc left) i n h =
       ⊎_elim
-      (λ (p : i ≡ n). seek-same look left i (rw p h.here) ∙ ap Value p)
+      (λ (p : i ≡ n). seek_same look left i (rw p h.here) ∙ ap Some p)
       (λ (p : i ≡ n → ⊥).
-      seek-other look left i (h.before i (omega arith) (omega (arith, h.from, p)))
+      seek_other look left i (h.before i (omega arith) (omega (arith, h.from, p)))
       ∙ hit_sought left (suc i) n
       (record {
         from = omega (arith, h.from, p);
@@ -73,23 +67,23 @@ module _ (look : ℕ → Look) where
       }))
       (eq-or-ne i n)
 
-  value_or_nothing : (left i : ℕ) → (seek look left i ≡ Nothing) ⊎ ((n : ℕ) × (seek look left i ≡ Value n))
-  value_or_nothing zero i = inl (seek-none look i)
+  value_or_nothing : (left i : ℕ) → (seek look left i ≡ None) ⊎ ((n : ℕ) × (seek look left i ≡ Some n))
+  value_or_nothing zero i = inl (seek_none look i)
   value_or_nothing (suc left) i = go (look i) refl (value_or_nothing left (suc i))
     where
-      go : (l : Look) → look i ≡ l → (seek look left (suc i) ≡ Nothing) ⊎ ((n : ℕ) × (seek look left (suc i) ≡ Value n))
-          → (seek look (suc left) i ≡ Nothing) ⊎ ((n : ℕ) × (seek look (suc left) i ≡ Value n))
-      go Same f rest = inr (i, seek-same look left i f)
-      go Bad f rest = inl (seek-bad look left i f)
-      go Other f rest = rw (seek-other look left i f) rest
+      go : (l : Option Bool) → look i ≡ l → (seek look left (suc i) ≡ None) ⊎ ((n : ℕ) × (seek look left (suc i) ≡ Some n))
+          → (seek look (suc left) i ≡ None) ⊎ ((n : ℕ) × (seek look (suc left) i ≡ Some n))
+      go (Some true) f rest = inr (i, seek_same look left i f)
+      go None f rest = inl (seek_bad look left i f)
+      go (Some false) f rest = rw (seek_other look left i f) rest
 
-either_way : (r : ReadU16) → on_u16 r (λ offset. Bad) Bad ≡ Bad
-either_way (U16.Got n) = refl
-either_way U16.Short = refl
+either_way : (r : Option ℕ) → on_u16 {A = Option Bool} r (λ offset. None) None ≡ None
+either_way (Some n) = refl
+either_way None = refl
 
 -- a look at a tag compares its bytes exactly where its range is good
 module _ (bytes name : List ℕ) (i : ℕ) where
-  good_look : Good bytes i → look_at bytes name i ≡ compared (equal (tag_of bytes i) name)
+  good_look : Good bytes i → look_at bytes name i ≡ Some (equal (tag_of bytes i) name)
   unfolding look_at
   good_look g =
       rw (
@@ -99,7 +93,7 @@ module _ (bytes name : List ℕ) (i : ℕ) where
         look_at,
       )
 
-  good_or_bad : Good bytes i ⊎ (look_at bytes name i ≡ Bad)
+  good_or_bad : Good bytes i ⊎ (look_at bytes name i ≡ None)
   unfolding look_at
   good_or_bad =
       ⊎_elim
@@ -120,32 +114,32 @@ module _ (bytes name : List ℕ) (i : ℕ) where
       (lt-or-ge (length bytes) (range_place i + 4))
 
   -- so what a look says is known of the tag
-  good_of : (l : Look) → look_at bytes name i ≡ l → (l ≡ Bad → ⊥) → Good bytes i
-  good_of l e n = ⊎_elim (λ (g : Good bytes i). g) (λ (b : look_at bytes name i ≡ Bad). absurd (n (sym e ∙ b))) good_or_bad
+  good_of : (l : Option Bool) → look_at bytes name i ≡ l → (l ≡ None → ⊥) → Good bytes i
+  good_of l e n = ⊎_elim (λ (g : Good bytes i). g) (λ (b : look_at bytes name i ≡ None). absurd (n (sym e ∙ b))) good_or_bad
 
-  same_tag : look_at bytes name i ≡ Same → Good bytes i × (tag_of bytes i ≡ name)
+  same_tag : look_at bytes name i ≡ Some true → Good bytes i × (tag_of bytes i ≡ name)
   same_tag e =
-      let g = good_of Same e (λ b. let z : ◌≡◌ {A = ℕ} 0 1 = cc in omega arith) in
+      let g = good_of (Some true) e (λ b. let z : ◌≡◌ {A = ℕ} 0 1 = cc in omega arith) in
       (g, go (equal (tag_of bytes i) name) refl (sym (good_look g) ∙ e))
     where
-      go : (t : Bool) → equal (tag_of bytes i) name ≡ t → compared (equal (tag_of bytes i) name) ≡ Same → tag_of bytes i ≡ name
-      go true p f = equal-same (tag_of bytes i) name p
+      go : (t : Bool) → equal (tag_of bytes i) name ≡ t → Some (equal (tag_of bytes i) name) ≡ Some true → tag_of bytes i ≡ name
+      go true p f = (bytes_eq-Decides (tag_of bytes i) name).0 p
       go false p f = let z : ◌≡◌ {A = ℕ} 0 1 = cc in absurd (omega arith)
 
-  other_tag : look_at bytes name i ≡ Other → Good bytes i × (tag_of bytes i ≡ name → ⊥)
+  other_tag : look_at bytes name i ≡ Some false → Good bytes i × (tag_of bytes i ≡ name → ⊥)
   other_tag e =
-      let g = good_of Other e (λ b. let z : ◌≡◌ {A = ℕ} 0 1 = cc in omega arith) in
-      (g, λ same. let t : equal (tag_of bytes i) name ≡ true = rw same (equal_self name) in let o = sym (good_look g) ∙ e in let z : ◌≡◌ {A = ℕ} 0 1 = cc in omega arith)
+      let g = good_of (Some false) e (λ b. let z : ◌≡◌ {A = ℕ} 0 1 = cc in omega arith) in
+      (g, λ same. let t : equal (tag_of bytes i) name ≡ true = rw same ((bytes_eq-Decides name name).1 refl) in let o = sym (good_look g) ∙ e in let z : ◌≡◌ {A = ℕ} 0 1 = cc in omega arith)
 
-  look_same : Good bytes i → tag_of bytes i ≡ name → look_at bytes name i ≡ Same
-  look_same g e = good_look g ∙ ap compared (ap (λ (t : List ℕ). equal t name) e ∙ equal_self name)
+  look_same : Good bytes i → tag_of bytes i ≡ name → look_at bytes name i ≡ Some true
+  look_same g e = good_look g ∙ ap Some (ap (λ (t : List ℕ). equal t name) e ∙ (bytes_eq-Decides name name).1 refl)
 
-  look_other : Good bytes i → (tag_of bytes i ≡ name → ⊥) → look_at bytes name i ≡ Other
+  look_other : Good bytes i → (tag_of bytes i ≡ name → ⊥) → look_at bytes name i ≡ Some false
   look_other g n = go (equal (tag_of bytes i) name) refl
     where
-      go : (t : Bool) → equal (tag_of bytes i) name ≡ t → look_at bytes name i ≡ Other
-      go true p = absurd (n (equal-same (tag_of bytes i) name p))
-      go false p = good_look g ∙ ap compared p
+      go : (t : Bool) → equal (tag_of bytes i) name ≡ t → look_at bytes name i ≡ Some false
+      go true p = absurd (n ((bytes_eq-Decides (tag_of bytes i) name).0 p))
+      go false p = good_look g ∙ ap Some p
 
 -- the number of tags can be read where any range is good
 module _ (bytes name : List ℕ) where
@@ -153,14 +147,14 @@ module _ (bytes name : List ℕ) where
   unfolding index_of sought
   count_read i g = rw (read_u32_got bytes 8 (omega (arith, g.lies.range)), index_of)
 
-  index-found : (i : ℕ) → index_of bytes name ≡ Value i → First bytes name i
+  index-found : (i : ℕ) → index_of bytes name ≡ Some i → First bytes name i
   unfolding index_of sought
   index-found i e = go (read_u32 bytes 8) refl
     where
-      go : (r : ReadU32) → read_u32 bytes 8 ≡ r → First bytes name i
-      go U32.Short p = let z : ◌≡◌ {A = ℕ} 0 1 = cc in absurd (omega arith)
-      go (U32.Got count) p =
-          let f : seek (look_at bytes name) count 0 ≡ Value i = cc in
+      go : (r : Option ℕ) → read_u32 bytes 8 ≡ r → First bytes name i
+      go None p = let z : ◌≡◌ {A = ℕ} 0 1 = cc in absurd (omega arith)
+      go (Some count) p =
+          let f : seek (look_at bytes name) count 0 ≡ Some i = cc in
           let h = seek_hit (look_at bytes name) count 0 i f in
           let here = same_tag bytes name i h.here in
           record {
@@ -171,7 +165,7 @@ module _ (bytes name : List ℕ) where
           }
 
   index-there : (i : ℕ) → First bytes name i → ((k : ℕ) → k ≤ i → Lies bytes k) → ((k : ℕ) → k ≤ i → EmptyAtEnd bytes k → ⊥)
-      → index_of bytes name ≡ Value i
+      → index_of bytes name ≡ Some i
   index-there i f lie full =
       count_read i (good i (omega arith))
       ∙ hit_sought (look_at bytes name) (tag_count bytes) 0 i
@@ -195,20 +189,20 @@ module _ (bytes name : List ℕ) where
           }
 
   -- there is no third answer
-  index_or_nothing : (index_of bytes name ≡ Nothing) ⊎ ((i : ℕ) × (index_of bytes name ≡ Value i))
+  index_or_nothing : (index_of bytes name ≡ None) ⊎ ((i : ℕ) × (index_of bytes name ≡ Some i))
   unfolding index_of sought
   index_or_nothing = go (read_u32 bytes 8)
     where
-      go : (r : ReadU32) → (on_u32 r (λ count. sought bytes name count) Nothing ≡ Nothing)
-          ⊎ ((i : ℕ) × (on_u32 r (λ count. sought bytes name count) Nothing ≡ Value i))
-      go U32.Short = inl refl
-      go (U32.Got count) = value_or_nothing (look_at bytes name) count 0
+      go : (r : Option ℕ) → (on_u32 r (λ count. sought bytes name count) None ≡ None)
+          ⊎ ((i : ℕ) × (on_u32 r (λ count. sought bytes name count) None ≡ Some i))
+      go None = inl refl
+      go (Some count) = value_or_nothing (look_at bytes name) count 0
 
-  index-absent : ((i : ℕ) → First bytes name i → ⊥) → index_of bytes name ≡ Nothing
+  index-absent : ((i : ℕ) → First bytes name i → ⊥) → index_of bytes name ≡ None
   index-absent none =
       ⊎_elim
-      (λ (e : index_of bytes name ≡ Nothing). e)
-      (λ (v : (i : ℕ) × (index_of bytes name ≡ Value i)). absurd (none v.0 (index-found v.0 v.1)))
+      (λ (e : index_of bytes name ≡ None). e)
+      (λ (v : (i : ℕ) × (index_of bytes name ≡ Some i)). absurd (none v.0 (index-found v.0 v.1)))
       index_or_nothing
 
 -- the answer for a table that is not too long
@@ -218,7 +212,7 @@ unfolding language_index refuse table_test
 index_as_manual table start name h =
     rw (le-ltb table_limit (length table) h)
     (record {
-      found = index-found (drop start table) name;
-      there = index-there (drop start table) name;
-      absent = index-absent (drop start table) name;
+      found = λ i e. index-found (drop start table) name i (cc);
+      there = λ i f lie full. ap Ok (index-there (drop start table) name i f lie full);
+      absent = λ none. ap Ok (index-absent (drop start table) name none);
     })

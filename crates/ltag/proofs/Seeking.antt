@@ -1,65 +1,51 @@
--- The loop over the tags: what is left to look at gives what the whole search gives.
-use Prim.Native.Nat.{ℕ, zero, suc, ◌+◌, ◌<◌, ◌≤◌}
-use mathlib.Core.Path.{◌≡◌, refl, sym, ◌∙◌}
+-- The search among the tags: what is left to look at gives what the whole search gives.
+use Rattle.std.specs.Prelude.{Option, Some, None}
+use Prim.Native.Nat.{ℕ, suc, ◌+◌, ◌-◌, ◌<◌, ◌≤◌}
+use mathlib.Core.Path.{◌≡◌, refl}
+use mathlib.Core.List.{List}
+use mathlib.Core.Bool.{Bool, true, false}
 use native.Mathlib.Numerals.{add-one}
 use native.Mathlib.Omega.{arith}
-use Rattle.answers.specs.declared.Reply.{Reply}
-use Rattle.answers.specs.declared.Reply.TheVariants.{Value, Nothing}
-use Rattle.ltag.specs.Ltag.{seek}
-use Rattle.ltag.specs.declared.Look.{Look}
-use Rattle.ltag.specs.declared.Look.TheVariants.{Same, Other, Bad}
+use Rattle.ltag.specs.Ltag.{look_at, seek, sought}
 
--- one tag, by what it is to the name
-module _ (look : ℕ → Look) (left i : ℕ) where
-  pub seek-same : look i ≡ Same → seek look (suc left) i ≡ Value i
+-- one tag, by whether it is the name
+module _ (look : ℕ → Option Bool) (left i : ℕ) where
+  pub seek_same : look i ≡ Some true → seek look (suc left) i ≡ Some i
   unfolding seek
-  seek-same e = rw (e, seek)
+  seek_same e = rw (e, seek)
 
-  pub seek-other : look i ≡ Other → seek look (suc left) i ≡ seek look left (suc i)
+  pub seek_other : look i ≡ Some false → seek look (suc left) i ≡ seek look left (suc i)
   unfolding seek
-  seek-other e = rw (e, seek)
+  seek_other e = rw (e, seek)
 
-  pub seek-bad : look i ≡ Bad → seek look (suc left) i ≡ Nothing
+  pub seek_bad : look i ≡ None → seek look (suc left) i ≡ None
   unfolding seek
-  seek-bad e = rw (e, seek)
+  seek_bad e = rw (e, seek)
 
-pub seek-none : (look : ℕ → Look) (i : ℕ) → seek look 0 i ≡ Nothing
+pub seek_none : (look : ℕ → Option Bool) (i : ℕ) → seek look 0 i ≡ None
 unfolding seek
-seek-none look i = refl
+seek_none look i = refl
 
-pub record Seeking (look : ℕ → Look) (count : ℕ) (whole : Reply) (i : ℕ) : Type 0 where
-  pub left : ℕ
-  pub exactly : i + left ≡ count
-  pub same : seek look left i ≡ whole
+-- the search from number i on, among so many tags
+module _ (bytes name : List ℕ) (count i : ℕ) where
+  abbrev pub from_here : Option ℕ
+  from_here = seek (look_at bytes name) (count - i) i
 
-pub seeking_start : (look : ℕ → Look) (count : ℕ) → Seeking look count (seek look count 0) 0
-seeking_start look count = record { left = count; exactly = omega arith; same = refl }
+  left_more : i < count → count - i ≡ suc (count - (i + 1))
+  left_more h = omega arith
 
-module _ {look : ℕ → Look} {count i : ℕ} {whole : Reply} (s : Seeking look count whole i) where
-  at_last : (n : ℕ) → s.left ≡ n → seek look n i ≡ whole
-  at_last n e = rw e at s.same
+  pub sought_same : i < count → look_at bytes name i ≡ Some true → from_here ≡ Some i
+  sought_same h e = rw (left_more h) (seek_same (look_at bytes name) (count - (i + 1)) i e)
 
-  one_more : i < count → (n : ℕ) × (s.left ≡ suc n)
-  one_more h = go s.left refl
-    where
-      go : (n : ℕ) → s.left ≡ n → (m : ℕ) × (s.left ≡ suc m)
-      go zero e = absurd (omega (arith, s.exactly))
-      go (suc m) e = (m, e)
+  pub sought_bad : i < count → look_at bytes name i ≡ None → from_here ≡ None
+  sought_bad h e = rw (left_more h) (seek_bad (look_at bytes name) (count - (i + 1)) i e)
 
-  pub seeking_next : i < count → look i ≡ Other → Seeking look count whole (i + 1)
-  seeking_next h e =
-      let (n, l) = one_more h in
-      record {
-        left = n;
-        exactly = omega (arith, s.exactly);
-        same = rw (add-one i) (sym (seek-other look n i e) ∙ at_last (suc n) l);
-      }
+  pub sought_none : count ≤ i → from_here ≡ None
+  sought_none h = let none : count - i ≡ 0 = omega arith in rw none (seek_none (look_at bytes name) i)
 
-  pub seeking_same : i < count → look i ≡ Same → Value i ≡ whole
-  seeking_same h e = let (n, l) = one_more h in sym (seek-same look n i e) ∙ at_last (suc n) l
+  pub sought_other : i < count → look_at bytes name i ≡ Some false → seek (look_at bytes name) (count - (i + 1)) (i + 1) ≡ from_here
+  sought_other h e = rw (left_more h, seek_other (look_at bytes name) (count - (i + 1)) i e, add-one i)
 
-  pub seeking_bad : i < count → look i ≡ Bad → Nothing ≡ whole
-  seeking_bad h e = let (n, l) = one_more h in sym (seek-bad look n i e) ∙ at_last (suc n) l
-
-  pub seeking_done : count ≤ i → Nothing ≡ whole
-  seeking_done h = sym (seek-none look i) ∙ at_last 0 (omega (arith, s.exactly))
+pub sought_all : (bytes name : List ℕ) (count : ℕ) → seek (look_at bytes name) (count - 0) 0 ≡ sought bytes name count
+unfolding sought
+sought_all bytes name count = let all : count - 0 ≡ count = omega arith in rw all

@@ -1,7 +1,6 @@
 -- Apple's manual on language tags. The manual was not at hand: docs/DIFFERENCES.md says what these lines rest on.
-use Rattle.std.specs.Prelude.{ℕ, ◌+◌, ◌*◌, ◌<◌, ◌≤◌, ◌≡◌, List, length, take, drop}
-use Rattle.answers.specs.declared.Reply.{Reply}
-use Rattle.answers.specs.declared.Reply.TheVariants.{Value, Nothing}
+use Rattle.answers.specs.declared.Refusal.{Refusal}
+use Rattle.std.specs.Prelude.{ℕ, ◌+◌, ◌*◌, ◌<◌, ◌≤◌, ◌≡◌, List, length, take, drop, Option, Some, None, Result, Ok}
 use Rattle.parse.specs.Reads.{u16_at, u32_at}
 
 -- the number of tags is at 8; the range of tag i is at 12 + 4i: where its bytes begin, from the table's start, and how many they are
@@ -40,7 +39,7 @@ pub record EmptyAtEnd (bytes : List ℕ) (i : ℕ) : Type 0 where
 
 -- an answer is the manual's: just that number. The crate gives up at a bad range (docs/DIFFERENCES.md), so it finds the tag where all up to it lie in the
 -- table and none of them is empty at the end
-pub record AsManual (bytes name : List ℕ) (answer : Reply) : Type 0 where
-  pub found : (i : ℕ) → answer ≡ Value i → First bytes name i
-  pub there : (i : ℕ) → First bytes name i → ((k : ℕ) → k ≤ i → Lies bytes k) → ((k : ℕ) → k ≤ i → EmptyAtEnd bytes k → ⊥) → answer ≡ Value i
-  pub absent : ((i : ℕ) → First bytes name i → ⊥) → answer ≡ Nothing
+pub record AsManual (bytes name : List ℕ) (answer : Result (Option ℕ) Refusal) : Type 0 where
+  pub found : (i : ℕ) → answer ≡ Ok (Some i) → First bytes name i
+  pub there : (i : ℕ) → First bytes name i → ((k : ℕ) → k ≤ i → Lies bytes k) → ((k : ℕ) → k ≤ i → EmptyAtEnd bytes k → ⊥) → answer ≡ Ok (Some i)
+  pub absent : ((i : ℕ) → First bytes name i → ⊥) → answer ≡ Ok None

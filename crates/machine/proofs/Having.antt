@@ -1,4 +1,5 @@
 -- What the changes of a machine's every step have of the line that they are made on, those of its passes and of its calls have.
+use Rattle.std.specs.Prelude.{Option, Some, None, Result, Ok, Err}
 use Prim.Native.Nat.{ℕ, zero, suc, ◌+◌, ◌<◌, ◌≤◌}
 use mathlib.Core.Path.{◌≡◌, refl, subst⁻¹}
 use mathlib.Core.Bool.{Bool, true, false}
@@ -10,12 +11,8 @@ use Rattle.answers.specs.Refuse.{refuse}
 use Rattle.answers.specs.declared.Answer.TheVariants as Answer'
 use Rattle.answers.specs.declared.Refusal.{Refusal}
 use Rattle.answers.specs.declared.Refusal.TheVariants as Refusal'
-use Rattle.answers.specs.declared.Check.{Check}
-use Rattle.answers.specs.declared.Check.TheVariants as Check'
 use Rattle.state_tables.specs.Classes.{class_of}
 use Rattle.state_tables.specs.declared.States.{States}
-use Rattle.state_tables.specs.declared.Made.{Made}
-use Rattle.state_tables.specs.declared.Made.TheVariants as Made'
 use Rattle.line.specs.Line.{Line}
 use Rattle.line.specs.Test.{line_test}
 use Rattle.line.specs.Changes.{Change, apply_all}
@@ -27,13 +24,13 @@ use Rattle.machine.proofs.Passing.{turn_goes, turn_stops, turn_ends}
 
 -- what holds of all that is refused and of the work holds of what is made of tests and of a state table
 module _ {A : Type 0} (P : A → Type 0) (refused : Refusal → A) (always : (why : Refusal) → P (refused why)) where
-  pub if_passed_lem : (check : Check) (work : A) → P work → P (if_passed refused check work)
-  if_passed_lem Check'.Passed work p = p
-  if_passed_lem (Check'.Refused why) work p = always why
+  pub if_passed_lem : (check : Result Unit Refusal) (work : A) → P work → P (if_passed refused check work)
+  if_passed_lem (Ok tt) work p = p
+  if_passed_lem (Err why) work p = always why
 
-  pub on-made : (made : Made) (work : States → A) → ((states : States) → P (work states)) → P (on_made refused made work)
-  on-made (Made'.Ready states) work p = p states
-  on-made Made'.Short work p = always Refusal'.Head
+  pub on-made : (made : Option States) (work : States → A) → ((states : States) → P (work states)) → P (on_made refused made work)
+  on-made (Some states) work p = p states
+  on-made None work p = always Refusal'.Head
 
 -- such a property: on lines of some kind, of no changes, and of some behind others
 pub record Closed (On : Line → Type 0) (Has : List Change → Line → Type 0) : Type 0 where
@@ -91,7 +88,7 @@ module _ (On : Line → Type 0) (Has : List Change → Line → Type 0) (closed 
     unfolding step_call lone_step
     step-has table start s l index glyph ends on =
         let bytes : List ℕ = drop start table in
-        let made : Made = machine.opened bytes in
+        let made : (Option States) = machine.opened bytes in
         let P : Stepped S → Type 0 = λ r. Has r.changes l in
         let refused : Refusal → Stepped S = λ why. record { answer = Answer'.Refused why; state = s; advance = 0; changes = [] } in
         if_passed_lem P refused (λ why. closed.none l on)

@@ -1,5 +1,4 @@
 -- Laws that the machines' proofs cite.
-mod Heads
 pub mod Calls
 pub mod Passing
 pub mod Having

@@ -1,11 +1,10 @@
 -- Passes and steps on a subtable of morx, for any machine.
-use Rattle.std.specs.Prelude.{ℕ, ◌+◌, ◌≡◌, Bool, List, [], ◌∷◌, length, drop}
+use Rattle.std.specs.Prelude.{ℕ, ◌+◌, ◌≡◌, Bool, List, [], ◌∷◌, length, drop, Option}
 use Rattle.answers.specs.Refuse.{Test, refuse}
 use Rattle.answers.specs.declared.Refusal.{Refusal}
 use Rattle.answers.specs.declared.Answer.TheVariants as Answer'
 use Rattle.state_tables.specs.Classes.{class_of}
 use Rattle.state_tables.specs.declared.States.{States}
-use Rattle.state_tables.specs.declared.Made.{Made}
 use Rattle.line.specs.Line.{Line}
 use Rattle.line.specs.Test.{line_test}
 use Rattle.line.specs.Changes.{apply_all}
@@ -35,7 +34,7 @@ module _ (subtable : Subtable) where
 -- a machine that goes over the places of a line, by a state table
 pub record Machine (S : Type 0) : Type 0 where
   -- the state table of the subtable that begins with these bytes, where it can be used
-  pub opened : List ℕ → Made
+  pub opened : List ℕ → Option States
   -- the state at the start of a pass
   pub fresh : S
   -- a step, by the classes of glyphs, the bytes from the state table on and that table

@@ -3,7 +3,7 @@
 
 ghost use Rattle.std.specs.Prelude.{◌≤◌, length, IfOk};
 
-use answers::{Answer, Check};
+use answers::{Answer, TABLE_LIMIT};
 use std::io;
 use std::io::Read;
 
@@ -17,6 +17,7 @@ const MOST_BYTES: usize = 12 + 6 * MOST_RECORDS;
 const PART: usize = 65_536;
 
 // Reads until the room is full or the input ends, and returns how many bytes were read.
+// kept: one for the four programs would be public, and of that tools/firm wants an equation for what is read, which no clause can say of a reader.
 fn read_full(input: &mut impl Read, room: &mut [u8]) -> io::Result<usize>
     ensures { IfOk result (λ read. read ≤ length room.new) }
 {
@@ -31,76 +32,25 @@ fn read_full(input: &mut impl Read, room: &mut [u8]) -> io::Result<usize>
     Ok(read)
 }
 
-fn print_number(rt: &impl Print, name: &str, number: u64) -> io::Result<()> {
-    print!(rt; "{name}{number}")
-}
-
-fn print_answer(rt: &impl Print, answer: Answer) -> io::Result<()> {
-    print_number(rt, "answer ", answers::number(answer) as u64)?;
-    println!(rt)
-}
-
-// The last hex digit of a number, in capitals.
-fn digit(number: u16) -> u8 {
-    let low = (number % 16) as u8;
-    if low < 10 {
-        return b'0' + low;
+// What became of each record that has not its old number.
+fn print_records(rt: &impl Print, numbers: &[u16]) -> io::Result<()> {
+    for (index, &number) in numbers.iter().enumerate() {
+        if number == mend::NONE {
+            println!(rt; "dropped {index}")?;
+        } else if number as usize != index {
+            println!(rt; "moved {index} {number}")?;
+        }
     }
-    b'A' + (low - 10)
-}
-
-// The number at a place, which lies in the table.
-fn word_at(bytes: &[u8], place: usize) -> u16 {
-    let parse::ReadU16::Got(word) = parse::read_u16(bytes, place) else {
-        return 0;
-    };
-    word
-}
-
-// A number of the table, and what separates it from the next.
-fn print_word(rt: &impl Print, word: u16, separator: u8) -> io::Result<()> {
-    let digits = [
-        digit(word / 4096),
-        digit(word / 256),
-        digit(word / 16),
-        digit(word),
-        separator,
-    ];
-    rt.write_all(&digits)
+    Ok(())
 }
 
 // The new table in hex, on one line.
-fn print_table(rt: &impl Print, bytes: &[u8], size: usize) -> io::Result<()> {
-    let mut place: usize = 0;
-    let mut left = size;
-    while 2 < left {
-        print_word(rt, word_at(bytes, place), b' ')?;
-        place += 2;
-        left -= 2;
+fn print_table(rt: &impl Print, bytes: &[u8]) -> io::Result<()> {
+    for (index, word) in bytes.chunks_exact(2).enumerate() {
+        let separator = if index == 0 { "" } else { " " };
+        print!(rt; "{separator}{:02X}{:02X}", word[0], word[1])?;
     }
-    print_word(rt, word_at(bytes, place), b'\n')
-}
-
-// What became of a record, unless it has its old number.
-fn print_record(rt: &impl Print, index: u16, number: u16) -> io::Result<()> {
-    if number == index {
-        return Ok(());
-    }
-    if number == mend::NONE {
-        print_number(rt, "dropped ", index as u64)?;
-        return println!(rt);
-    }
-    print_number(rt, "moved ", index as u64)?;
-    print_number(rt, " ", number as u64)?;
     println!(rt)
-}
-
-// What became of each record.
-fn print_records(rt: &impl Print, numbers: &[u16; MOST_RECORDS], count: u16) -> io::Result<()> {
-    for index in 0..count {
-        print_record(rt, index, numbers[index as usize])?;
-    }
-    Ok(())
 }
 
 // How many bytes more there are, up to a part.
@@ -117,40 +67,37 @@ fn length_of(input: &mut impl Read, read: usize) -> io::Result<usize> {
         return Ok(read);
     }
     let mut total = read;
-    while total <= answers::TABLE_LIMIT {
+    while total <= TABLE_LIMIT {
         let more = read_part(input)?;
         if more == 0 {
-            return Ok(total);
+            break;
         }
         total += more;
     }
     Ok(total)
 }
 
-// Mends the first bytes of the table and prints what there is to say.
-fn mend_first(rt: &impl Print, bytes: &[u8; MOST_BYTES], read: usize) -> io::Result<()> {
+// Mends a table and prints what there is to say.
+fn mend_table(rt: &impl Print, table: &[u8]) -> io::Result<()> {
     let mut buffer = [0u8; MOST_BYTES];
     let mut numbers = [0u16; MOST_RECORDS];
     let mut size: usize = 0;
-    let table: &[u8] = bytes;
-    if table.len() < read {
-        return Ok(());
-    }
-    let answer = mend::mend(&table[..read], 0, &mut buffer, &mut numbers, &mut size);
-    print_answer(rt, answer)?;
+    let answer = mend::mend(table, 0, &mut buffer, &mut numbers, &mut size);
+    println!(rt; "answer {}", u32::from(answer))?;
     let Answer::Done = answer else {
         return Ok(());
     };
-    print_records(rt, &numbers, word_at(table, 4))?;
-    print_table(rt, &buffer, size)
+    let records = parse::read_u16(table, 4).unwrap_or(0);
+    print_records(rt, &numbers[..records as usize])?;
+    print_table(rt, &buffer[..size.min(MOST_BYTES)])
 }
 
 fn main(rt: HostRuntime) -> io::Result<()> {
     let mut input = rt.stdin();
     let mut bytes = [0u8; MOST_BYTES];
     let read = read_full(&mut input, &mut bytes)?;
-    if let Check::Refused(why) = answers::refuse_table(length_of(&mut input, read)?) {
-        return print_answer(&rt, Answer::Refused(why));
+    if let Err(why) = answers::refuse_table(length_of(&mut input, read)?) {
+        return println!(rt; "answer {}", u32::from(why));
     }
-    mend_first(&rt, &bytes, read)
+    mend_table(&rt, &bytes[..read])
 }

@@ -1,12 +1,12 @@
 -- What the passes of the two kinds add to the history: on every valid line their changes are legal.
+use Rattle.std.specs.Prelude.{Option, Some, None}
+use Rattle.state_tables.specs.declared.States.{States}
 use Prim.Native.Nat.{ℕ}
 use mathlib.Core.Bool.{Bool, true, false, cond}
 use mathlib.Core.List.{List, []}
 use Rattle.answers.specs.declared.Refusal.TheVariants as Refusal'
 use Rattle.tables.specs.Units.{lookup_by}
 use Rattle.tables.specs.declared.units.Reading.TheVariants.{Manual}
-use Rattle.state_tables.specs.declared.Made.{Made}
-use Rattle.state_tables.specs.declared.Made.TheVariants.{Ready, Short}
 use Rattle.state_tables.specs.States.{classic_at}
 use Rattle.line.specs.Line.{Line, Valid}
 use Rattle.line.specs.History.{Fits}
@@ -24,9 +24,9 @@ module _ (l : Line) (v : Valid l) where
   none-fits : Fits [] l
   none-fits = quiet_fits [] l v quiet_none
 
-  rearranged-fits : (made : Made) (body : List ℕ) → Fits (rearranged made body l).changes l
-  rearranged-fits (Ready states) body = passed-has Valid Fits fitting rearrangement Rearrangement'.step_fits body states l v
-  rearranged-fits Short body = none-fits
+  rearranged-fits : (made : Option States) (body : List ℕ) → Fits (rearranged made body l).changes l
+  rearranged-fits (Some states) body = passed-has Valid Fits fitting rearrangement Rearrangement'.step_fits body states l v
+  rearranged-fits None body = none-fits
 
   pub rearrangement-fits : (bytes : List ℕ) → Fits (old_rearrangement.worked bytes l).changes l
   rearrangement-fits bytes = go (has_kind bytes 0)

@@ -1,9 +1,9 @@
 -- A machine's pass by a state table that it is lent: what the changes of its every step have of the line that they are made on, those of the pass have.
+use Rattle.std.specs.Prelude.{Some}
 use Prim.Native.Nat.{ℕ}
 use mathlib.Core.Bool.{Bool}
 use mathlib.Core.List.{List, ◌∷◌}
 use Rattle.state_tables.specs.declared.States.{States}
-use Rattle.state_tables.specs.declared.Made.TheVariants.{Ready}
 use Rattle.line.specs.Line.{Line}
 use Rattle.line.specs.Changes.{Change}
 use Rattle.machine.specs.Machine.{Machine, passed_by, passed}
@@ -15,7 +15,7 @@ module _ (On : Line → Type 0) (Has : List Change → Line → Type 0) (closed 
     → Has (machine.step classes bytes states s l i g e).changes l) where
   abbrev over : States → Machine S
   over states =
-      record { opened = λ bytes. Ready states; fresh = machine.fresh; step = machine.step; rest = machine.rest; state_tests = machine.state_tests }
+      record { opened = λ bytes. Some states; fresh = machine.fresh; step = machine.step; rest = machine.rest; state_tests = machine.state_tests }
 
   abbrev headed : List ℕ → List ℕ
   headed body = 0 ∷ 0 ∷ 0 ∷ 0 ∷ 0 ∷ 0 ∷ 0 ∷ 0 ∷ 0 ∷ 0 ∷ 0 ∷ 0 ∷ body

@@ -1,14 +1,13 @@
 -- The two kinds of mort subtables that are taken, over the bytes from a subtable's own start on. The manual alone defines them, but that document 01's
 -- stall rule, end call and answers hold, and that a failed read in the state table, class count 0 and a new state below the state array give ENDED.
-use Rattle.std.specs.Prelude.{ℕ, ◌%◌, Bool, cond, List, [], eqb, drop}
+use Rattle.state_tables.specs.declared.States.{States}
+use Rattle.std.specs.Prelude.{ℕ, ◌%◌, Bool, cond, List, [], eqb, drop, Option, Some, None}
 use Rattle.laws.specs.Lists.{both}
 use Rattle.answers.specs.declared.Answer.TheVariants as Answer'
 use Rattle.answers.specs.declared.Refusal.TheVariants as Refusal'
 use Rattle.parse.specs.Reads.{inside, u16_at}
 use Rattle.tables.specs.Units.{lookup_by}
 use Rattle.tables.specs.declared.units.Reading.TheVariants.{Manual}
-use Rattle.state_tables.specs.declared.Made.{Made}
-use Rattle.state_tables.specs.declared.Made.TheVariants.{Ready, Short}
 use Rattle.state_tables.specs.States.{classic_at}
 use Rattle.line.specs.Line.{Line}
 use Rattle.machine.specs.Pass.{Passed}
@@ -25,9 +24,9 @@ abbrev pub body_of : List ℕ → List ℕ
 body_of bytes = drop 8 bytes
 
 -- the rearrangement machine over a classic state table; one that can't be opened is a failed read: ENDED, and nothing is changed
-abbrev pub rearranged : Made → List ℕ → Line → Passed
-rearranged (Ready states) body l = passed rearrangement body states l
-rearranged Short body l = record { answer = Answer'.Ended; changes = [] }
+abbrev pub rearranged : Option States → List ℕ → Line → Passed
+rearranged (Some states) body l = passed rearrangement body states l
+rearranged None body l = record { answer = Answer'.Ended; changes = [] }
 
 -- kind 0; HEAD where it is none
 abbrev pub old_rearrangement : Subtable

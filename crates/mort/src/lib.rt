@@ -9,7 +9,6 @@ ghost use Rattle.machine.specs.Work.{work_leaves};
 ghost use Rattle.mort.specs.Mort.{has_kind, old_rearrangement, old_non_contextual};
 
 use answers::{Answer, Refusal};
-use state_tables::Made;
 use tables::units::Reading;
 
 // The number of bytes of a subtable's head.
@@ -23,19 +22,16 @@ pub const REARRANGEMENT: u16 = 0;
 pub const NONCONTEXTUAL: u16 = 4;
 
 // Whether a subtable's head lies in the table and is of this kind.
+// kept: the contract answers for every number that a head may tell, not for the two that are taken alone.
+#[tactic(auto, unfolding(crate::specs::Mort::has_kind, parse::specs::Reads::inside))]
 pub fn has_kind(bytes: &[u8], kind: u16) -> bool
     ensures { result ≡ has_kind bytes.now kind }
 {
-    let parse::ReadPart::Until(_) = parse::read_part(bytes, 0, HEAD) else {
-        return false;
-    };
-    let parse::ReadU16::Got(coverage) = parse::read_u16(bytes, 2) else {
-        return false;
-    };
-    coverage % KINDS == kind
+    HEAD <= bytes.len() && parse::u16_at(bytes, 2) % KINDS == kind
 }
 
 // The pass of kind 0 over a line that LINE has taken; HEAD where it is another kind, and ENDED where its state table can't be opened.
+#[tactic(auto, unfolding(machine::specs::Work::work_leaves, machine::specs::Work::passed_leaves, line::specs::Changes::apply_all))]
 pub fn rearrange(
     bytes: &[u8],
     glyphs: &mut [u16],
@@ -55,13 +51,14 @@ pub fn rearrange(
         return Answer::Refused(Refusal::Head);
     }
     let body = parse::from(bytes, HEAD);
-    let Made::Ready(states) = state_tables::classic(body) else {
+    let Some(states) = state_tables::classic(body) else {
         return Answer::Ended;
     };
     rearrangement::lent::pass(body, states, glyphs, tags, homes, used)
 }
 
 // The pass of kind 4 over a line that LINE has taken; HEAD where it is another kind.
+#[tactic(auto, unfolding(machine::specs::Work::work_leaves, noncontextual::specs::Work::passed_leaves, line::specs::Changes::apply_all, noncontextual::specs::NonContextual::passed))]
 pub fn substitute(
     bytes: &[u8],
     glyphs: &mut [u16],

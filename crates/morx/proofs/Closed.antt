@@ -1,4 +1,5 @@
 -- What a run passes over because it can't be opened is what a lone pass refuses by HEAD.
+use Rattle.std.specs.Prelude.{Option, Some, None}
 use mathlib.Core.Path.{◌≡◌, refl}
 use mathlib.Core.Bool.{true, false}
 use mathlib.Core.List.{List}
@@ -6,8 +7,6 @@ use Prim.Native.Nat.{ℕ}
 use native.Mathlib.Omega.{arith}
 use Rattle.answers.specs.declared.Refusal.TheVariants as Refusal'
 use Rattle.state_tables.specs.declared.States.{States}
-use Rattle.state_tables.specs.declared.Made.{Made}
-use Rattle.state_tables.specs.declared.Made.TheVariants as Made'
 use Rattle.line.specs.Line.{Line}
 use Rattle.machine.specs.Pass.{Passed}
 use Rattle.machine.specs.Call.{is_ready, on_made}
@@ -23,9 +22,9 @@ use Rattle.morx.specs.declared.Kind.TheVariants.{Rearrangement, Contextual, Liga
 no : {A : Type 0} → true ≡ false → A
 no e = let z : ◌≡◌ {A = ℕ} 0 1 = cc in absurd (omega arith)
 
-without : (made : Made) (work : States → Passed) → is_ready made ≡ false → on_made refused_pass made work ≡ refused_pass Refusal'.Head
-without Made'.Short work e = refl
-without (Made'.Ready states) work e = no e
+without : (made : Option States) (work : States → Passed) → is_ready made ≡ false → on_made refused_pass made work ≡ refused_pass Refusal'.Head
+without None work e = refl
+without (Some states) work e = no e
 
 pub closed_refused : (kind : Kind) (bytes : List ℕ) (l : Line) → (subtable_of_kind kind).is_open bytes ≡ false
     → (subtable_of_kind kind).worked bytes l ≡ refused_pass Refusal'.Head

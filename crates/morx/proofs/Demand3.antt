@@ -1,12 +1,12 @@
 -- Demand 3 over calls. After any sequence of lone verbs and insertions, passes, lone steps and whole runs in either direction, of morx and of mort, each lent the line as
 -- the call before left it, the line is valid, every character belongs to exactly one place, the one that the history gives, and the
 -- length is the starting length and the glyphs inserted, never above the room. It begins with any valid line, or with a fresh one.
+use Rattle.std.specs.Prelude.{Ok}
 use Prim.Native.Nat.{ℕ}
 use mathlib.Core.Path.{◌≡◌, refl}
 use mathlib.Core.List.{List}
 use lib.ListN.{length}
 use Rattle.answers.specs.Refuse.{refuse}
-use Rattle.answers.specs.declared.Check.TheVariants.{Passed}
 use Rattle.line.specs.Line.{Line, Valid}
 use Rattle.line.specs.Changes.{apply_all}
 use Rattle.line.specs.Entries.{fresh_of, fresh_tests}
@@ -60,6 +60,6 @@ calls_honest = record { made = call_made; legal = call_legal }
 pub demand3 : (calls : List Call) (l : Line) → Valid l → FromLine l (history_by leaves makes calls l) (left_by leaves makes calls l)
 demand3 = over_calls leaves makes calls_honest
 
-pub fresh-demand3 : (glyphs tags homes : List ℕ) → refuse (fresh_tests glyphs tags homes) ≡ Passed → (calls : List Call)
+pub fresh-demand3 : (glyphs tags homes : List ℕ) → refuse (fresh_tests glyphs tags homes) ≡ Ok tt → (calls : List Call)
     → FromFresh (length glyphs) (length homes) (history_by leaves makes calls (fresh_of glyphs tags homes)) (left_by leaves makes calls (fresh_of glyphs tags homes))
 fresh-demand3 glyphs tags homes taken = fresh-over_calls glyphs tags homes taken leaves makes calls_honest

@@ -1,4 +1,5 @@
 -- A pass by an index: its tests, and what it answers and leaves.
+use Rattle.std.specs.Prelude.{Result, Ok, Err}
 use Prim.Native.Nat.{ℕ}
 use mathlib.Core.Path.{◌≡◌, refl, sym, ◌∙◌, ap}
 use mathlib.Core.Bool.{Bool, true, false}
@@ -8,10 +9,7 @@ use lib.ListN.{length, drop}
 use Rattle.answers.specs.Refuse.{Test, refuse, table_test}
 use Rattle.answers.specs.declared.Answer.TheVariants as Answer'
 use Rattle.answers.specs.declared.Refusal.{Refusal}
-use Rattle.answers.specs.declared.Refusal.TheVariants as Refusal'
-use Rattle.answers.specs.declared.Check.{Check}
-use Rattle.answers.specs.declared.Check.TheVariants.{Passed, Refused}
-use Rattle.answers.proofs.Refusals.{refuse-none, refuse-here, refuse-later, passed_here, passed_later}
+use Rattle.answers.proofs.Refusals.{refuse-here, refuse-later, passed_here, passed_later}
 use Rattle.line.specs.Line.{Line, Valid}
 use Rattle.line.specs.Test.{is_valid, line_test}
 use Rattle.line.specs.Changes.{apply_all}
@@ -28,62 +26,41 @@ use Rattle.chains.specs.declared.Edition.TheVariants.{Morx}
 use Rattle.morx.specs.Kinds.{kind_at, subtable_of_kind, any_subtable}
 use Rattle.morx.specs.Indexed.{indexed_of_kind, has_classes, indexed_tests, indexed_call}
 use Rattle.morx.specs.declared.Kind.{Kind}
+use Rattle.morx.specs.Work.{Leaves}
 use Rattle.morx.specs.declared.PassReply.{PassReply}
-use Rattle.morx.proofs.Leaves.{Leaves}
 use Rattle.morx.proofs.Machines.{indexed-fits}
 
 -- tests behind others
-refused_before : (ts us : List Test) {why : Refusal} → refuse ts ≡ Refused why → refuse (ts ++ us) ≡ Refused why
+refused_before : (ts us : List Test) {why : Refusal} → refuse ts ≡ Err why → refuse (ts ++ us) ≡ Err why
 unfolding refuse
 refused_before [] us e = let z : ◌≡◌ {A = ℕ} 0 1 = cc in absurd (omega arith)
 refused_before (t ∷ ts) us {why} e = go (λ f. refused_before ts us f) t.holds refl
   where
-    go : (refuse ts ≡ Refused why → refuse (ts ++ us) ≡ Refused why) → (b : Bool) → t.holds ≡ b → refuse (t ∷ (ts ++ us)) ≡ Refused why
+    go : (refuse ts ≡ Err why → refuse (ts ++ us) ≡ Err why) → (b : Bool) → t.holds ≡ b → refuse (t ∷ (ts ++ us)) ≡ Err why
     go later true h = refuse-here t (ts ++ us) h ∙ sym (refuse-here t ts h) ∙ e
     go later false h = refuse-later t (ts ++ us) h ∙ later (sym (refuse-later t ts h) ∙ e)
 
-passed-before : (ts us : List Test) → refuse ts ≡ Passed → refuse (ts ++ us) ≡ refuse us
+passed-before : (ts us : List Test) → refuse ts ≡ Ok tt → refuse (ts ++ us) ≡ refuse us
 passed-before [] us e = refl
 passed-before (t ∷ ts) us e = refuse-later t (ts ++ us) (passed_here t ts e) ∙ passed-before ts us (passed_later t ts e)
 
-module _ (n : ℕ) (l : Line) (opens : Bool) (entries : ℕ) (another : Bool) {check : Check} (k : check ≡ refuse (pass_tests n l opens)) where
-  abbrev first : List Test
-  first = table_test n ∷ line_test l ∷ head_test opens ∷ []
-
-  pub tested_before : {why : Refusal} → check ≡ Refused why → Refused why ≡ refuse (indexed_tests n l opens entries another)
-  unfolding indexed_tests pass_tests
-  tested_before e = sym (refused_before first (index_test entries another ∷ []) (sym k ∙ e))
-
-  module _ {flag : Bool} (e : check ≡ Passed) (f : flag ≡ (index_test entries another).holds) where
-    to_index : refuse (indexed_tests n l opens entries another) ≡ refuse (index_test entries another ∷ [])
-    unfolding indexed_tests pass_tests
-    to_index = passed-before first (index_test entries another ∷ []) (sym k ∙ e)
-
-    pub tested_index : flag ≡ true → Refused Refusal'.Index ≡ refuse (indexed_tests n l opens entries another)
-    unfolding index_test
-    tested_index t = sym (to_index ∙ refuse-here (index_test entries another) [] (sym f ∙ t))
-
-    pub tested_all : flag ≡ false → Passed ≡ refuse (indexed_tests n l opens entries another)
-    unfolding index_test
-    tested_all t = sym (to_index ∙ refuse-later (index_test entries another) [] (sym f ∙ t) ∙ refuse-none)
-
 -- what has passed them is a valid line
-indexed-line : (n : ℕ) (l : Line) (opens : Bool) (entries : ℕ) (another : Bool) → refuse (indexed_tests n l opens entries another) ≡ Passed → Valid l
+indexed-line : (n : ℕ) (l : Line) (opens : Bool) (entries : ℕ) (another : Bool) → refuse (indexed_tests n l opens entries another) ≡ Ok tt → Valid l
 unfolding indexed_tests pass_tests
 indexed-line n l opens entries another e = taken-line n l opens (go (refuse (pass_tests n l opens)) refl)
   where
-    go : (c : Check) → refuse (pass_tests n l opens) ≡ c → refuse (pass_tests n l opens) ≡ Passed
-    go Passed f = f
-    go (Refused why) f =
+    go : (c : Result Unit Refusal) → refuse (pass_tests n l opens) ≡ c → refuse (pass_tests n l opens) ≡ Ok tt
+    go (Ok tt) f = f
+    go (Err why) f =
         let q = refused_before (table_test n ∷ line_test l ∷ head_test opens ∷ []) (index_test entries another ∷ []) f in
         let z : ◌≡◌ {A = ℕ} 0 1 = cc in absurd (omega arith)
 
-pub index-valid : (n : ℕ) (l : Line) (opens : Bool) (entries : ℕ) (another : Bool) {check : Check} → check ≡ refuse (indexed_tests n l opens entries another)
-    → check ≡ Passed → is_valid l ≡ true
-index-valid n l opens entries another k e = of_valid l (indexed-line n l opens entries another (sym k ∙ e))
+pub index_valid : (n : ℕ) (l : Line) (opens : Bool) (entries : ℕ) (another : Bool) {check : (Result Unit Refusal)} → check ≡ refuse (indexed_tests n l opens entries another)
+    → check ≡ Ok tt → is_valid l ≡ true
+index_valid n l opens entries another k e = of_valid l (indexed-line n l opens entries another (sym k ∙ e))
 
 -- a call, by what its code has
-module _ (table : List ℕ) (start : ℕ) (l : Line) (index : List ℕ) (class_start : ℕ) {bytes body : List ℕ} {kind : Kind} {has another opens : Bool} {check : Check}
+module _ (table : List ℕ) (start : ℕ) (l : Line) (index : List ℕ) (class_start : ℕ) {bytes body : List ℕ} {kind : Kind} {has another opens : Bool} {check : (Result Unit Refusal)}
     (b : bytes ≡ drop start table) (d : kind ≡ kind_at Morx bytes) (w : body ≡ drop 12 bytes) (h : has ≡ has_classes kind)
     (a : another ≡ is_another has body start class_start) (o : opens ≡ (subtable_of_kind kind).is_open bytes)
     (k : check ≡ refuse (indexed_tests (length table) l opens (length index) another)) where
@@ -107,18 +84,18 @@ module _ (table : List ℕ) (start : ℕ) (l : Line) (index : List ℕ) (class_s
       ∙ ap (λ (x : Bool). refuse (indexed_tests (length table) l opens (length index) x)) (sym another-there)
       ∙ sym k
 
-  pub index_refused : {why : Refusal} → check ≡ Refused why
+  pub index_refused : {why : Refusal} → check ≡ Err why
       → Leaves (indexed_call table start l index class_start) l (record { answer = Answer'.Refused why; used = l.used }) l.glyphs l.tags l.homes
   unfolding indexed_call apply_all
   index_refused {why} e =
       let r : refused_pass why ≡ indexed_call table start l index class_start = rw (tested ∙ e, indexed_call) in
       record { answers = ap (λ (p : Pass.Passed). p.answer) r; line = ap (λ (p : Pass.Passed). apply_all p.changes l) r }
 
-  module _ (e : check ≡ Passed) where
-    pub index-worked : {reply : PassReply} {glyphs tags homes : List ℕ} → Leaves ((indexed_of_kind index kind).worked bytes l) l reply glyphs tags homes
+  module _ (e : check ≡ (Ok tt)) where
+    pub index_worked : {reply : PassReply} {glyphs tags homes : List ℕ} → Leaves ((indexed_of_kind index kind).worked bytes l) l reply glyphs tags homes
         → Leaves (indexed_call table start l index class_start) l reply glyphs tags homes
     unfolding indexed_call
-    index-worked left =
+    index_worked left =
         let r : (indexed_of_kind index kind).worked bytes l ≡ indexed_call table start l index class_start =
         ap (λ (x : Kind). (indexed_of_kind index x).worked bytes l) kind_there
         ∙ ap (λ (x : List ℕ). (indexed_of_kind index (kind_at Morx there)).worked x l) b
@@ -134,6 +111,6 @@ indexed_call-fits table start l index class_start v =
     there : List ℕ
     there = drop start table
 
-    go : (c : Check) → Fits (if_passed refused_pass c ((indexed_of_kind index (kind_at Morx (drop start table))).worked (drop start table) l)).changes l
-    go Passed = indexed-fits index (kind_at Morx (drop start table)) (drop start table) l v
-    go (Refused why) = quiet_fits [] l v quiet_none
+    go : (c : Result Unit Refusal) → Fits (if_passed refused_pass c ((indexed_of_kind index (kind_at Morx (drop start table))).worked (drop start table) l)).changes l
+    go (Ok tt) = indexed-fits index (kind_at Morx (drop start table)) (drop start table) l v
+    go (Err why) = quiet_fits [] l v quiet_none

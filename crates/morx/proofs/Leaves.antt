@@ -5,6 +5,7 @@ use mathlib.Core.Bool.{true}
 use mathlib.Core.List.{List, [], ◌∷◌, ◌++◌}
 use native.Mathlib.Omega.{arith}
 use lib.ListN.{length}
+use Rattle.answers.specs.Limits.{room_limit}
 use Rattle.answers.specs.declared.Answer.{Answer}
 use Rattle.line.specs.Line.{Line, line_of, Valid}
 use Rattle.line.specs.Test.{is_valid}
@@ -15,39 +16,23 @@ use Rattle.line.proofs.Exact.{valid_of, of_valid}
 use Rattle.line.proofs.Histories.{by_changes, inserted-append, history_append}
 use Rattle.machine.specs.Pass.{Passed}
 use Rattle.machine.proofs.Quiet.{quiet_fits}
-use Rattle.morx.specs.Work.{pass_reply_of}
+use Rattle.morx.specs.Work.{Leaves, pass_reply_of}
 use Rattle.morx.specs.declared.PassReply.{PassReply}
 
-pub record Leaves (p : Passed) (l : Line) (reply : PassReply) (glyphs tags homes : List ℕ) : Type 0 where
-  pub answers : reply.answer ≡ p.answer
-  pub line : line_of glyphs tags homes reply.used ≡ apply_all p.changes l
+-- what is left, as contracts of the entries say it
+module _ (p : Passed) (l : Line) (reply : PassReply) (glyphs tags homes : List ℕ) (e : Leaves p l reply glyphs tags homes) where
+  pub left_reply : reply ≡ pass_reply_of p l
+  left_reply =
+      ap (λ (x : Answer). record { answer = x; used = reply.used }) e.answers ∙ ap (λ (x : Line). record { answer = p.answer; used = x.used }) e.line
 
--- the same, as contracts say it
-abbrev pub Post : Passed → Line → PassReply → (glyphs tags homes : List ℕ) → Type 0
-Post p l reply glyphs tags homes =
-    (reply ≡ pass_reply_of p l) × ((glyphs ≡ (apply_all p.changes l).glyphs) × ((tags ≡ (apply_all p.changes l).tags) × (homes ≡ (apply_all p.changes l).homes)))
+  pub left_glyphs : glyphs ≡ (apply_all p.changes l).glyphs
+  left_glyphs = ap (λ (x : Line). x.glyphs) e.line
 
-module _ (p : Passed) (l : Line) (reply : PassReply) (glyphs tags homes : List ℕ) where
-  pub to_post : Leaves p l reply glyphs tags homes → Post p l reply glyphs tags homes
-  to_post e =
-      let u : reply.used ≡ (apply_all p.changes l).used = ap (λ (x : Line). x.used) e.line in (
-        reply_is e.answers u,
-        (ap (λ (x : Line). x.glyphs) e.line, (ap (λ (x : Line). x.tags) e.line, ap (λ (x : Line). x.homes) e.line)),
-      )
-    where
-      reply_is : reply.answer ≡ p.answer → reply.used ≡ (apply_all p.changes l).used → reply ≡ pass_reply_of p l
-      reply_is a u = ap (λ (x : Answer). record { answer = x; used = reply.used }) a ∙ ap (λ (n : ℕ). record { answer = p.answer; used = n }) u
+  pub left_tags : tags ≡ (apply_all p.changes l).tags
+  left_tags = ap (λ (x : Line). x.tags) e.line
 
-  pub of_post : Post p l reply glyphs tags homes → Leaves p l reply glyphs tags homes
-  of_post e =
-      record {
-        answers = ap (λ (r : PassReply). r.answer) e.0;
-        line =
-            ap (λ (x : List ℕ). line_of x tags homes reply.used) e.1.0
-            ∙ ap (λ (x : List ℕ). line_of (apply_all p.changes l).glyphs x homes reply.used) e.1.1.0
-            ∙ ap (λ (x : List ℕ). line_of (apply_all p.changes l).glyphs (apply_all p.changes l).tags x reply.used) e.1.1.1
-            ∙ ap (λ (r : PassReply). line_of (apply_all p.changes l).glyphs (apply_all p.changes l).tags (apply_all p.changes l).homes r.used) e.0;
-      }
+  pub left_homes : homes ≡ (apply_all p.changes l).homes
+  left_homes = ap (λ (x : Line). x.homes) e.line
 
 -- changes that fit leave a valid line of the same room
 module _ (changes : List Change) (l : Line) (v : Valid l) (fits : Fits changes l) where
@@ -66,14 +51,25 @@ module _ (changes : List Change) (l : Line) (v : Valid l) (fits : Fits changes l
       omega (arith, f, used-after, room_after, ap inserted (history_append changes more), inserted-append (history_of changes) (history_of more))
 
 -- a valid line, as the code has it
-pub valid-line : {l : Line} → is_valid l ≡ true → Valid l
-valid-line e = valid_of _ e
+pub valid_line : {l : Line} → is_valid l ≡ true → Valid l
+valid_line e = valid_of _ e
 
 pub line-valid : {l k : Line} → l ≡ k → Valid k → is_valid l ≡ true
 line-valid {l} {k} e v = of_valid l (subst⁻¹ Valid e v)
 
-pub fits-tags : {l : Line} → Valid l → l.used ≤ length l.tags
-fits-tags v = omega (arith, v.within, v.paired)
+-- what passes ask of it
+module _ (glyphs tags homes : List ℕ) (used : ℕ) (valid : is_valid (line_of glyphs tags homes used) ≡ true) where
+  pub room_glyphs : used ≤ length glyphs
+  room_glyphs = (valid_line valid).within
+
+  pub room_limited : length glyphs ≤ room_limit
+  room_limited = (valid_line valid).limited
+
+  pub room_paired : length tags ≡ length glyphs
+  room_paired = (valid_line valid).paired
+
+pub fits_tags : {l : Line} → Valid l → l.used ≤ length l.tags
+fits_tags v = omega (arith, v.within, v.paired)
 
 -- a reversal fits every valid line
 pub turning_fits : (l : Line) → Valid l → Fits (Change.reversal ∷ []) l

@@ -1,24 +1,16 @@
 -- The pass by kind: each kind's own pass leaves the line that it says, and its changes fit.
-use Prim.Native.Nat.{ℕ, zero, suc, ◌%◌, ◌≤◌}
-use mathlib.Core.Path.{◌≡◌, refl, sym, ap, subst⁻¹}
+use Rattle.std.specs.Prelude.{Option, Some, None, Result, Ok, Err}
+use Rattle.tables.specs.declared.lookup.Why.{Why}
+use Prim.Native.Nat.{ℕ, zero, suc}
+use mathlib.Core.Path.{◌≡◌, refl, sym, subst, subst⁻¹}
 use mathlib.Core.Bool.{Bool, true, false, cond}
 use mathlib.Core.List.{List, [], ◌∷◌}
-use native.Mathlib.Omega.{arith}
 use lib.ListN.{length, get_or}
 use Rattle.answers.specs.declared.Answer.{Answer}
 use Rattle.answers.specs.declared.Answer.TheVariants as Answer'
 use Rattle.answers.specs.declared.Refusal.TheVariants as Refusal'
-use Rattle.parse.specs.Reads.{read_u32, u32_at}
-use Rattle.parse.specs.Parts.{read_part}
-use Rattle.parse.specs.declared.ReadPart.{ReadPart}
-use Rattle.parse.specs.declared.ReadPart.TheVariants as Part
-use Rattle.parse.specs.declared.ReadU32.{ReadU32}
-use Rattle.parse.specs.declared.ReadU32.TheVariants as U32
-use Rattle.parse.proofs.Laws.{part_short, part_inside, inside-fits, read_u32_got}
 use Rattle.state_tables.specs.States.{classic_at}
 use Rattle.state_tables.specs.declared.States.{States}
-use Rattle.state_tables.specs.declared.Made.{Made}
-use Rattle.state_tables.specs.declared.Made.TheVariants.{Ready, Short}
 use Rattle.line.specs.Line.{Line, line_of, Valid}
 use Rattle.line.specs.Changes.{Change, apply, apply_all}
 use Rattle.line.specs.History.{Fits}
@@ -33,7 +25,6 @@ use Rattle.rearrangement.specs.Rearrangement as R
 use Rattle.rearrangement.specs.Calls.{rearrangement}
 use Rattle.rearrangement.specs.declared.RearrangementState.{RearrangementState}
 use Rattle.rearrangement.specs.declared.Window.{Window}
-use Rattle.rearrangement.specs.declared.Window.TheVariants as Window'
 use Rattle.rearrangement.proofs.Honesty as RH
 use Rattle.contextual.specs.Substitutes as S
 use Rattle.contextual.specs.Contextual as C
@@ -52,8 +43,7 @@ use Rattle.insertion.specs.Insertion as IM
 use Rattle.insertion.specs.Calls.{insertion}
 use Rattle.insertion.specs.declared.InsertionState.{InsertionState}
 use Rattle.insertion.specs.declared.InsertionStep.{InsertionStep}
-use Rattle.insertion.specs.declared.Inserted.{Inserted}
-use Rattle.insertion.specs.declared.Inserted.TheVariants as Inserted'
+use Rattle.insertion.specs.declared.Insertion.{Insertion as Inserted}
 use Rattle.insertion.proofs.Honesty as IH
 use Rattle.mort.specs.Mort as O
 use Rattle.mort.specs.Mort.{old_rearrangement, old_non_contextual}
@@ -61,19 +51,15 @@ use Rattle.mort.proofs.Honesty as OH
 use Rattle.tables.specs.Lookup.{lookup_at}
 use Rattle.tables.specs.Units.{lookup_by}
 use Rattle.tables.specs.declared.units.Reading.TheVariants.{Manual}
-use Rattle.tables.specs.declared.lookup.Found.{Found}
-use Rattle.tables.specs.declared.lookup.Found.TheVariants as Found'
-use Rattle.chains.specs.declared.Edition.TheVariants.{Morx}
 use Rattle.indexes.specs.Index.{classes_by, indexed}
 use Rattle.indexes.proofs.Laws.{indexed-none}
-use Rattle.morx.specs.Kinds.{kind_of, kind_at, subtable_of_kind}
+use Rattle.morx.specs.Kinds.{subtable_of_kind}
 use Rattle.morx.specs.Indexed.{indexed_of_kind}
-use Rattle.morx.specs.Work.{pass_reply_of}
+use Rattle.morx.specs.Work.{Leaves}
 use Rattle.morx.specs.declared.Kind.{Kind}
 use Rattle.morx.specs.declared.Kind.TheVariants.{Rearrangement, Contextual, Ligature, NonContextual, Insertion, OldRearrangement, OldNonContextual, LeftOut}
 use Rattle.morx.specs.declared.PassReply.{PassReply}
 use Rattle.morx.proofs.Kept.{Kept, Has, kept-none, kept-one, kept_more, kept_append, pass_keeps, lent_keeps, step_keeps}
-use Rattle.morx.proofs.Leaves.{Leaves}
 
 -- what a machine leaves, field by field, is the line that its changes make
 by_fields : (p : Passed) (l : Line) {answer : Answer} {glyphs tags homes : List ℕ} {used : ℕ} → answer ≡ p.answer → glyphs ≡ (apply_all p.changes l).glyphs
@@ -83,9 +69,9 @@ by_fields p l a g t h u = record { answers = a; line = rw (g, t, h, u) }
 
 -- rearrangement makes windows, which leave homes and the used length
 module _ {X : Type 0} (part : Line → X) (kept : (first last verb : ℕ) (l : Line) → part (apply (Change.window first last verb) l) ≡ part l) where
-  kept-window : (w : Window) → Kept part (R.changes_of w)
-  kept-window Window'.None = kept-none part
-  kept-window (Window'.At first last verb) = kept-one part (Change.window first last verb) (kept first last verb)
+  kept-window : (w : Option Window) → Kept part (R.changes_of w)
+  kept-window None = kept-none part
+  kept-window (Some w) = kept-one part (Change.window w.first w.last w.verb) (kept w.first w.last w.verb)
 
   kept_turn : (classes : ℕ → ℕ) (bytes : List ℕ) (states : States) (s : RearrangementState) (k : Line) (i g : ℕ) (e : Bool)
       → Kept part (rearrangement.step classes bytes states s k i g e).changes
@@ -95,9 +81,9 @@ module _ {X : Type 0} (part : Line → X) (kept : (first last verb : ℕ) (l : L
   kept-rearrangement = pass_keeps part rearrangement kept_turn
 
   -- in mort, too
-  kept-made : (made : Made) (body : List ℕ) (l : Line) → Has part (O.rearranged made body l).changes l
-  kept-made (Ready states) body l = lent_keeps part rearrangement kept_turn body states l
-  kept-made Short body l = kept-none part l
+  kept-made : (made : Option States) (body : List ℕ) (l : Line) → Has part (O.rearranged made body l).changes l
+  kept-made (Some states) body l = lent_keeps part rearrangement kept_turn body states l
+  kept-made None body l = kept-none part l
 
   pub kept-old-rearrangement : (bytes : List ℕ) (l : Line) → Has part (old_rearrangement.worked bytes l).changes l
   kept-old-rearrangement bytes l = go (O.has_kind bytes 0)
@@ -154,17 +140,17 @@ module _ {X : Type 0} (part : Line → X) (kept : (at glyph : ℕ) (l : Line) �
   kept-contextual-step = step_keeps part contextual contextual-step
 
   -- and so does the non-contextual pass
-  kept-found : (place : ℕ) (found : Found) → Kept part (N.writes_of place found)
-  kept-found place (Found'.At glyph) = kept-one part (Change.write place glyph) (kept place glyph)
-  kept-found place (Found'.Nothing why) = kept-none part
+  kept-found : (place : ℕ) (found : Result ℕ Why) → Kept part (N.writes_of place found)
+  kept-found place (Ok glyph) = kept-one part (Change.write place glyph) (kept place glyph)
+  kept-found place (Err why) = kept-none part
 
-  kept-below : (lookup : ℕ → Found) (glyphs : List ℕ) (n : ℕ) → Kept part (N.writes_below lookup glyphs n)
+  kept-below : (lookup : ℕ → Result ℕ Why) (glyphs : List ℕ) (n : ℕ) → Kept part (N.writes_below lookup glyphs n)
   unfolding N.writes_below
   kept-below lookup glyphs zero = kept-none part
   kept-below lookup glyphs (suc n) =
       kept_append part (N.writes_below lookup glyphs n) (N.writes_of n (lookup (get_or glyphs n 0))) (kept-below lookup glyphs n) (kept-found n (lookup (get_or glyphs n 0)))
 
-  kept-pass : (kind : Bool) (lookup : ℕ → Found) (l : Line) → Has part (cond kind (N.passed lookup l) (refused_pass Refusal'.Head)).changes l
+  kept-pass : (kind : Bool) (lookup : ℕ → Result ℕ Why) (l : Line) → Has part (cond kind (N.passed lookup l) (refused_pass Refusal'.Head)).changes l
   unfolding N.passed
   kept-pass true lookup l = kept-below lookup l.glyphs l.used l
   kept-pass false lookup l = kept-none part l
@@ -212,9 +198,9 @@ unfolding apply
 insertion-homes at new l = refl
 
 module _ {X : Type 0} (part : Line → X) (kept : (at : ℕ) (new : List ℕ) (l : Line) → part (apply (Change.insertion at new) l) ≡ part l) where
-  pub kept-inserted : (bytes : List ℕ) (edit : Inserted) → Kept part (IL.changes_of bytes edit)
-  kept-inserted bytes Inserted'.None = kept-none part
-  kept-inserted bytes (Inserted'.At place count glyphs) = kept-one part (Change.insertion place (IL.glyphs_at bytes glyphs count)) (kept place (IL.glyphs_at bytes glyphs count))
+  pub kept-inserted : (bytes : List ℕ) (edit : Option Inserted) → Kept part (IL.changes_of bytes edit)
+  kept-inserted bytes None = kept-none part
+  kept-inserted bytes (Some edit) = kept-one part (Change.insertion edit.place (IL.glyphs_at bytes edit.glyphs edit.count)) (kept edit.place (IL.glyphs_at bytes edit.glyphs edit.count))
 
   insertion-step : (classes : ℕ → ℕ) (bytes : List ℕ) (states : States) (s : InsertionState) (k : Line) (i g : ℕ) (e : Bool)
       → Kept part (insertion.step classes bytes states s k i g e).changes
@@ -353,29 +339,6 @@ plain_kind index z OldRearrangement = refl
 plain_kind index z OldNonContextual = refl
 plain_kind index z LeftOut = refl
 
-module _ (index : List ℕ) (z : length index ≡ 0) (kind : Kind) (bytes : List ℕ) (l : Line) where
-  pub plain-reply : pass_reply_of ((indexed_of_kind index kind).worked bytes l) l ≡ pass_reply_of ((subtable_of_kind kind).worked bytes l) l
-  plain-reply = ap (λ (t : Subtable). pass_reply_of (t.worked bytes l) l) (plain_kind index z kind)
-
-  pub plain_part : {A : Type 0} (of : Line → A) → of (work_leaves (indexed_of_kind index kind) bytes l) ≡ of (work_leaves (subtable_of_kind kind) bytes l)
-  plain_part of = ap (λ (t : Subtable). of (work_leaves t bytes l)) (plain_kind index z kind)
-
--- the kind of the subtable that the bytes begin with, from what the code has read
-module _ (bytes : List ℕ) {p : ReadPart} (e : p ≡ read_part bytes 0 12) where
-  pub kind_cut : p ≡ Part.Short → LeftOut ≡ kind_at Morx bytes
-  unfolding kind_at
-  kind_cut f = rw (part_short bytes 0 12 e f, kind_at)
-
-  module _ {end : ℕ} (f : p ≡ Part.Until end) where
-    read : read_u32 bytes 4 ≡ U32.Got (u32_at bytes 4)
-    read = let h : 12 ≤ length bytes = omega (arith, inside-fits bytes 0 12 (part_inside bytes 0 12 e f)) in read_u32_got bytes 4 (omega arith)
-
-    pub kind_unread : {r : ReadU32} → r ≡ read_u32 bytes 4 → r ≡ U32.Short → LeftOut ≡ kind_at Morx bytes
-    kind_unread g h = let a = read in let z : ◌≡◌ {A = ℕ} 0 1 = cc in absurd (omega arith)
-
-    pub kind_is : {r : ReadU32} {coverage : ℕ} {kind : Kind} → r ≡ read_u32 bytes 4 → r ≡ U32.Got coverage → kind ≡ kind_of Morx (coverage % 256) → kind ≡ kind_at Morx bytes
-    unfolding kind_at
-    kind_is {r} {coverage} g h k =
-        let a = read in
-        let c : coverage ≡ u32_at bytes 4 = cc in
-        rw (part_inside bytes 0 12 e f, ← c, kind_at) k
+pub plain_left : (index : List ℕ) (kind : Kind) (bytes : List ℕ) (l : Line) (reply : PassReply) (glyphs tags homes : List ℕ) → length index ≡ 0
+    → Leaves ((indexed_of_kind index kind).worked bytes l) l reply glyphs tags homes → Leaves ((subtable_of_kind kind).worked bytes l) l reply glyphs tags homes
+plain_left index kind bytes l reply glyphs tags homes z left = subst (λ (t : Subtable). Leaves (t.worked bytes l) l reply glyphs tags homes) (plain_kind index z kind) left

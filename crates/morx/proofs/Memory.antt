@@ -1,4 +1,6 @@
 -- What demand 3 speaks of, the line that a call leaves, is what stands in the caller's memory.
+use Rattle.std.specs.Prelude.{Option, Result, Ok, Err}
+use Rattle.answers.specs.declared.Refusal.{Refusal}
 use Prim.Native.Nat.{ℕ, ◌%◌}
 use mathlib.Core.Path.{◌≡◌, refl, sym, ◌∙◌, ap}
 use mathlib.Core.Bool.{Bool, true, false, cond}
@@ -6,8 +8,6 @@ use mathlib.Core.List.{List, [], ◌∷◌}
 use lib.Dec.{eqb}
 use lib.ListN.{length}
 use Rattle.answers.specs.Refuse.{refuse}
-use Rattle.answers.specs.declared.Check.{Check}
-use Rattle.answers.specs.declared.Check.TheVariants as Check'
 use Rattle.line.specs.Line.{Line, line_of}
 use Rattle.line.specs.Changes.{Change, apply, apply_all}
 use Rattle.line.specs.Entries.{verb_tests, verb_makes, made_by, verb_changes, verb_call}
@@ -16,8 +16,8 @@ use Rattle.machine.specs.Machine.{refused_pass, call_leaves}
 use Rattle.machine.proofs.Having.{if_passed_lem}
 use Rattle.insertion.specs.Lists.{list_from, entered_by}
 use Rattle.insertion.specs.Lone.{on_line, lone_insertion, insert_tests, insert_call, insert_leaves}
-use Rattle.insertion.specs.declared.Tried.{Tried}
-use Rattle.insertion.specs.declared.Tried.TheVariants as Tried'
+use Rattle.answers.specs.declared.Answer.{Answer}
+use Rattle.insertion.specs.declared.Insertion.{Insertion as Inserted}
 use Rattle.morx.specs.Kinds.{subtable_of_kind}
 use Rattle.morx.specs.Sequence.{Call, leaves}
 use Rattle.morx.specs.Memory.{written_by, in_memory}
@@ -36,14 +36,14 @@ abbrev used : Line → ℕ
 used l = l.used
 
 module _ {X : Type 0} (part : Line → X) (windows : (first last verb : ℕ) (k : Line) → part (apply (Change.window first last verb) k) ≡ part k) where
-  kept-verb : (check : Check) (verb start end : ℕ) → Kept part (made_by check (verb_makes verb start end))
+  kept-verb : (check : Result Unit Refusal) (verb start end : ℕ) → Kept part (made_by check (verb_makes verb start end))
   unfolding made_by verb_makes
-  kept-verb Check'.Passed verb start end = go (eqb (verb % 16) 0)
+  kept-verb (Ok tt) verb start end = go (eqb (verb % 16) 0)
     where
       go : (t : Bool) → Kept part (cond t [] (Change.window start end verb ∷ []))
       go true = kept-none part
       go false = kept-one part (Change.window start end verb) (windows start end verb)
-  kept-verb (Check'.Refused why) verb start end = kept-none part
+  kept-verb (Err why) verb start end = kept-none part
 
   verb_keeps : (l : Line) (verb start end : ℕ) → part (verb_call l verb start end).line ≡ part l
   unfolding verb_call verb_changes
@@ -51,9 +51,9 @@ module _ {X : Type 0} (part : Line → X) (windows : (first last verb : ℕ) (k 
 
 -- a lone insertion
 module _ {X : Type 0} (part : Line → X) (kept : (at : ℕ) (new : List ℕ) (k : Line) → part (apply (Change.insertion at new) k) ≡ part k) where
-  kept_tried : (table : List ℕ) (tried : Tried) → Kept part (on_line table tried).changes
-  kept_tried table (Tried'.Made edit) = kept-inserted part kept table edit
-  kept_tried table (Tried'.Over answer) = kept-none part
+  kept_tried : (table : List ℕ) (tried : Result (Option Inserted) Answer) → Kept part (on_line table tried).changes
+  kept_tried table (Ok edit) = kept-inserted part kept table edit
+  kept_tried table (Err answer) = kept-none part
 
   insert_keeps : (table : List ℕ) (start count place : ℕ) (l : Line) → part (insert_leaves table start count place l) ≡ part l
   unfolding insert_leaves insert_call lone_insertion

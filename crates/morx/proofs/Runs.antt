@@ -1,4 +1,5 @@
 -- The run's loop: what is left of the walk gives what the whole does.
+use Rattle.std.specs.Prelude.{Some, None}
 use Prim.Native.Nat.{ℕ, zero, suc, ◌+◌, ◌<◌, ◌≤◌}
 use mathlib.Core.Path.{◌≡◌, refl, sym, ◌∙◌, ap, subst⁻¹}
 use mathlib.Core.Bool.{true, false}
@@ -14,71 +15,43 @@ use Rattle.line.specs.Test.{is_valid}
 use Rattle.line.specs.Changes.{Change, apply_all}
 use Rattle.line.proofs.Histories.{apply_all-append}
 use Rattle.machine.specs.Pass.{is_done}
-use Rattle.chains.specs.Features.{flags_behind}
 use Rattle.chains.specs.Walk.{walk_from, next_head, heads_of, walk_of}
 use Rattle.chains.specs.declared.Edition.{Edition}
-use Rattle.chains.specs.declared.Chain.{Chain}
 use Rattle.chains.specs.declared.Head.{Head}
-use Rattle.chains.specs.declared.Head.TheVariants as Head'
 use Rattle.chains.specs.declared.Walk.{Walk}
-use Rattle.chains.specs.declared.NextHead.TheVariants as Next'
-use Rattle.morx.specs.Run.{choosing, visit, visit_leaves, flags_after, Ran, behind, run_over, ran}
-use Rattle.morx.specs.Work.{run_reply_of}
+use Rattle.chains.specs.declared.NextHead.{NextHead}
+use Rattle.morx.specs.Run.{visit, visit_leaves, flags_after, Ran, behind, run_over, ran}
+use Rattle.morx.specs.Work.{Leaves, RunLeaves, run_reply_of}
 use Rattle.morx.specs.declared.Choices.{Choices}
 use Rattle.morx.specs.declared.PassReply.{PassReply}
 use Rattle.morx.specs.declared.RunReply.{RunReply}
-use Rattle.morx.proofs.Leaves.{Leaves, valid-after, valid-line}
+use Rattle.morx.proofs.Leaves.{valid-after, valid_line}
 use Rattle.morx.proofs.Visits.{visit-fits}
 
--- what a run answers, counts and leaves
-pub record RunLeaves (r : Ran) (l : Line) (reply : RunReply) (glyphs tags homes : List ℕ) : Type 0 where
-  pub answers : reply.answer ≡ r.answer
-  pub counted : reply.heads ≡ r.heads
-  pub line : line_of glyphs tags homes reply.used ≡ apply_all r.changes l
+-- what a run leaves, as the entry's contract says it
+module _ (r : Ran) (l : Line) (reply : RunReply) (glyphs tags homes : List ℕ) (e : RunLeaves r l reply glyphs tags homes) where
+  pub run_reply : reply ≡ run_reply_of r l
+  run_reply =
+      ap (λ (x : Answer). record { answer = x; used = reply.used; heads = reply.heads }) e.answers
+      ∙ ap (λ (x : Line). record { answer = r.answer; used = x.used; heads = reply.heads }) e.line
+      ∙ ap (λ (n : ℕ). record { answer = r.answer; used = (apply_all r.changes l).used; heads = n }) e.counted
 
-abbrev pub RunPost : Ran → Line → RunReply → (glyphs tags homes : List ℕ) → Type 0
-RunPost r l reply glyphs tags homes =
-    (reply ≡ run_reply_of r l) × ((glyphs ≡ (apply_all r.changes l).glyphs) × ((tags ≡ (apply_all r.changes l).tags) × (homes ≡ (apply_all r.changes l).homes)))
+  pub run_glyphs : glyphs ≡ (apply_all r.changes l).glyphs
+  run_glyphs = ap (λ (x : Line). x.glyphs) e.line
 
-module _ (r : Ran) (l : Line) (reply : RunReply) (glyphs tags homes : List ℕ) where
-  pub run_to_post : RunLeaves r l reply glyphs tags homes → RunPost r l reply glyphs tags homes
-  run_to_post e =
-      let u : reply.used ≡ (apply_all r.changes l).used = ap (λ (x : Line). x.used) e.line in (
-        reply_is e.answers u e.counted,
-        (ap (λ (x : Line). x.glyphs) e.line, (ap (λ (x : Line). x.tags) e.line, ap (λ (x : Line). x.homes) e.line)),
-      )
-    where
-      reply_is : reply.answer ≡ r.answer → reply.used ≡ (apply_all r.changes l).used → reply.heads ≡ r.heads → reply ≡ run_reply_of r l
-      reply_is a u h =
-          ap (λ (x : Answer). record { answer = x; used = reply.used; heads = reply.heads }) a
-          ∙ ap (λ (n : ℕ). record { answer = r.answer; used = n; heads = reply.heads }) u
-          ∙ ap (λ (n : ℕ). record { answer = r.answer; used = (apply_all r.changes l).used; heads = n }) h
+  pub run_tags : tags ≡ (apply_all r.changes l).tags
+  run_tags = ap (λ (x : Line). x.tags) e.line
 
-  pub run_of_post : RunPost r l reply glyphs tags homes → RunLeaves r l reply glyphs tags homes
-  run_of_post e =
-      record {
-        answers = ap (λ (x : RunReply). x.answer) e.0;
-        counted = ap (λ (x : RunReply). x.heads) e.0;
-        line =
-            ap (λ (x : List ℕ). line_of x tags homes reply.used) e.1.0
-            ∙ ap (λ (x : List ℕ). line_of (apply_all r.changes l).glyphs x homes reply.used) e.1.1.0
-            ∙ ap (λ (x : List ℕ). line_of (apply_all r.changes l).glyphs (apply_all r.changes l).tags x reply.used) e.1.1.1
-            ∙ ap (λ (x : RunReply). line_of (apply_all r.changes l).glyphs (apply_all r.changes l).tags (apply_all r.changes l).homes x.used) e.0;
-      }
-
--- the flags behind a chain
-pub flags_chain : (table : List ℕ) (head : Head) (flags : ℕ) (requests : List ℕ) {chain : Chain} {chosen : ℕ} → head ≡ Head'.Chain chain
-    → chosen ≡ flags_behind table chain.features chain.flags requests → chosen ≡ flags_after table head flags requests
-unfolding choosing
-flags_chain table head flags requests e f = rw e f
+  pub run_homes : homes ≡ (apply_all r.changes l).homes
+  run_homes = ap (λ (x : Line). x.homes) e.line
 
 -- the walk from somewhere on
 module _ (edition : Edition) (table : List ℕ) (most : ℕ) (walk : Walk) where
-  heads-end : next_head edition table walk ≡ Next'.End → heads_of edition table (suc most) walk ≡ []
+  heads-end : next_head edition table walk ≡ None → heads_of edition table (suc most) walk ≡ []
   unfolding heads_of
   heads-end e = rw (e, heads_of)
 
-  heads-at : {head : Head} {next : Walk} → next_head edition table walk ≡ Next'.At head next → heads_of edition table (suc most) walk ≡ head ∷ heads_of edition table most next
+  heads-at : {n : NextHead} → next_head edition table walk ≡ Some n → heads_of edition table (suc most) walk ≡ n.head ∷ heads_of edition table most n.next
   unfolding heads_of
   heads-at e = rw (e, heads_of)
 
@@ -137,34 +110,34 @@ module _ (table : List ℕ) (choices : Choices) (requests : List ℕ) (l₀ : Li
     over : (r : Ran) → run_over table choices g.left flags (heads_of choices.edition table (suc g.left) walk) line requests ≡ r → since g.done heads r ≡ whole
     over r e = ap (since g.done heads) (sym e) ∙ g.same
 
-    here : (answer : Answer) → since g.done heads (record { answer = answer; changes = []; heads = 0 }) ≡ whole
-        → RunLeaves whole l₀ (record { answer = answer; used = used; heads = heads }) glyphs tags homes
-    here answer e =
-        let n : heads ≡ heads + 0 = omega arith in
+    here : (answer : Answer) {counted : ℕ} → counted ≡ heads → since g.done heads (record { answer = answer; changes = []; heads = 0 }) ≡ whole
+        → RunLeaves whole l₀ (record { answer = answer; used = used; heads = counted }) glyphs tags homes
+    here answer {counted} all e =
+        let n : counted ≡ heads + 0 = omega arith in
         record {
           answers = ap (λ (r : Ran). r.answer) e;
           counted = n ∙ ap (λ (r : Ran). r.heads) e;
           line = g.at ∙ ap (λ (c : List Change). apply_all c l₀) (sym (append-nil g.done)) ∙ ap (λ (r : Ran). apply_all r.changes l₀) e;
         }
 
-    pub going_end : next_head choices.edition table walk ≡ Next'.End
-        → RunLeaves whole l₀ (record { answer = Answer'.Done; used = used; heads = heads }) glyphs tags homes
-    going_end e =
-        here Answer'.Done
+    pub going_end : {counted : ℕ} → counted ≡ heads → next_head choices.edition table walk ≡ None
+        → RunLeaves whole l₀ (record { answer = Answer'.Done; used = used; heads = counted }) glyphs tags homes
+    going_end all e =
+        here Answer'.Done all
         (over _ (ap (λ (h : List Head). run_over table choices g.left flags h line requests) (heads-end choices.edition table g.left walk e) ∙ run_none table choices g.left flags line requests))
 
-    pub going_limit : {head : Head} {next : Walk} → head_limit ≤ heads → next_head choices.edition table walk ≡ Next'.At head next
-        → RunLeaves whole l₀ (record { answer = Answer'.Limit; used = used; heads = heads }) glyphs tags homes
-    going_limit {head} {next} h e =
-        let n : g.left ≡ 0 = omega (arith, g.exactly) in
-        here Answer'.Limit
+    pub going_limit : {counted : ℕ} {n : NextHead} → counted ≡ heads → head_limit ≤ heads → next_head choices.edition table walk ≡ Some n
+        → RunLeaves whole l₀ (record { answer = Answer'.Limit; used = used; heads = counted }) glyphs tags homes
+    going_limit {counted} {n} all h e =
+        let none : g.left ≡ 0 = omega (arith, g.exactly) in
+        here Answer'.Limit all
         (over _
-        (ap (λ (k : ℕ). run_over table choices k flags (heads_of choices.edition table (suc k) walk) line requests) n
+        (ap (λ (k : ℕ). run_over table choices k flags (heads_of choices.edition table (suc k) walk) line requests) none
         ∙ ap (λ (x : List Head). run_over table choices 0 flags x line requests) (heads-at choices.edition table 0 walk e)
-        ∙ run-limit table choices 0 flags line requests head (heads_of choices.edition table 0 next)))
+        ∙ run-limit table choices 0 flags line requests n.head (heads_of choices.edition table 0 n.next)))
 
     -- a head that was read and visited
-    module _ {head : Head} {next : Walk} {reply : PassReply} {glyphs' tags' homes' : List ℕ} (room : heads < head_limit) (e : next_head choices.edition table walk ≡ Next'.At head next)
+    module _ {head : Head} {next : Walk} {reply : PassReply} {glyphs' tags' homes' : List ℕ} (room : heads < head_limit) (e : next_head choices.edition table walk ≡ Some (record { head = head; next = next }))
         (left : Leaves (visit table choices flags head line) line reply glyphs' tags' homes') where
       made : List Change
       made = (visit table choices flags head line).changes
@@ -232,7 +205,7 @@ going_start table start choices glyphs tags homes used requests {walk} v e =
       exactly = omega arith;
       done = [];
       at = refl;
-      valid = valid-line v;
+      valid = valid_line v;
       same = ap (λ (n : ℕ). record { answer = (ran table start choices l requests).answer; changes = (ran table start choices l requests).changes; heads = n }) (zero-add (ran table start choices l requests).heads);
       long-glyphs = refl;
       long-tags = refl;

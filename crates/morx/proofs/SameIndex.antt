@@ -1,4 +1,6 @@
 -- A pass by an index is the plain pass wherever each entry is that glyph's class; a filled index is such a one; and so filling and passing is passing.
+use Rattle.std.specs.Prelude.{Option, Some, None, Result, Ok, Err}
+use Rattle.answers.specs.declared.Refusal.{Refusal}
 use Prim.Native.Nat.{ℕ, ◌+◌, ◌<◌, ◌≤◌}
 use mathlib.Core.Path.{◌≡◌, refl, sym, ◌∙◌, ap, ap₂, subst⁻¹}
 use mathlib.Core.Bool.{Bool, true, false, cond}
@@ -11,19 +13,13 @@ use Rattle.laws.proofs.Lists.{length-tab}
 use Rattle.answers.specs.Refuse.{Test, refuse, table_test}
 use Rattle.answers.specs.declared.Answer.TheVariants as Answer'
 use Rattle.answers.specs.declared.Refusal.TheVariants as Refusal'
-use Rattle.answers.specs.declared.Check.{Check}
-use Rattle.answers.specs.declared.Check.TheVariants.{Passed, Refused}
 use Rattle.answers.proofs.Refusals.{refuse-here, refuse-later}
 use Rattle.parse.specs.Reads.{read_u32}
 use Rattle.parse.specs.Use.{on_u32}
-use Rattle.parse.specs.declared.ReadU32.{ReadU32}
-use Rattle.parse.specs.declared.ReadU32.TheVariants as U32
 use Rattle.tables.specs.declared.units.Reading.TheVariants.{Crate}
 use Rattle.state_tables.specs.Classes.{class_of}
 use Rattle.state_tables.specs.States.{extended_by, extended_at}
 use Rattle.state_tables.specs.declared.States.{States}
-use Rattle.state_tables.specs.declared.Made.{Made}
-use Rattle.state_tables.specs.declared.Made.TheVariants.{Ready, Short}
 use Rattle.state_tables.proofs.Laws.{extended_crate}
 use Rattle.line.specs.Line.{Line}
 use Rattle.line.specs.Test.{line_test}
@@ -52,33 +48,33 @@ use Rattle.morx.specs.declared.Kind.TheVariants.{Rearrangement, Contextual, Liga
 
 -- what a machine opens is the extended state table behind the head
 Opens : {S : Type 0} → Machine S → List ℕ → Type 0
-Opens machine bytes = (states : States) → machine.opened bytes ≡ Ready states → extended_at (body_of bytes) ≡ Ready states
+Opens machine bytes = (states : States) → machine.opened bytes ≡ Some states → extended_at (body_of bytes) ≡ Some states
 
-opens_kind : (bytes : List ℕ) (kind : ℕ) (states : States) → Call'.opened bytes kind ≡ Ready states → extended_at (body_of bytes) ≡ Ready states
+opens_kind : (bytes : List ℕ) (kind : ℕ) (states : States) → Call'.opened bytes kind ≡ Some states → extended_at (body_of bytes) ≡ Some states
 unfolding Call'.opened
 opens_kind bytes kind states = go (has_kind bytes kind)
   where
-    go : (b : Bool) → cond b (extended_at (body_of bytes)) Short ≡ Ready states → extended_at (body_of bytes) ≡ Ready states
+    go : (b : Bool) → cond b (extended_at (body_of bytes)) None ≡ Some states → extended_at (body_of bytes) ≡ Some states
     go true e = e
     go false e = let z : ◌≡◌ {A = ℕ} 0 1 = cc in absurd (omega arith)
 
-opens-behind : (read : ReadU32) (bytes : List ℕ) (kind : ℕ) (states : States)
-    → on_u32 read (λ list. Call'.opened bytes kind) Short ≡ Ready states → extended_at (body_of bytes) ≡ Ready states
-opens-behind (U32.Got n) bytes kind states e = opens_kind bytes kind states e
-opens-behind U32.Short bytes kind states e = let z : ◌≡◌ {A = ℕ} 0 1 = cc in absurd (omega arith)
+opens-behind : (read : Option ℕ) (bytes : List ℕ) (kind : ℕ) (states : States)
+    → on_u32 read (λ list. Call'.opened bytes kind) None ≡ Some states → extended_at (body_of bytes) ≡ Some states
+opens-behind (Some n) bytes kind states e = opens_kind bytes kind states e
+opens-behind None bytes kind states e = let z : ◌≡◌ {A = ℕ} 0 1 = cc in absurd (omega arith)
 
 -- the work of a machine by a right index
 module _ {S : Type 0} (machine : Machine S) (index bytes : List ℕ) (l : Line) (opens : Opens machine bytes)
-    (right : (states : States) (glyph : ℕ) → extended_at (body_of bytes) ≡ Ready states → glyph < length index → get_or index glyph 0 ≡ class_of (body_of bytes) states glyph) where
+    (right : (states : States) (glyph : ℕ) → extended_at (body_of bytes) ≡ Some states → glyph < length index → get_or index glyph 0 ≡ class_of (body_of bytes) states glyph) where
   same-work : (subtable_of (indexed index machine)).worked bytes l ≡ (subtable_of machine).worked bytes l
   unfolding Opens
   same-work = go (machine.opened bytes) refl
     where
-      go : (m : Made) → machine.opened bytes ≡ m
+      go : (m : Option States) → machine.opened bytes ≡ m
           → on_made refused_pass m (λ states. passed (indexed index machine) (body_of bytes) states l) ≡ on_made refused_pass m (λ states. passed machine (body_of bytes) states l)
-      go (Ready states) e =
+      go (Some states) e =
           same-pass machine index (body_of bytes) states l (right_index index (class_of (body_of bytes) states) (λ glyph h. right states glyph (opens states e) h))
-      go Short e = refl
+      go None e = refl
 
 -- a last test that does not hold changes nothing
 last_test : (ts : List Test) (t : Test) → t.holds ≡ false → refuse (ts ++ t ∷ []) ≡ refuse ts
@@ -111,7 +107,7 @@ module _ (table : List ℕ) (start : ℕ) (l : Line) (index : List ℕ) (class_s
   pub same_call : (index_test (length index) another).holds ≡ false → indexed_call table start l index class_start ≡ pass_call (any_subtable Morx) table start l
   unfolding indexed_call pass_call indexed_tests pass_tests
   same_call e =
-      ap (λ (c : Check). if_passed refused_pass c ((indexed_of_kind index (kind_at Morx bytes)).worked bytes l))
+      ap (λ (c : Result Unit Refusal). if_passed refused_pass c ((indexed_of_kind index (kind_at Morx bytes)).worked bytes l))
       (last_test (table_test (length table) ∷ line_test l ∷ head_test ((any_subtable Morx).is_open bytes) ∷ []) (index_test (length index) another) e)
       ∙ ap
       (λ (p : Pass.Passed).
@@ -129,7 +125,7 @@ module _ (table : List ℕ) (start : ℕ) (index : List ℕ) (was : ℕ) (l : Li
   there : drop (start + 12) table ≡ body
   there = sym (drop-drop 12 start table)
 
-  own-start : (states : States) (offset : ℕ) → has_classes (kind_at Morx (drop start table)) ≡ true → length index ≤ 65535 → read_u32 body 4 ≡ U32.Got offset
+  own-start : (states : States) (offset : ℕ) → has_classes (kind_at Morx (drop start table)) ≡ true → length index ≤ 65535 → read_u32 body 4 ≡ Some offset
       → (index_test (length (classes_below (drop (start + 12) table) states (length index))) (is_another (has_classes (kind_at Morx (drop start table))) body start (start + 12 + offset))).holds ≡ false
   unfolding index_test index_limit is_another classes_below
   own-start states offset has few read =
@@ -141,9 +137,9 @@ module _ (table : List ℕ) (start : ℕ) (index : List ℕ) (was : ℕ) (l : Li
         le-ltb 65535 (length index) few,
       )
 
-  filled_is_right : (states : States) → extended_by Crate (drop (start + 12) table) ≡ Ready states → Right table start (classes_below (drop (start + 12) table) states (length index))
+  filled_is_right : (states : States) → extended_by Crate (drop (start + 12) table) ≡ Some states → Right table start (classes_below (drop (start + 12) table) states (length index))
   filled_is_right states m states' glyph e h =
-      let q : Ready states ≡ Ready states' = sym m ∙ ap (extended_by Crate) there ∙ extended_crate body ∙ e in
+      let q : Some states ≡ Some states' = sym m ∙ ap (extended_by Crate) there ∙ extended_crate body ∙ e in
       let same : states ≡ states' = cc in
       filled_right (drop (start + 12) table) states (length index) glyph h ∙ ap₂ (λ (b : List ℕ) (s : States). class_of b s glyph) there same
 
@@ -157,19 +153,19 @@ module _ (table : List ℕ) (start : ℕ) (index : List ℕ) (was : ℕ) (l : Li
       go (refuse (fill_tests (length table) (start + 12) (length index) (extended_by Crate (drop (start + 12) table)))) refl (extended_by Crate (drop (start + 12) table)) refl
       (read_u32 (drop (start + 12) table) 4) refl
     where
-      go : (c : Check) → refuse (fill_tests (length table) (start + 12) (length index) (extended_by Crate (drop (start + 12) table))) ≡ c → (m : Made)
-          → extended_by Crate (drop (start + 12) table) ≡ m → (r : ReadU32) → read_u32 (drop (start + 12) table) 4 ≡ r
+      go : (c : Result Unit Refusal) → refuse (fill_tests (length table) (start + 12) (length index) (extended_by Crate (drop (start + 12) table))) ≡ c → (m : Option States)
+          → extended_by Crate (drop (start + 12) table) ≡ m → (r : Option ℕ) → read_u32 (drop (start + 12) table) 4 ≡ r
           → indexed_call table start l filled.index filled.start ≡ pass_call (any_subtable Morx) table start l
-      go (Refused why) c m e r f =
+      go (Err why) c m e r f =
           let q : filled.answer ≡ Answer'.Refused why = rw (c, fill_call) in
           let z : ◌≡◌ {A = ℕ} 0 1 = cc in absurd (omega arith)
-      go Passed c Short e r f =
+      go (Ok tt) c None e r f =
           let q : filled.answer ≡ Answer'.Refused Refusal'.Head = rw (c, e, fill_call, filled_by) in
           let z : ◌≡◌ {A = ℕ} 0 1 = cc in absurd (omega arith)
-      go Passed c (Ready states) e U32.Short f =
+      go (Ok tt) c (Some states) e None f =
           let q : filled.answer ≡ Answer'.Refused Refusal'.Head = rw (c, e, f, fill_call, filled_by) in
           let z : ◌≡◌ {A = ℕ} 0 1 = cc in absurd (omega arith)
-      go Passed c (Ready states) e (U32.Got offset) f =
+      go (Ok tt) c (Some states) e (Some offset) f =
           let whole : filled ≡ record { answer = Answer'.Done; index = classes_below (drop (start + 12) table) states (length index); start = start + 12 + offset } =
           rw (c, e, f, fill_call, filled_by) in
           subst⁻¹ Goal whole

@@ -24,7 +24,8 @@ use Rattle.morx.specs.Run.{is_passed_over, idle, turned_work, settled_answer, se
 use Rattle.morx.specs.declared.Kind.{Kind}
 use Rattle.morx.specs.declared.Choices.{Choices}
 use Rattle.morx.specs.declared.PassReply.{PassReply}
-use Rattle.morx.proofs.Leaves.{Leaves, valid-after, fits_then, valid-line, line-valid, turning_fits, valid-turned}
+use Rattle.morx.specs.Work.{Leaves}
+use Rattle.morx.proofs.Leaves.{valid-after, fits_then, valid_line, line-valid, turning_fits, valid-turned}
 use Rattle.morx.proofs.Machines.{worked-fits}
 
 -- the line that was turned
@@ -32,8 +33,8 @@ module _ (glyphs tags homes : List ℕ) (used : ℕ) {glyphs₁ tags₁ : List �
   turned-line : line_of glyphs₁ tags₁ homes used ≡ apply Change.reversal (line_of glyphs tags homes used)
   turned-line = applied_reversal glyphs tags homes used g t
 
-  pub turned-valid : is_valid (line_of glyphs tags homes used) ≡ true → is_valid (line_of glyphs₁ tags₁ homes used) ≡ true
-  turned-valid v = line-valid turned-line (valid-turned (line_of glyphs tags homes used) (valid-line v))
+  pub turned_valid : is_valid (line_of glyphs tags homes used) ≡ true → is_valid (line_of glyphs₁ tags₁ homes used) ≡ true
+  turned_valid v = line-valid turned-line (valid-turned (line_of glyphs tags homes used) (valid_line v))
 
 module _ (turned : Bool) (kind : Kind) (bytes glyphs tags homes : List ℕ) (used : ℕ) where
   abbrev line : Line
@@ -52,15 +53,15 @@ module _ (turned : Bool) (kind : Kind) (bytes glyphs tags homes : List ℕ) (use
       worked-line : line_of glyphs₂ tags₂ homes₂ reply.used ≡ apply_all ((subtable_of_kind kind).worked bytes (apply Change.reversal line)).changes (apply Change.reversal line)
       worked-line = left.line ∙ ap (λ (x : Line). apply_all ((subtable_of_kind kind).worked bytes x).changes x) (turned-line glyphs tags homes used g t)
 
-      pub worked-valid : is_valid (line_of glyphs₂ tags₂ homes₂ reply.used) ≡ true
-      worked-valid =
+      pub worked_valid : is_valid (line_of glyphs₂ tags₂ homes₂ reply.used) ≡ true
+      worked_valid =
           line-valid worked-line
-          (valid-after _ (apply Change.reversal line) (valid-turned line (valid-line v)) (worked-fits kind bytes _ (valid-turned line (valid-line v))))
+          (valid-after _ (apply Change.reversal line) (valid-turned line (valid_line v)) (worked-fits kind bytes _ (valid-turned line (valid_line v))))
 
-      pub turned-back : {glyphs₃ tags₃ : List ℕ} → turned ≡ true → glyphs₃ ≡ backward reply.used glyphs₂ → tags₃ ≡ backward reply.used tags₂
+      pub turned_back : {glyphs₃ tags₃ : List ℕ} → turned ≡ true → glyphs₃ ≡ backward reply.used glyphs₂ → tags₃ ≡ backward reply.used tags₂
           → Leaves (turned_work turned kind bytes line) line reply glyphs₃ tags₃ homes₂
       unfolding turned_work apply_all
-      turned-back {glyphs₃} {tags₃} e g₃ t₃ =
+      turned_back {glyphs₃} {tags₃} e g₃ t₃ =
           let made : List Change = ((subtable_of_kind kind).worked bytes (apply Change.reversal line)).changes in
           subst⁻¹ (λ (x : Bool). Leaves (turned_work x kind bytes line) line reply glyphs₃ tags₃ homes₂) e
           (record {
@@ -92,18 +93,18 @@ module _ (table : List ℕ) (choices : Choices) (flags : ℕ) (s : Subtable) (l 
   over_is : is_passed_over choices.edition flags s (drop s.place table) ≡ over
   over_is = sym (o ∙ ap (is_passed_over choices.edition flags s) b)
 
-  pub visit-over : over ≡ true → Leaves (visit_subtable table choices flags s l) l (record { answer = Answer'.Done; used = l.used }) l.glyphs l.tags l.homes
+  pub visit_over : over ≡ true → Leaves (visit_subtable table choices flags s l) l (record { answer = Answer'.Done; used = l.used }) l.glyphs l.tags l.homes
   unfolding visit_subtable
-  visit-over e =
+  visit_over e =
       let r : visit_subtable table choices flags s l ≡ idle = rw (over_is ∙ e, visit_subtable) in
       subst⁻¹ (λ (p : Passed). Leaves p l (record { answer = Answer'.Done; used = l.used }) l.glyphs l.tags l.homes) r (still l)
 
-  pub visit-worked : {turned : Bool} {kind : Kind} {reply : PassReply} {answer : Answer} {glyphs tags homes : List ℕ} → over ≡ false
+  pub visit_worked : {turned : Bool} {kind : Kind} {reply : PassReply} {answer : Answer} {glyphs tags homes : List ℕ} → over ≡ false
       → turned ≡ is_reversed s.order choices.right_to_left → kind ≡ kind_of choices.edition s.kind → Leaves (turned_work turned kind bytes l) l reply glyphs tags homes
       → answer ≡ settled_answer reply.answer
       → Leaves (visit_subtable table choices flags s l) l (record { answer = answer; used = reply.used }) glyphs tags homes
   unfolding visit_subtable
-  visit-worked {turned} {kind} {reply} {answer} {glyphs} {tags} {homes} e t k left a =
+  visit_worked {turned} {kind} {reply} {answer} {glyphs} {tags} {homes} e t k left a =
       let work : Passed = turned_work (is_reversed s.order choices.right_to_left) (kind_of choices.edition s.kind) (drop s.place table) l in
       let r : visit_subtable table choices flags s l ≡ settled work = rw (over_is ∙ e, visit_subtable) in
       let w : turned_work turned kind bytes l ≡ work =

@@ -7,14 +7,13 @@ ghost use Rattle.answers.specs.Refuse.{refuse};
 ghost use Rattle.line.specs.Line.{line_of};
 ghost use Rattle.line.specs.Test.{is_valid};
 ghost use Rattle.machine.specs.Machine.{pass_call, call_leaves};
-ghost use Rattle.machine.specs.Work.{work_leaves};
 ghost use Rattle.morx.specs.Kinds.{kind_of, kind_at, subtable_of_kind, any_subtable};
-ghost use Rattle.morx.specs.Run.{share_bit, is_passed_over, turned_work, settled_answer, flags_after, visit, visit_leaves, visit_subtable, ran};
+ghost use Rattle.morx.specs.Run.{is_passed_over, turned_work, settled_answer, flags_after, visit, visit_subtable, ran};
 ghost use Rattle.morx.specs.Calls.{run_tests, run_call, run_leaves};
 ghost use Rattle.morx.specs.Indexed.{indexed_of_kind, has_classes, indexed_tests, indexed_call, indexed_leaves};
-ghost use Rattle.morx.specs.Work.{subtable_leaves, turned_leaves, ran_leaves, run_reply_of, pass_reply_of, line_tests};
+ghost use Rattle.morx.specs.Work.{Leaves, RunLeaves, run_reply_of, pass_reply_of, line_tests};
 
-use answers::{Answer, Check, HEADS, Refusal};
+use answers::{Answer, HEADS, Refusal};
 use chains::{Edition, Head, NextHead, Subtable};
 use contextual::ContextualState;
 use insertion::InsertionState;
@@ -60,38 +59,30 @@ pub struct RunReply {
 }
 
 // The kind of this number in morx.
+#[tactic(auto, unfolding(crate::specs::Kinds::kind_of))]
 fn new_kind(number: u32) -> Kind
     ensures { result ≡ kind_of Edition.Morx number }
 {
-    if number == RearrangementState::KIND {
-        return Kind::Rearrangement;
+    match number {
+        RearrangementState::KIND => Kind::Rearrangement,
+        ContextualState::KIND => Kind::Contextual,
+        LigatureState::KIND => Kind::Ligature,
+        noncontextual::KIND => Kind::NonContextual,
+        InsertionState::KIND => Kind::Insertion,
+        _ => Kind::LeftOut,
     }
-    if number == ContextualState::KIND {
-        return Kind::Contextual;
-    }
-    if number == LigatureState::KIND {
-        return Kind::Ligature;
-    }
-    if number == noncontextual::KIND {
-        return Kind::NonContextual;
-    }
-    if number == InsertionState::KIND {
-        return Kind::Insertion;
-    }
-    Kind::LeftOut
 }
 
 // In mort.
+#[tactic(auto, unfolding(crate::specs::Kinds::kind_of))]
 fn old_kind(number: u32) -> Kind
     ensures { result ≡ kind_of Edition.Mort number }
 {
-    if number == mort::REARRANGEMENT as u32 {
-        return Kind::OldRearrangement;
+    match u16::try_from(number) {
+        Ok(mort::REARRANGEMENT) => Kind::OldRearrangement,
+        Ok(mort::NONCONTEXTUAL) => Kind::OldNonContextual,
+        _ => Kind::LeftOut,
     }
-    if number == mort::NONCONTEXTUAL as u32 {
-        return Kind::OldNonContextual;
-    }
-    Kind::LeftOut
 }
 
 // In either.
@@ -104,43 +95,31 @@ fn kind_of(edition: Edition, number: u32) -> Kind
     }
 }
 
-// The kind of the morx subtable that the bytes begin with; one whose head is cut short has none that is taken.
-fn new_kind_at(bytes: &[u8]) -> Kind
-    ensures { result ≡ kind_at Edition.Morx bytes.now }
-{
-    let parse::ReadPart::Until(_) = parse::read_part(bytes, 0, 12) else {
-        return Kind::LeftOut;
-    };
-    let parse::ReadU32::Got(coverage) = parse::read_u32(bytes, 4) else {
-        return Kind::LeftOut;
-    };
-    new_kind(coverage % 256)
-}
-
-// The same of a mort subtable.
-fn old_kind_at(bytes: &[u8]) -> Kind
-    ensures { result ≡ kind_at Edition.Mort bytes.now }
-{
-    if mort::has_kind(bytes, mort::REARRANGEMENT) {
-        return Kind::OldRearrangement;
-    }
-    if mort::has_kind(bytes, mort::NONCONTEXTUAL) {
-        return Kind::OldNonContextual;
-    }
-    Kind::LeftOut
-}
-
-// Of either.
+// The kind of the subtable that the bytes begin with; one whose head is cut short has none that is taken.
+#[tactic(auto, unfolding(crate::specs::Kinds::kind_at, parse::specs::Reads::read_u32, parse::specs::Reads::inside))]
 fn kind_at(edition: Edition, bytes: &[u8]) -> Kind
     ensures { result ≡ kind_at edition bytes.now }
 {
     match edition {
-        Edition::Morx => new_kind_at(bytes),
-        Edition::Mort => old_kind_at(bytes),
+        Edition::Morx => match parse::read_u32(bytes, 4) {
+            Some(coverage) if 12 <= bytes.len() => new_kind(coverage % 256),
+            _ => Kind::LeftOut,
+        },
+        Edition::Mort => {
+            if mort::has_kind(bytes, mort::REARRANGEMENT) {
+                return Kind::OldRearrangement;
+            }
+            if mort::has_kind(bytes, mort::NONCONTEXTUAL) {
+                return Kind::OldNonContextual;
+            }
+            Kind::LeftOut
+        }
     }
 }
 
 // The pass by a subtable of a kind and the classes of an index, on a line that LINE has taken; HEAD where it can't be opened.
+// kept: glyphs, tags, homes and the used length go beside each other, as the C interface lends them and each kind's own pass takes them.
+#[tactic(auto, using(crate::proofs::Machines::by_rearrangement, crate::proofs::Machines::by_contextual, crate::proofs::Machines::by_ligature, crate::proofs::Machines::by_noncontextual, crate::proofs::Machines::by_insertion, crate::proofs::Machines::by_old_rearrangement, crate::proofs::Machines::by_old_noncontextual, crate::proofs::Machines::by_none, crate::proofs::Leaves::room_glyphs, crate::proofs::Leaves::room_limited, crate::proofs::Leaves::room_paired))]
 fn work_by(
     kind: Kind,
     bytes: &[u8],
@@ -151,55 +130,46 @@ fn work_by(
     index: &[u16],
 ) -> PassReply
     requires { is_valid (line_of glyphs.old tags.old homes.old used) ≡ true }
-    ensures reply { result ≡ pass_reply_of ((indexed_of_kind index.now kind).worked bytes.now
-        (line_of glyphs.old tags.old homes.old used))
-        (line_of glyphs.old tags.old homes.old used) }
-    ensures glyphs { glyphs.new ≡ (work_leaves (indexed_of_kind index.now kind) bytes.now
-        (line_of glyphs.old tags.old homes.old used)).glyphs }
-    ensures tags { tags.new ≡ (work_leaves (indexed_of_kind index.now kind) bytes.now
-        (line_of glyphs.old tags.old homes.old used)).tags }
-    ensures homes { homes.new ≡ (work_leaves (indexed_of_kind index.now kind) bytes.now
-        (line_of glyphs.old tags.old homes.old used)).homes }
+    ensures { Leaves ((indexed_of_kind index.now kind).worked bytes.now (line_of glyphs.old tags.old homes.old used))
+        (line_of glyphs.old tags.old homes.old used) result
+        glyphs.new tags.new homes.new }
 {
     match kind {
-        Kind::Rearrangement => {
-            let answer = rearrangement::work_by(bytes, glyphs, tags, homes, used, index);
-            return PassReply { answer, used };
-        }
-        Kind::Contextual => {
-            let answer = contextual::work_by(bytes, glyphs, tags, homes, used, index);
-            return PassReply { answer, used };
-        }
-        Kind::Ligature => {
-            let answer = ligature::work_by(bytes, glyphs, tags, homes, used, index);
-            return PassReply { answer, used };
-        }
-        Kind::NonContextual => {
-            let answer = noncontextual::work(bytes, glyphs, tags, homes, used);
-            return PassReply { answer, used };
-        }
+        Kind::Rearrangement => PassReply {
+            answer: rearrangement::work_by(bytes, glyphs, tags, homes, used, index),
+            used,
+        },
+        Kind::Contextual => PassReply {
+            answer: contextual::work_by(bytes, glyphs, tags, homes, used, index),
+            used,
+        },
+        Kind::Ligature => PassReply {
+            answer: ligature::work_by(bytes, glyphs, tags, homes, used, index),
+            used,
+        },
+        Kind::NonContextual => PassReply {
+            answer: noncontextual::work(bytes, glyphs, tags, homes, used),
+            used,
+        },
         Kind::Insertion => {
             let done = insertion::work_by(bytes, glyphs, tags, homes, used, index);
-            let answer = done.answer;
-            return PassReply {
-                answer,
+            PassReply {
+                answer: done.answer,
                 used: done.used,
-            };
+            }
         }
-        Kind::OldRearrangement => {
-            let answer = mort::rearrange(bytes, glyphs, tags, homes, used);
-            return PassReply { answer, used };
-        }
-        Kind::OldNonContextual => {
-            let answer = mort::substitute(bytes, glyphs, tags, homes, used);
-            return PassReply { answer, used };
-        }
-        Kind::LeftOut => {
-            return PassReply {
-                answer: Answer::Refused(Refusal::Head),
-                used,
-            };
-        }
+        Kind::OldRearrangement => PassReply {
+            answer: mort::rearrange(bytes, glyphs, tags, homes, used),
+            used,
+        },
+        Kind::OldNonContextual => PassReply {
+            answer: mort::substitute(bytes, glyphs, tags, homes, used),
+            used,
+        },
+        Kind::LeftOut => PassReply {
+            answer: Answer::Refused(Refusal::Head),
+            used,
+        },
     }
 }
 
@@ -213,49 +183,26 @@ fn work(
     used: usize,
 ) -> PassReply
     requires { is_valid (line_of glyphs.old tags.old homes.old used) ≡ true }
-    ensures reply { result ≡ pass_reply_of ((subtable_of_kind kind).worked bytes.now
-        (line_of glyphs.old tags.old homes.old used))
-        (line_of glyphs.old tags.old homes.old used) }
-    ensures glyphs { glyphs.new ≡ (work_leaves (subtable_of_kind kind) bytes.now
-        (line_of glyphs.old tags.old homes.old used)).glyphs }
-    ensures tags { tags.new ≡ (work_leaves (subtable_of_kind kind) bytes.now
-        (line_of glyphs.old tags.old homes.old used)).tags }
-    ensures homes { homes.new ≡ (work_leaves (subtable_of_kind kind) bytes.now
-        (line_of glyphs.old tags.old homes.old used)).homes }
+    ensures { Leaves ((subtable_of_kind kind).worked bytes.now (line_of glyphs.old tags.old homes.old used)) (line_of glyphs.old tags.old homes.old used) result
+        glyphs.new tags.new homes.new }
 {
-    let none = [0u16; 0];
-    work_by(kind, bytes, glyphs, tags, homes, used, &none)
+    work_by(kind, bytes, glyphs, tags, homes, used, &[])
 }
 
 // Whether the subtable of a kind that the bytes begin with can be opened.
+#[tactic(auto, unfolding(crate::specs::Kinds::subtable_of_kind))]
 fn opens(kind: Kind, bytes: &[u8]) -> bool
     ensures { result ≡ (subtable_of_kind kind).is_open bytes.now }
 {
     match kind {
-        Kind::Rearrangement => {
-            return machine::is_ready(machine::open(bytes, RearrangementState::KIND));
-        }
-        Kind::Contextual => {
-            return machine::is_ready(contextual::open(bytes));
-        }
-        Kind::Ligature => {
-            return machine::is_ready(ligature::open(bytes));
-        }
-        Kind::NonContextual => {
-            return machine::has_kind(bytes, noncontextual::KIND);
-        }
-        Kind::Insertion => {
-            return machine::is_ready(insertion::open(bytes));
-        }
-        Kind::OldRearrangement => {
-            return mort::has_kind(bytes, mort::REARRANGEMENT);
-        }
-        Kind::OldNonContextual => {
-            return mort::has_kind(bytes, mort::NONCONTEXTUAL);
-        }
-        Kind::LeftOut => {
-            return false;
-        }
+        Kind::Rearrangement => machine::open(bytes, RearrangementState::KIND).is_some(),
+        Kind::Contextual => contextual::open(bytes).is_some(),
+        Kind::Ligature => ligature::open(bytes).is_some(),
+        Kind::NonContextual => machine::has_kind(bytes, noncontextual::KIND),
+        Kind::Insertion => insertion::open(bytes).is_some(),
+        Kind::OldRearrangement => mort::has_kind(bytes, mort::REARRANGEMENT),
+        Kind::OldNonContextual => mort::has_kind(bytes, mort::NONCONTEXTUAL),
+        Kind::LeftOut => false,
     }
 }
 
@@ -269,6 +216,7 @@ fn turn_back(reply: PassReply, glyphs: &mut [u16], tags: &mut [u16])
 }
 
 // The pass on the line, turned round where that is asked for; it is turned back however the pass ends.
+#[tactic(auto, using(crate::proofs::Leaves::room_glyphs, crate::proofs::Leaves::room_paired, crate::proofs::Visits::turned_valid))]
 fn turn_and_work(
     turned: bool,
     kind: Kind,
@@ -279,15 +227,8 @@ fn turn_and_work(
     used: usize,
 ) -> PassReply
     requires { is_valid (line_of glyphs.old tags.old homes.old used) ≡ true }
-    ensures reply { result ≡ pass_reply_of (turned_work turned kind bytes.now
-        (line_of glyphs.old tags.old homes.old used))
-        (line_of glyphs.old tags.old homes.old used) }
-    ensures glyphs { glyphs.new ≡ (turned_leaves turned kind bytes.now
-        (line_of glyphs.old tags.old homes.old used)).glyphs }
-    ensures tags { tags.new ≡ (turned_leaves turned kind bytes.now
-        (line_of glyphs.old tags.old homes.old used)).tags }
-    ensures homes { homes.new ≡ (turned_leaves turned kind bytes.now
-        (line_of glyphs.old tags.old homes.old used)).homes }
+    ensures { Leaves (turned_work turned kind bytes.now (line_of glyphs.old tags.old homes.old used)) (line_of glyphs.old tags.old homes.old used) result
+        glyphs.new tags.new homes.new }
 {
     if !turned {
         return work(kind, bytes, glyphs, tags, homes, used);
@@ -298,24 +239,14 @@ fn turn_and_work(
     reply
 }
 
-// Whether two numbers have some common bit.
-fn share_bit(a: u32, b: u32) -> bool
-    ensures { result ≡ share_bit a b }
-{
-    a & b != 0
-}
-
 // Whether a run passes over a subtable, whose bytes these are.
+#[tactic(auto, unfolding(crate::specs::Run::is_passed_over, crate::specs::Run::share_bit))]
 fn passes_over(edition: Edition, flags: u32, subtable: Subtable, bytes: &[u8]) -> bool
     ensures { result ≡ is_passed_over edition flags subtable bytes.now }
 {
-    if !share_bit(flags, subtable.flags) {
-        return true;
-    }
-    if subtable.vertical {
-        return true;
-    }
-    !opens(kind_of(edition, subtable.kind), bytes)
+    flags & subtable.flags == 0
+        || subtable.vertical
+        || !opens(kind_of(edition, subtable.kind), bytes)
 }
 
 // What a pass's answer is to its run: FULL ends that, any other end is the subtable's own.
@@ -324,11 +255,7 @@ fn settle(answer: Answer) -> Answer
 {
     match answer {
         Answer::Full => Answer::Full,
-        Answer::Done => Answer::Done,
-        Answer::Nothing => Answer::Done,
-        Answer::Ended => Answer::Done,
-        Answer::Limit => Answer::Done,
-        Answer::Refused(_) => Answer::Done,
+        _ => Answer::Done,
     }
 }
 
@@ -344,31 +271,22 @@ fn visit_subtable(
     used: usize,
 ) -> PassReply
     requires { is_valid (line_of glyphs.old tags.old homes.old used) ≡ true }
-    ensures reply { result ≡ pass_reply_of (visit_subtable table.now choices flags subtable
-        (line_of glyphs.old tags.old homes.old used))
-        (line_of glyphs.old tags.old homes.old used) }
-    ensures glyphs { glyphs.new ≡ (subtable_leaves table.now choices flags subtable
-        (line_of glyphs.old tags.old homes.old used)).glyphs }
-    ensures tags { tags.new ≡ (subtable_leaves table.now choices flags subtable
-        (line_of glyphs.old tags.old homes.old used)).tags }
-    ensures homes { homes.new ≡ (subtable_leaves table.now choices flags subtable
-        (line_of glyphs.old tags.old homes.old used)).homes }
+    ensures { Leaves (visit_subtable table.now choices flags subtable (line_of glyphs.old tags.old homes.old used))
+        (line_of glyphs.old tags.old homes.old used) result
+        glyphs.new tags.new homes.new }
 {
     let bytes = parse::from(table, subtable.place);
-    let edition = choices.edition;
-    if passes_over(edition, flags, subtable, bytes) {
+    if passes_over(choices.edition, flags, subtable, bytes) {
         return PassReply {
             answer: Answer::Done,
             used,
         };
     }
-    let order = subtable.order;
-    let turned = chains::should_reverse(order, choices.right_to_left);
-    let kind = kind_of(edition, subtable.kind);
+    let turned = chains::should_reverse(subtable.order, choices.right_to_left);
+    let kind = kind_of(choices.edition, subtable.kind);
     let reply = turn_and_work(turned, kind, bytes, glyphs, tags, homes, used);
-    let answer = reply.answer;
     PassReply {
-        answer: settle(answer),
+        answer: settle(reply.answer),
         used: reply.used,
     }
 }
@@ -385,34 +303,34 @@ fn visit(
     used: usize,
 ) -> PassReply
     requires { is_valid (line_of glyphs.old tags.old homes.old used) ≡ true }
-    ensures reply { result ≡ pass_reply_of (visit table.now choices flags head
-        (line_of glyphs.old tags.old homes.old used))
-        (line_of glyphs.old tags.old homes.old used) }
-    ensures glyphs { glyphs.new ≡ (visit_leaves table.now choices flags head
-        (line_of glyphs.old tags.old homes.old used)).glyphs }
-    ensures tags { tags.new ≡ (visit_leaves table.now choices flags head
-        (line_of glyphs.old tags.old homes.old used)).tags }
-    ensures homes { homes.new ≡ (visit_leaves table.now choices flags head
-        (line_of glyphs.old tags.old homes.old used)).homes }
+    ensures { Leaves (visit table.now choices flags head (line_of glyphs.old tags.old homes.old used)) (line_of glyphs.old tags.old homes.old used) result
+        glyphs.new tags.new homes.new }
 {
-    let Head::Subtable(subtable) = head else {
-        return PassReply {
+    match head {
+        Head::Chain(_) => PassReply {
             answer: Answer::Done,
             used,
-        };
-    };
-    visit_subtable(table, choices, flags, subtable, glyphs, tags, homes, used)
+        },
+        Head::Subtable(subtable) => visit_subtable(
+            table, choices, flags, subtable, glyphs, tags, homes, used,
+        ),
+    }
 }
 
 // The flags that choose behind a head: those of the last chain, switched by its features that are asked for.
+#[tactic(auto, unfolding(crate::specs::Run::choosing))]
 fn flags_after(table: &[u8], head: Head, flags: u32, requests: &[u32]) -> u32
     ensures { result ≡ flags_after table.now head flags requests.now }
 {
-    let Head::Chain(chain) = head else {
-        return flags;
-    };
-    let features = chain.features;
-    chains::features::flags_behind(table, features, chain.flags, requests)
+    match head {
+        Head::Chain(chain) => chains::features::flags_behind(
+            table,
+            chain.features,
+            chain.flags,
+            requests,
+        ),
+        Head::Subtable(_) => flags,
+    }
 }
 
 // The run over a line that LINE has taken, and a table whose start is not past its end.
@@ -427,22 +345,14 @@ fn run_line(
     requests: &[u32],
 ) -> RunReply
     requires { (is_valid (line_of glyphs.old tags.old homes.old used) ≡ true) × (start ≤ length table.now) }
-    ensures reply { result ≡ run_reply_of (ran table.now start choices (line_of glyphs.old tags.old homes.old used)
-        requests.now) (line_of glyphs.old tags.old homes.old used) }
-    ensures glyphs { glyphs.new ≡ (ran_leaves table.now start choices
-        (line_of glyphs.old tags.old homes.old used) requests.now).glyphs }
-    ensures tags { tags.new ≡ (ran_leaves table.now start choices
-        (line_of glyphs.old tags.old homes.old used) requests.now).tags }
-    ensures homes { homes.new ≡ (ran_leaves table.now start choices
-        (line_of glyphs.old tags.old homes.old used) requests.now).homes }
+    ensures { RunLeaves (ran table.now start choices (line_of glyphs.old tags.old homes.old used) requests.now)
+        (line_of glyphs.old tags.old homes.old used) result glyphs.new tags.new homes.new }
 {
-    let edition = choices.edition;
     let mut walk = chains::walk_from(table, start);
     let mut flags: u32 = 0;
-    let mut heads: u32 = 0;
     let mut length = used;
-    while heads < HEADS {
-        let NextHead::At { head, next } = chains::next_head(edition, table, walk) else {
+    for heads in 0..HEADS {
+        let Some(NextHead { head, next }) = chains::next_head(choices.edition, table, walk) else {
             return RunReply {
                 answer: Answer::Done,
                 used: length,
@@ -450,53 +360,48 @@ fn run_line(
             };
         };
         let reply = visit(table, choices, flags, head, glyphs, tags, homes, length);
-        heads += 1;
         length = reply.used;
-        let answer = reply.answer;
-        if !machine::is_done(answer) {
+        if !machine::is_done(reply.answer) {
             return RunReply {
-                answer,
+                answer: reply.answer,
                 used: length,
-                heads,
+                heads: heads + 1,
             };
         }
         flags = flags_after(table, head, flags, requests);
         walk = next;
     }
-    let NextHead::At { head: _, next: _ } = chains::next_head(edition, table, walk) else {
-        return RunReply {
-            answer: Answer::Done,
-            used: length,
-            heads,
-        };
+    let answer = match chains::next_head(choices.edition, table, walk) {
+        Some(_) => Answer::Limit,
+        None => Answer::Done,
     };
     RunReply {
-        answer: Answer::Limit,
+        answer,
         used: length,
-        heads,
+        heads: HEADS,
     }
 }
 
 // The tests before a pass: TABLE, LINE.
+#[tactic(auto, unfolding(crate::specs::Work::line_tests, line::specs::Test::line_test, answers::specs::Refuse::refuse))]
 fn refuse_line(
     table_length: usize,
     glyphs: &[u16],
     tags: &[u16],
     homes: &[u16],
     used: usize,
-) -> Check
+) -> Result<(), Refusal>
     ensures { result ≡ refuse (line_tests table_length (line_of glyphs.now tags.now homes.now used)) }
 {
-    if let Check::Refused(why) = answers::refuse_table(table_length) {
-        return Check::Refused(why);
-    }
+    answers::refuse_table(table_length)?;
     if !line::valid::takes(glyphs, tags, homes, used) {
-        return Check::Refused(Refusal::Line);
+        return Err(Refusal::Line);
     }
-    Check::Passed
+    Ok(())
 }
 
 // The pass over a line, by the subtable at `start`, of whatever kind.
+#[tactic(auto, using(crate::proofs::Leaves::left_reply, crate::proofs::Leaves::left_glyphs, crate::proofs::Leaves::left_tags, crate::proofs::Leaves::left_homes, crate::proofs::Calls::taken_valid, crate::proofs::Calls::pass_refused, crate::proofs::Calls::pass_worked), unfolding(machine::specs::Machine::call_leaves))]
 pub fn pass(
     edition: Edition,
     table: &[u8],
@@ -516,7 +421,7 @@ pub fn pass(
     ensures homes { homes.new ≡ (call_leaves (any_subtable edition) table.now start
         (line_of glyphs.old tags.old homes.old used)).homes }
 {
-    if let Check::Refused(why) = refuse_line(table.len(), glyphs, tags, homes, used) {
+    if let Err(why) = refuse_line(table.len(), glyphs, tags, homes, used) {
         return PassReply {
             answer: Answer::Refused(why),
             used,
@@ -530,19 +435,14 @@ pub fn pass(
 fn has_classes(kind: Kind) -> bool
     ensures { result ≡ has_classes kind }
 {
-    match kind {
-        Kind::Rearrangement => true,
-        Kind::Contextual => true,
-        Kind::Ligature => true,
-        Kind::NonContextual => false,
-        Kind::Insertion => true,
-        Kind::OldRearrangement => false,
-        Kind::OldNonContextual => false,
-        Kind::LeftOut => false,
-    }
+    matches!(
+        kind,
+        Kind::Rearrangement | Kind::Contextual | Kind::Ligature | Kind::Insertion
+    )
 }
 
 // The tests before a pass by an index: TABLE, LINE, HEAD, INDEX.
+#[tactic(auto, unfolding(crate::specs::Indexed::indexed_tests, machine::specs::Call::pass_tests, machine::specs::Call::head_test, indexes::specs::Index::index_test, line::specs::Test::line_test, answers::specs::Refuse::refuse))]
 fn refuse_indexed(
     table_length: usize,
     glyphs: &[u16],
@@ -552,27 +452,19 @@ fn refuse_indexed(
     opens: bool,
     entries: usize,
     another: bool,
-) -> Check
+) -> Result<(), Refusal>
     ensures { result ≡ refuse (indexed_tests table_length (line_of glyphs.now tags.now homes.now used) opens entries
         another) }
 {
-    if let Check::Refused(why) = machine::refuse_pass(
-        table_length,
-        glyphs,
-        tags,
-        homes,
-        used,
-        opens,
-    ) {
-        return Check::Refused(why);
-    }
+    machine::refuse_pass(table_length, glyphs, tags, homes, used, opens)?;
     if indexes::is_refused(entries, another) {
-        return Check::Refused(Refusal::Index);
+        return Err(Refusal::Index);
     }
-    Check::Passed
+    Ok(())
 }
 
 // The pass over a line, by the morx subtable at `start`, of whatever kind, and an index of the class table that begins at `class_start`.
+#[tactic(auto, using(crate::proofs::Leaves::left_reply, crate::proofs::Leaves::left_glyphs, crate::proofs::Leaves::left_tags, crate::proofs::Leaves::left_homes, crate::proofs::Indexing::index_refused, crate::proofs::Indexing::index_valid, crate::proofs::Indexing::index_worked), unfolding(crate::specs::Indexed::indexed_leaves))]
 pub fn pass_indexed(
     table: &[u8],
     start: usize,
@@ -593,10 +485,10 @@ pub fn pass_indexed(
         (line_of glyphs.old tags.old homes.old used) index.now class_start).homes }
 {
     let bytes = parse::from(table, start);
-    let kind = new_kind_at(bytes);
+    let kind = kind_at(Edition::Morx, bytes);
     let body = parse::from(bytes, 12);
     let another = indexes::is_another(has_classes(kind), body, start, class_start);
-    if let Check::Refused(why) = refuse_indexed(
+    if let Err(why) = refuse_indexed(
         table.len(),
         glyphs,
         tags,
@@ -615,6 +507,7 @@ pub fn pass_indexed(
 }
 
 // The tests before a run: TABLE, REQUEST, LINE, HEAD.
+#[tactic(auto, unfolding(crate::specs::Calls::run_tests, crate::specs::Calls::request_test, crate::specs::Calls::request_limit, line::specs::Test::line_test, chains::specs::Entries::start_test, answers::specs::Refuse::refuse))]
 fn refuse_run(
     table_length: usize,
     start: usize,
@@ -623,26 +516,25 @@ fn refuse_run(
     homes: &[u16],
     used: usize,
     requests: &[u32],
-) -> Check
+) -> Result<(), Refusal>
     ensures { result ≡ refuse (run_tests table_length start (line_of glyphs.now tags.now homes.now used)
         requests.now) }
 {
-    if let Check::Refused(why) = answers::refuse_table(table_length) {
-        return Check::Refused(why);
-    }
+    answers::refuse_table(table_length)?;
     if REQUESTS < requests.len() {
-        return Check::Refused(Refusal::Request);
+        return Err(Refusal::Request);
     }
     if !line::valid::takes(glyphs, tags, homes, used) {
-        return Check::Refused(Refusal::Line);
+        return Err(Refusal::Line);
     }
     if table_length < start {
-        return Check::Refused(Refusal::Head);
+        return Err(Refusal::Head);
     }
-    Check::Passed
+    Ok(())
 }
 
 // The whole run over a line, by the table at `start`, with the features that are asked for.
+#[tactic(auto, using(crate::proofs::Runs::run_reply, crate::proofs::Runs::run_glyphs, crate::proofs::Runs::run_tags, crate::proofs::Runs::run_homes, crate::proofs::Calls::run_taken, crate::proofs::Calls::run_refused, crate::proofs::Calls::run_worked), unfolding(crate::specs::Calls::run_leaves))]
 pub fn run(
     table: &[u8],
     start: usize,
@@ -663,15 +555,7 @@ pub fn run(
     ensures homes { homes.new ≡ (run_leaves table.now start choices
         (line_of glyphs.old tags.old homes.old used) requests.now).homes }
 {
-    if let Check::Refused(why) = refuse_run(
-        table.len(),
-        start,
-        glyphs,
-        tags,
-        homes,
-        used,
-        requests,
-    ) {
+    if let Err(why) = refuse_run(table.len(), start, glyphs, tags, homes, used, requests) {
         return RunReply {
             answer: Answer::Refused(why),
             used,

@@ -1,4 +1,6 @@
 -- The pass adds nothing to the history.
+use Rattle.std.specs.Prelude.{Result, Ok, Err}
+use Rattle.tables.specs.declared.lookup.Why.{Why}
 use Prim.Native.Nat.{ℕ, zero, suc}
 use mathlib.Core.Path.{refl}
 use mathlib.Core.Bool.{Bool, true, false, cond}
@@ -6,8 +8,6 @@ use mathlib.Core.List.{List}
 use lib.ListN.{get_or}
 use Rattle.answers.specs.declared.Refusal.TheVariants as Refusal'
 use Rattle.tables.specs.Lookup.{lookup_at}
-use Rattle.tables.specs.declared.lookup.Found.{Found}
-use Rattle.tables.specs.declared.lookup.Found.TheVariants as Found'
 use Rattle.line.specs.Line.{Line, Valid}
 use Rattle.line.specs.Edits.{inserted}
 use Rattle.line.specs.Changes.{edits_of, history_of}
@@ -18,12 +18,12 @@ use Rattle.machine.specs.Machine.{refused_pass}
 use Rattle.noncontextual.specs.NonContextual.{writes_of, writes_below, passed, noncontextual}
 
 -- a glyph that is written moves nobody
-quiet_writes : (place : ℕ) (found : Found) → Quiet (writes_of place found)
+quiet_writes : (place : ℕ) (found : Result ℕ Why) → Quiet (writes_of place found)
 unfolding history_of edits_of inserted
-quiet_writes place (Found'.At glyph) = refl
-quiet_writes place (Found'.Nothing why) = refl
+quiet_writes place (Ok glyph) = refl
+quiet_writes place (Err why) = refl
 
-quiet_below : (lookup : ℕ → Found) (glyphs : List ℕ) (n : ℕ) → Quiet (writes_below lookup glyphs n)
+quiet_below : (lookup : ℕ → Result ℕ Why) (glyphs : List ℕ) (n : ℕ) → Quiet (writes_below lookup glyphs n)
 unfolding writes_below
 quiet_below lookup glyphs zero = quiet_none
 quiet_below lookup glyphs (suc n) =
@@ -31,7 +31,7 @@ quiet_below lookup glyphs (suc n) =
     (quiet_below lookup glyphs n) (quiet_writes n (lookup (get_or glyphs n 0)))
 
 -- by any lookup
-pub quiet_pass : (lookup : ℕ → Found) (l : Line) → Quiet (passed lookup l).changes
+pub quiet_pass : (lookup : ℕ → Result ℕ Why) (l : Line) → Quiet (passed lookup l).changes
 unfolding passed
 quiet_pass lookup l = quiet_below lookup l.glyphs l.used
 

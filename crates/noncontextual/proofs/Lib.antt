@@ -1,5 +1,4 @@
 -- Laws of the non-contextual pass.
-mod Calls
 mod Memos
 mod Passes
 pub mod Honesty

@@ -1,108 +1,110 @@
--- The pass's loop: the places below i are done, and the others are as they were.
-use Prim.Native.Nat.{ℕ, ◌+◌, ◌<◌, ◌≤◌}
+-- A pass replaces each glyph below the used length by what is found for it, and leaves the others.
+use Rattle.std.specs.Prelude.{Option, Result, Ok, Err}
+use Rattle.std.specs.Result.{result_unwrap_or}
+use Rattle.tables.specs.declared.lookup.Why.{Why}
+use Prim.Native.Nat.{ℕ, zero, suc, ◌<◌, ◌≤◌}
 use mathlib.Core.Path.{◌≡◌, refl, sym, ◌∙◌, ap, subst⁻¹}
 use mathlib.Core.List.{List}
-use native.Mathlib.Numerals.{add-one}
+use mathlib.Core.Logic.{⊎_elim}
 use native.Mathlib.Omega.{arith}
 use lib.ListN.{length, get_or, set, length-set}
-use lib.Seq.{get_or-set_other, set-get_or}
+use lib.Seq.{get_or-set_same, get_or-set_other, set-get_or, ext_get_or}
 use borrow.Author.Tests.{lt-ltb}
+use Rattle.laws.proofs.Numbers.{eq-or-ne, lt-or-ge}
 use Rattle.tables.specs.Lookup.{lookup_at}
 use Rattle.tables.specs.Opened.{opened_of, plain, found_in, LiesIn}
 use Rattle.tables.specs.Whole.{becomes}
-use Rattle.tables.specs.declared.opened.Opened.{Opened}
-use Rattle.tables.specs.declared.lookup.Found.{Found}
-use Rattle.tables.specs.declared.lookup.Found.TheVariants as Found'
+use Rattle.tables.specs.declared.opened.Array.{Array}
 use Rattle.tables.proofs.Openings.{opened-same, opened-lies}
 use Rattle.line.specs.Line.{Line, line_of}
 use Rattle.line.specs.Changes.{written, apply, apply_all}
 use Rattle.line.proofs.Histories.{apply_all-append}
 use Rattle.noncontextual.specs.NonContextual.{writes_of, writes_below, passed}
-use Rattle.noncontextual.specs.Work.{replaced, becomes_by, passed_leaves}
+use Rattle.noncontextual.specs.Work.{replaced, passed_leaves}
 
 -- a replacement is the writes of its place
-replaced-line : (place : ℕ) (found : Found) (glyphs tags homes : List ℕ) (used : ℕ)
+replaced-line : (place : ℕ) (found : Result ℕ Why) (glyphs tags homes : List ℕ) (used : ℕ)
     → line_of (replaced used place found glyphs) tags homes used ≡ apply_all (writes_of place found) (line_of glyphs tags homes used)
 unfolding apply_all apply
-replaced-line place (Found'.At glyph) glyphs tags homes used = refl
-replaced-line place (Found'.Nothing why) glyphs tags homes used = refl
-
--- it touches no other place
-replaced-other : (place : ℕ) (found : Found) (glyphs : List ℕ) (used : ℕ) → place < used
-    → (k : ℕ) → place < k → get_or (replaced used place found glyphs) k 0 ≡ get_or glyphs k 0
-unfolding written
-replaced-other place (Found'.At glyph) glyphs used h k p = rw (lt-ltb place used h) (get_or-set_other glyphs place k glyph 0 (omega arith))
-replaced-other place (Found'.Nothing why) glyphs used h k p = refl
-
--- a lookup that was opened lies in its bytes
-pub opened_inside : (body : List ℕ) {opened : Opened} → opened ≡ opened_of body → LiesIn body opened
-opened_inside body o = subst⁻¹ (λ (x : Opened). LiesIn body x) o (opened-lies body)
-
--- why nothing is found does not matter to it
-replaced-plain : (used place : ℕ) (found : Found) (glyphs : List ℕ) → replaced used place (plain found) glyphs ≡ replaced used place found glyphs
-replaced-plain used place (Found'.At glyph) glyphs = refl
-replaced-plain used place (Found'.Nothing why) glyphs = refl
+replaced-line place (Ok glyph) glyphs tags homes used = refl
+replaced-line place (Err why) glyphs tags homes used = refl
 
 -- a glyph of the line that becomes itself stays
-becomes-replaced : (used place : ℕ) (found : Found) (glyphs : List ℕ) → place < used
+becomes-replaced : (used place : ℕ) (found : Result ℕ Why) (glyphs : List ℕ) → place < used
     → set glyphs place (becomes (get_or glyphs place 0) found) ≡ replaced used place found glyphs
 unfolding written
-becomes-replaced used place (Found'.At glyph) glyphs h = rw (lt-ltb place used h)
-becomes-replaced used place (Found'.Nothing why) glyphs h = set-get_or glyphs place 0
+becomes-replaced used place (Ok glyph) glyphs h = rw (lt-ltb place used h)
+becomes-replaced used place (Err why) glyphs h = set-get_or glyphs place 0
 
-module _ (lookup : ℕ → Found) (glyphs₀ tags homes : List ℕ) (used : ℕ) where
-  -- what the loop knows at place i
-  pub record Going (glyphs : List ℕ) (i : ℕ) : Type 0 where
-    pub within : i ≤ used
-    pub made : line_of glyphs tags homes used ≡ apply_all (writes_below lookup glyphs₀ i) (line_of glyphs₀ tags homes used)
-    pub ahead : (k : ℕ) → i ≤ k → get_or glyphs k 0 ≡ get_or glyphs₀ k 0
-    pub long : length glyphs ≡ length glyphs₀
+module _ (lookup : ℕ → Result ℕ Why) (glyphs tags homes : List ℕ) (used : ℕ) where
+  becoming : ℕ → ℕ
+  becoming k = becomes (get_or glyphs k 0) (lookup (get_or glyphs k 0))
 
-  pub going_step : {glyphs glyphs' : List ℕ} {i : ℕ} → Going glyphs i → i < used
-      → glyphs' ≡ replaced used i (lookup (get_or glyphs i 0)) glyphs → length glyphs' ≡ length glyphs → Going glyphs' (i + 1)
-  unfolding writes_below
-  going_step {glyphs} {glyphs'} {i} g h e len =
-      let found = lookup (get_or glyphs₀ i 0) in
-      let e' : glyphs' ≡ replaced used i found glyphs = e ∙ ap (λ (x : ℕ). replaced used i (lookup x) glyphs) (g.ahead i (omega arith)) in
+  -- the glyphs once the first n have become what they do
+  after : ℕ → List ℕ
+  after zero = glyphs
+  after (suc n) = set (after n) n (becoming n)
+
+  record After (n : ℕ) : Type 0 where
+    long : length (after n) ≡ length glyphs
+    done : (k : ℕ) → k < n → get_or (after n) k 0 ≡ becoming k
+    ahead : (k : ℕ) → n ≤ k → get_or (after n) k 0 ≡ get_or glyphs k 0
+    made : line_of (after n) tags homes used ≡ apply_all (writes_below lookup glyphs n) (line_of glyphs tags homes used)
+
+  after_is : used ≤ length glyphs → (n : ℕ) → n ≤ used → After n
+  unfolding after becoming writes_below apply_all
+  after_is h zero p = record { long = refl; done = λ k m. absurd (omega arith); ahead = λ k m. refl; made = refl }
+  after_is h (suc n) p =
+      let a = after_is h n (omega arith) in
+      let found = lookup (get_or glyphs n 0) in
+      let r : after (suc n) ≡ replaced used n found (after n) =
+      ap (λ (x : ℕ). set (after n) n (becomes x found)) (sym (a.ahead n (omega arith))) ∙ becomes-replaced used n found (after n) (omega arith) in
       record {
-        within = omega arith;
+        long = length-set (after n) n (becoming n) ∙ a.long;
+        done = λ k m.
+            ⊎_elim
+            (λ (e : k ≡ n). subst⁻¹ (λ (q : ℕ). get_or (after (suc n)) q 0 ≡ becoming q) e (get_or-set_same (after n) n (becoming n) 0 (omega (arith, a.long))))
+            (λ (ne : k ≡ n → ⊥). get_or-set_other (after n) n k (becoming n) 0 ne ∙ a.done k (omega (arith, ne)))
+            (eq-or-ne k n);
+        ahead = λ k m. get_or-set_other (after n) n k (becoming n) 0 (omega arith) ∙ a.ahead k (omega arith);
         made =
-            ap (λ (x : List ℕ). line_of x tags homes used) e'
-            ∙ replaced-line i found glyphs tags homes used
-            ∙ ap (apply_all (writes_of i found)) g.made
-            ∙ sym (apply_all-append (writes_below lookup glyphs₀ i) (writes_of i found) (line_of glyphs₀ tags homes used))
-            ∙ ap (λ (n : ℕ). apply_all (writes_below lookup glyphs₀ n) (line_of glyphs₀ tags homes used)) (sym (add-one i));
-        ahead = λ k p. ap (λ (x : List ℕ). get_or x k 0) e' ∙ replaced-other i found glyphs used h k (omega arith) ∙ g.ahead k (omega arith);
-        long = len ∙ g.long;
+            ap (λ (x : List ℕ). line_of x tags homes used) r
+            ∙ replaced-line n found (after n) tags homes used
+            ∙ ap (apply_all (writes_of n found)) a.made
+            ∙ sym (apply_all-append (writes_below lookup glyphs n) (writes_of n found) (line_of glyphs tags homes used));
       }
 
-  pub going_done : {glyphs : List ℕ} {i : ℕ} → Going glyphs i → used ≤ i → glyphs ≡ (passed_leaves lookup (line_of glyphs₀ tags homes used)).glyphs
-  unfolding passed_leaves passed
-  going_done {glyphs} {i} g h =
-      let n : i ≡ used = omega (arith, g.within) in
-      ap (λ (l : Line). l.glyphs) (g.made ∙ ap (λ (n : ℕ). apply_all (writes_below lookup glyphs₀ n) (line_of glyphs₀ tags homes used)) n)
+  pub passed_each : {left : List ℕ} → used ≤ length glyphs → length left ≡ length glyphs
+      → ((k : ℕ) → k < used → get_or left k 0 ≡ becomes (get_or glyphs k 0) (lookup (get_or glyphs k 0)))
+      → ((k : ℕ) → used ≤ k → get_or left k 0 ≡ get_or glyphs k 0) → left ≡ (passed_leaves lookup (line_of glyphs tags homes used)).glyphs
+  unfolding passed_leaves passed becoming
+  passed_each {left} h long done ahead =
+      let a = after_is h used (omega arith) in
+      ext_get_or 0 left (after used) (long ∙ sym a.long)
+      (λ k m.
+      ⊎_elim
+      (λ (p : k < used). done k p ∙ sym (a.done k p))
+      (λ (p : used ≤ k). ahead k p ∙ sym (a.ahead k p))
+      (lt-or-ge k used))
+      ∙ ap (λ (l : Line). l.glyphs) a.made
 
-pub going_start : (lookup : ℕ → Found) (glyphs tags homes : List ℕ) (used : ℕ) → Going lookup glyphs tags homes used glyphs 0
-unfolding writes_below apply_all
-going_start lookup glyphs tags homes used = record { within = omega arith; made = refl; ahead = λ k p. refl; long = refl }
+-- what is found, or the glyph
+pub found_or : (glyph : ℕ) (found : Result ℕ Why) → result_unwrap_or found glyph ≡ becomes glyph found
+found_or glyph (Ok element) = refl
+found_or glyph (Err why) = refl
 
-module _ (body glyphs₀ tags homes : List ℕ) (used : ℕ) where
-  -- a lookup that was opened
-  pub going_found : {glyphs glyphs' : List ℕ} {i : ℕ} {opened : Opened} → opened ≡ opened_of body → Going (lookup_at body) glyphs₀ tags homes used glyphs i → i < used
-      → glyphs' ≡ replaced used i (found_in body opened (get_or glyphs i 0)) glyphs → length glyphs' ≡ length glyphs → Going (lookup_at body) glyphs₀ tags homes used glyphs' (i + 1)
-  going_found {glyphs} {glyphs'} {i} o g h e len =
-      let glyph = get_or glyphs i 0 in
-      let e' : glyphs' ≡ replaced used i (lookup_at body glyph) glyphs =
-      e
-      ∙ ap (λ (x : Opened). replaced used i (found_in body x glyph) glyphs) o
-      ∙ ap (λ (found : Found). replaced used i found glyphs) (opened-same body glyph)
-      ∙ replaced-plain used i (lookup_at body glyph) glyphs in
-      going_step (lookup_at body) glyphs₀ tags homes used g h e' len
+-- a lookup that was opened lies in its bytes
+pub opened_inside : (body : List ℕ) {opened : Option Array} → opened ≡ opened_of body → LiesIn body opened
+opened_inside body o = subst⁻¹ (λ (x : Option Array). LiesIn body x) o (opened-lies body)
 
-  -- what becomes of the glyph
-  pub going_becomes : {glyphs : List ℕ} {i becoming : ℕ} → Going (lookup_at body) glyphs₀ tags homes used glyphs i → i < used → becoming ≡ becomes_by body (get_or glyphs i 0) → Going (lookup_at body) glyphs₀ tags homes used (set glyphs i becoming) (i + 1)
-  unfolding becomes_by
-  going_becomes {glyphs} {i} {becoming} g h e =
-      going_step (lookup_at body) glyphs₀ tags homes used g h
-      (ap (set glyphs i) e ∙ becomes-replaced used i (lookup_at body (get_or glyphs i 0)) glyphs h)
-      (length-set glyphs i becoming)
+-- and gives what becomes of each glyph: why nothing is found does not matter to it
+becomes-plain : (glyph : ℕ) (found : Result ℕ Why) → becomes glyph (plain found) ≡ becomes glyph found
+becomes-plain glyph (Ok element) = refl
+becomes-plain glyph (Err why) = refl
+
+pub opened_becomes : (body : List ℕ) (glyph : ℕ) {opened : Option Array} → opened ≡ opened_of body
+    → becomes glyph (found_in body opened glyph) ≡ becomes glyph (lookup_at body glyph)
+opened_becomes body glyph o =
+    ap (λ (x : Option Array). becomes glyph (found_in body x glyph)) o
+    ∙ ap (becomes glyph) (opened-same body glyph)
+    ∙ becomes-plain glyph (lookup_at body glyph)

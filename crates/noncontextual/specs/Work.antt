@@ -1,22 +1,21 @@
 -- For the code alone; no entry and no promise rests on it, and nobody has to believe it. What the parts of the code leave: a lookup on the glyphs
 -- alone, a pass without its tests, and what is remembered of a lookup that is searched.
-use Rattle.std.specs.Prelude.{ℕ, ◌+◌, ◌*◌, ◌/◌, ◌%◌, ◌≡◌, List, length, get_or, set, replicate}
+use Rattle.tables.specs.declared.lookup.Why.{Why}
+use Rattle.std.specs.Prelude.{ℕ, ◌+◌, ◌*◌, ◌/◌, ◌%◌, ◌≡◌, List, length, get_or, set, replicate, Result, Ok, Err}
 use Rattle.laws.specs.Choose.{if_eq}
 use Rattle.tables.specs.Lookup.{lookup_at}
 use Rattle.tables.specs.Whole.{becomes}
-use Rattle.tables.specs.declared.lookup.Found.{Found}
-use Rattle.tables.specs.declared.lookup.Found.TheVariants as Found'
 use Rattle.line.specs.Line.{Line}
 use Rattle.line.specs.Changes.{written, apply_all}
 use Rattle.noncontextual.specs.NonContextual.{passed}
 
 -- what a lookup does at a place, on the glyphs alone
-abbrev pub replaced : (used place : ℕ) → Found → List ℕ → List ℕ
-replaced used place (Found'.At glyph) glyphs = written used place glyph glyphs
-replaced used place (Found'.Nothing why) glyphs = glyphs
+abbrev pub replaced : (used place : ℕ) → Result ℕ Why → List ℕ → List ℕ
+replaced used place (Ok glyph) glyphs = written used place glyph glyphs
+replaced used place (Err why) glyphs = glyphs
 
 -- the line that a pass leaves
-unfoldable pub passed_leaves : (lookup : ℕ → Found) → Line → Line
+unfoldable pub passed_leaves : (lookup : ℕ → Result ℕ Why) → Line → Line
 passed_leaves lookup l = apply_all (passed lookup l).changes l
 
 -- what becomes of a glyph

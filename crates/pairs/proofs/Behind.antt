@@ -1,4 +1,6 @@
 -- More bytes behind a subtable change nothing for pairs whose numbers are not cut short without them.
+use Rattle.std.specs.Prelude.{Option, Some, None, Result, Ok, Err, ℤ}
+use Rattle.tables.specs.declared.lookup.Why.{Why}
 use Prim.Native.Nat.{ℕ, zero, suc, ◌+◌, ◌<◌}
 use mathlib.Core.Path.{◌≡◌, refl, ◌∙◌, ap, ap₂}
 use mathlib.Core.Bool.{Bool, true, false, cond}
@@ -6,8 +8,6 @@ use mathlib.Core.List.{List, [], ◌++◌}
 use native.Mathlib.Omega.{arith}
 use lib.ListN.{get_or}
 use Rattle.parse.specs.Reads.{read_i16}
-use Rattle.parse.specs.declared.ReadI16.{ReadI16}
-use Rattle.parse.specs.declared.ReadI16.TheVariants as I16
 use Rattle.parse.proofs.Behind.{Begins, Stays, begins_from, read_i16_stays, on_u32_stays}
 use Rattle.tables.specs.Records.{pair_place}
 use Rattle.tables.specs.declared.records.Keys.TheVariants as Keys'
@@ -15,8 +15,6 @@ use Rattle.tables.specs.declared.records.Spot.{Spot}
 use Rattle.tables.specs.declared.records.Spot.TheVariants as Spot'
 use Rattle.tables.specs.declared.units.Reading.{Reading}
 use Rattle.tables.specs.declared.lookup.Why.TheVariants.{NotCovered, CutShort, UnknownFormat}
-use Rattle.tables.specs.declared.lookup.Found.{Found}
-use Rattle.tables.specs.declared.lookup.Found.TheVariants as Found'
 use Rattle.tables.proofs.Behind.{search_stays, lookup_stays}
 use Rattle.answers.specs.declared.Answer.TheVariants as Answer'
 use Rattle.kerning.specs.Additions.{Addition}
@@ -26,30 +24,28 @@ use Rattle.pairs.specs.Pairs.{ordered_kerx, classes_kerx, number_read, number_at
 use Rattle.pairs.specs.Pass.{addition_of, Before, none, place, last_below, with_before, pairs_below, counts, worked_by}
 use Rattle.pairs.specs.declared.PairTable.{PairTable}
 use Rattle.pairs.specs.declared.PairTable.TheVariants.{Ordered, Classes}
-use Rattle.pairs.specs.declared.Opened.{Opened}
-use Rattle.pairs.specs.declared.Opened.TheVariants.{Ready, Short}
-use Rattle.pairs.specs.declared.Number.{Number}
-use Rattle.pairs.specs.declared.Number.TheVariants.{Nothing}
+use Rattle.kerning.specs.declared.heads.Unready.{Unready}
+use Rattle.kerning.specs.declared.heads.Unready.TheVariants.{Short}
 
-abbrev Numbers : (own whole : Number) → Type 0
-Numbers own whole = Stays (Nothing CutShort) own whole
+abbrev Numbers : (own whole : Result ℤ Why) → Type 0
+Numbers own whole = Stays (Err CutShort) own whole
 
 -- what is made of a class
-class-used : (found found' : Found) → Stays (Found'.Nothing CutShort) found found' → (f g : ℕ → Number) → ((class : ℕ) → Numbers (f class) (g class))
+class-used : (found found' : Result ℕ Why) → Stays (Err CutShort) found found' → (f g : ℕ → Result ℤ Why) → ((class : ℕ) → Numbers (f class) (g class))
     → Numbers (on_class found f) (on_class found' g)
-class-used (Found'.At class) found' e f g same not = rw (e (λ p. let z : ◌≡◌ {A = ℕ} 0 1 = cc in omega arith)) (same class not)
-class-used (Found'.Nothing NotCovered) found' e f g same not = rw (e (λ p. let z : ◌≡◌ {A = ℕ} 0 1 = cc in omega arith))
-class-used (Found'.Nothing UnknownFormat) found' e f g same not = rw (e (λ p. let z : ◌≡◌ {A = ℕ} 0 1 = cc in omega arith))
-class-used (Found'.Nothing CutShort) found' e f g same not = absurd (not refl)
+class-used (Ok class) found' e f g same not = rw (e (λ p. let z : ◌≡◌ {A = ℕ} 0 1 = cc in omega arith)) (same class not)
+class-used (Err NotCovered) found' e f g same not = rw (e (λ p. let z : ◌≡◌ {A = ℕ} 0 1 = cc in omega arith))
+class-used (Err UnknownFormat) found' e f g same not = rw (e (λ p. let z : ◌≡◌ {A = ℕ} 0 1 = cc in omega arith))
+class-used (Err CutShort) found' e f g same not = absurd (not refl)
 
 module _ {own whole : List ℕ} (b : Begins own whole) where
   number_stays : (at : ℕ) → Numbers (number_at own at) (number_at whole at)
   unfolding number_at
   number_stays at = go (read_i16 own at) (read_i16_stays b at)
     where
-      go : (r : ReadI16) → Stays I16.Short r (read_i16 whole at) → Numbers (number_read r) (number_read (read_i16 whole at))
-      go (I16.Got n) e not = rw (e (λ p. let z : ◌≡◌ {A = ℕ} 0 1 = cc in omega arith))
-      go I16.Short e not = absurd (not refl)
+      go : (r : Option ℤ) → Stays None r (read_i16 whole at) → Numbers (number_read r) (number_read (read_i16 whole at))
+      go (Some n) e not = rw (e (λ p. let z : ◌≡◌ {A = ℕ} 0 1 = cc in omega arith))
+      go None e not = absurd (not refl)
 
   -- ordered pairs
   spot_stays : (first : ℕ) (spot spot' : Spot) → Stays Spot'.Cut spot spot' → Numbers (number_in own first spot) (number_in whole first spot')
@@ -74,22 +70,22 @@ module _ {own whole : List ℕ} (b : Begins own whole) where
   class_stays rows columns array reading left right =
       class-used _ _ (lookup_stays (begins_from rows b) reading left) _ _ (λ row. row_stays columns reading (array + row) right)
 
-  pub pair_stays : (pairs : PairTable) (left right : ℕ) → Stays (Nothing CutShort) (pair_number own pairs left right) (pair_number whole pairs left right)
+  pub pair_stays : (pairs : PairTable) (left right : ℕ) → Stays (Err CutShort) (pair_number own pairs left right) (pair_number whole pairs left right)
   unfolding pair_number
   pair_stays (Ordered first count) left right = ordered_stays first count left right
   pair_stays (Classes rows columns array reading) left right = class_stays rows columns array reading left right
 
   -- the openings
-  pub ordered-opens : Stays Short (ordered_kerx own) (ordered_kerx whole)
+  pub ordered-opens : Stays (Err Short) (ordered_kerx own) (ordered_kerx whole)
   unfolding ordered_kerx
   ordered-opens = on_u32_stays b 12 _ _ (λ count not. refl)
 
-  pub classes_open : (reading : Reading) → Stays Short (classes_kerx own reading) (classes_kerx whole reading)
+  pub classes_open : (reading : Reading) → Stays (Err Short) (classes_kerx own reading) (classes_kerx whole reading)
   unfolding classes_kerx
   classes_open reading = on_u32_stays b 16 _ _ (λ rows. on_u32_stays b 20 _ _ (λ columns. on_u32_stays b 24 _ _ (λ array not. refl)))
 
 -- the pairs of a line, by numbers that are the same for each
-module _ (counted : ℕ → Bool) (number number' : (left right : ℕ) → Number) (glyphs : List ℕ) where
+module _ (counted : ℕ → Bool) (number number' : (left right : ℕ) → Result ℤ Why) (glyphs : List ℕ) where
   abbrev SameBelow : ℕ → Type 0
   SameBelow n =
       (p q : ℕ) → q < n → counted q ≡ true → last_below counted q ≡ place p → number' (get_or glyphs p 0) (get_or glyphs q 0) ≡ number (get_or glyphs p 0) (get_or glyphs q 0)
@@ -110,12 +106,12 @@ module _ (counted : ℕ → Bool) (number number' : (left right : ℕ) → Numbe
   pairs-same (suc n) same = ap₂ (λ (xs ys : List Addition). xs ++ ys) (pairs-same n (λ p q h e f. same p q (omega arith) e f)) (here-same n same)
 
 -- the pass: what is opened from the own bytes is what is opened from the whole, and each pair has its number
-pub pass_stays : {own whole : List ℕ} → Begins own whole → (opened opened' : Opened) → Stays Short opened opened' → (glyphs : List ℕ) (used : ℕ) (rule : PairRule)
+pub pass_stays : {own whole : List ℕ} → Begins own whole → (opened opened' : Result PairTable Unready) → Stays (Err Short) opened opened' → (glyphs : List ℕ) (used : ℕ) (rule : PairRule)
     → PairsInside own opened glyphs used rule → worked_by whole opened' glyphs used rule ≡ worked_by own opened glyphs used rule
 unfolding worked_by
 pass_stays {own} {whole} b opened opened' stays glyphs used rule inside =
     let f = inside.opens in
-    let e : opened' ≡ Ready inside.pairs = stays (λ p. let z : ◌≡◌ {A = ℕ} 0 1 = cc in omega arith) ∙ f in
+    let e : opened' ≡ Ok inside.pairs = stays (λ p. let z : ◌≡◌ {A = ℕ} 0 1 = cc in omega arith) ∙ f in
     rw (e, f)
     (ap (λ (xs : List Addition). record { answer = Answer'.Done; additions = xs })
     (pairs-same (counts rule glyphs) (pair_number own inside.pairs) (pair_number whole inside.pairs) glyphs used

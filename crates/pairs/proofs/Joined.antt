@@ -1,4 +1,6 @@
 -- Joined pairs: the loop's additions are those of the pairs that the sentence describes, and on a line without deleted glyphs those of neighbours.
+use Rattle.std.specs.Prelude.{Result, Ok, Err, ℤ}
+use Rattle.tables.specs.declared.lookup.Why.{Why}
 use Prim.Native.Nat.{ℕ, zero, suc, ◌+◌, ◌-◌, ◌<◌, ◌≤◌}
 use mathlib.Core.Path.{◌≡◌, refl, sym, ◌∙◌, ap, ap₂, subst}
 use mathlib.Core.Bool.{Bool, true, false, cond}
@@ -15,10 +17,7 @@ use Rattle.pairs.specs.Pairs.{pair_number}
 use Rattle.pairs.specs.Pass.{addition_of, Before, none, place as placed, last_below, with_before, pairs_below, every_place, counts, worked_by}
 use Rattle.pairs.specs.Joined.{JoinedPair, to_place, AddedBy}
 use Rattle.pairs.specs.declared.PairTable.{PairTable}
-use Rattle.pairs.specs.declared.Opened.{Opened}
-use Rattle.pairs.specs.declared.Opened.TheVariants.{Ready, Short, Tupled}
-use Rattle.pairs.specs.declared.Number.{Number}
-use Rattle.pairs.specs.declared.Number.TheVariants.{By, Nothing}
+use Rattle.kerning.specs.declared.heads.Unready.{Unready}
 use Rattle.pairs.proofs.Passes.{last-counted, last-skipped, last-over, below_next}
 
 -- the additions to a place
@@ -32,15 +31,15 @@ to_append p (a ∷ xs) ys = go (eqb a.place p) (to_append p xs ys)
     go true e = ap (λ (x : List Addition). a ∷ x) e
     go false e = e
 
-to_same : (p : ℕ) (n : Number) → to_place p (addition_of p n) ≡ addition_of p n
+to_same : (p : ℕ) (n : Result ℤ Why) → to_place p (addition_of p n) ≡ addition_of p n
 unfolding to_place
-to_same p (By z) = rw (eq-eqb p p refl)
-to_same p (Nothing why) = refl
+to_same p (Ok z) = rw (eq-eqb p p refl)
+to_same p (Err why) = refl
 
-to_other : (p q : ℕ) (n : Number) → (q ≡ p → ⊥) → to_place p (addition_of q n) ≡ []
+to_other : (p q : ℕ) (n : Result ℤ Why) → (q ≡ p → ⊥) → to_place p (addition_of q n) ≡ []
 unfolding to_place
-to_other p q (By z) h = rw (ne_eqb q p h)
-to_other p q (Nothing why) h = refl
+to_other p q (Ok z) h = rw (ne_eqb q p h)
+to_other p q (Err why) h = refl
 
 abbrev place_of : Before → ℕ
 place_of none = 0
@@ -90,7 +89,7 @@ module _ (counts : ℕ → Bool) where
   both_ways : {k : ℕ} → counts k ≡ true → counts k ≡ false → ⊥
   both_ways a b = let z : ◌≡◌ {A = ℕ} 0 1 = cc in absurd (omega arith)
 
-  module _ (number : (left right : ℕ) → Number) (glyphs : List ℕ) where
+  module _ (number : (left right : ℕ) → Result ℤ Why) (glyphs : List ℕ) where
     abbrev below : ℕ → List Addition
     below = pairs_below counts number glyphs
 
@@ -120,7 +119,7 @@ module _ (counts : ℕ → Bool) where
 
     one_to : (p q : ℕ) → Pair p q → to_place p (below (suc q)) ≡ addition_of p (number (get_or glyphs p 0) (get_or glyphs q 0))
     one_to p q h =
-        let n : Number = number (get_or glyphs p 0) (get_or glyphs q 0) in
+        let n : (Result ℤ Why) = number (get_or glyphs p 0) (get_or glyphs q 0) in
         ap (to_place p) (below_next counts number glyphs q p h.second (last_of p q h)) ∙ to_append p (below q) (addition_of p n)
         ∙ ap₂ (λ (x y : List Addition). x ++ y)
         (none_to p q (λ r k g. both_ways g.second (h.between r g.before k)))
@@ -133,7 +132,7 @@ module _ (counts : ℕ → Bool) where
         ∙ step p (d + suc q) (λ c l. both_ways h.second ((last_is (d + suc q) p l).behind q h.before (omega arith)))
         ∙ later_to p q d h
 
-module _ (number : (left right : ℕ) → Number) (glyphs : List ℕ) (used : ℕ) (sixteen : (k : ℕ) → k < used → get_or glyphs k 0 ≤ 0xFFFF) where
+module _ (number : (left right : ℕ) → Result ℤ Why) (glyphs : List ℕ) (used : ℕ) (sixteen : (k : ℕ) → k < used → get_or glyphs k 0 ≤ 0xFFFF) where
   joined : ℕ → Bool
   joined = counts Joined glyphs
 
@@ -172,13 +171,13 @@ module _ (number : (left right : ℕ) → Number) (glyphs : List ℕ) (used : �
       }
 
 pub joined-pairs : (bytes : List ℕ) (pairs : PairTable) (glyphs : List ℕ) (used : ℕ) → ((k : ℕ) → k < used → get_or glyphs k 0 ≤ 0xFFFF)
-    → AddedBy (JoinedPair glyphs used) (pair_number bytes pairs) glyphs (worked_by bytes (Ready pairs) glyphs used Joined).additions
+    → AddedBy (JoinedPair glyphs used) (pair_number bytes pairs) glyphs (worked_by bytes (Ok pairs) glyphs used Joined).additions
 unfolding worked_by
 joined-pairs bytes pairs glyphs used sixteen = added_by_joined (pair_number bytes pairs) glyphs used sixteen
 
 -- by the neighbour rule every place counts
 pub neighbours_all : (bytes : List ℕ) (pairs : PairTable) (glyphs : List ℕ) (used : ℕ)
-    → (worked_by bytes (Ready pairs) glyphs used Neighbours).additions ≡ pairs_below every_place (pair_number bytes pairs) glyphs used
+    → (worked_by bytes (Ok pairs) glyphs used Neighbours).additions ≡ pairs_below every_place (pair_number bytes pairs) glyphs used
 unfolding worked_by
 neighbours_all bytes pairs glyphs used = refl
 
@@ -190,7 +189,7 @@ module _ (f g : ℕ → Bool) where
   last-same (suc n) h =
       ap₂ (λ (t : Bool) (b : Before). cond t (placed n) b) (h n (omega arith)) (last-same n (λ k l. h k (omega arith)))
 
-  below-same : (number : (left right : ℕ) → Number) (glyphs : List ℕ) (n : ℕ) → ((k : ℕ) → k < n → f k ≡ g k)
+  below-same : (number : (left right : ℕ) → Result ℤ Why) (glyphs : List ℕ) (n : ℕ) → ((k : ℕ) → k < n → f k ≡ g k)
       → pairs_below f number glyphs n ≡ pairs_below g number glyphs n
   unfolding pairs_below
   below-same number glyphs zero h = refl
@@ -199,10 +198,9 @@ module _ (f g : ℕ → Bool) where
       (ap₂ (λ (t : Bool) (b : Before). cond t (with_before f number glyphs b n) []) (h n (omega arith)) (last-same n (λ k l. h k (omega arith))))
 
 -- without a deleted glyph both rules add the same
-pub joined_without_deleted : (bytes : List ℕ) (opened : Opened) (glyphs : List ℕ) (used : ℕ) → ((k : ℕ) → k < used → get_or glyphs k 0 < 0xFFFF)
+pub joined_without_deleted : (bytes : List ℕ) (opened : Result PairTable Unready) (glyphs : List ℕ) (used : ℕ) → ((k : ℕ) → k < used → get_or glyphs k 0 < 0xFFFF)
     → worked_by bytes opened glyphs used Joined ≡ worked_by bytes opened glyphs used Neighbours
 unfolding worked_by
-joined_without_deleted bytes (Ready pairs) glyphs used all =
+joined_without_deleted bytes (Ok pairs) glyphs used all =
     rw (below-same (counts Joined glyphs) (counts Neighbours glyphs) (pair_number bytes pairs) glyphs used (λ k h. lt-ltb (get_or glyphs k 0) 0xFFFF (all k h)))
-joined_without_deleted bytes Short glyphs used all = refl
-joined_without_deleted bytes Tupled glyphs used all = refl
+joined_without_deleted bytes (Err why) glyphs used all = refl

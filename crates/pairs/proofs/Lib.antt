@@ -1,5 +1,4 @@
 -- Laws of kerning pairs.
-mod Laws
 mod Scans
 pub mod Passes
 pub mod Manual

@@ -1,6 +1,8 @@
 -- The pair pass's loops: over a stretch of places that count, and over the stretches.
+use Rattle.std.specs.Prelude.{Option, Result, Ok, Err}
+use Rattle.std.specs.Result.{result_ok}
 use Prim.Native.Nat.{ℕ, zero, suc, ◌+◌, ◌-◌, ◌*◌, ◌<◌, ◌≤◌, ◌^◌}
-use mathlib.Core.Path.{◌≡◌, refl, sym, ◌∙◌, ap, ap₂, subst}
+use mathlib.Core.Path.{◌≡◌, refl, sym, ◌∙◌, ap, ap₂, subst, subst⁻¹}
 use mathlib.Core.Bool.{Bool, true, false, cond}
 use mathlib.Core.List.{List, [], ◌++◌, append-nil, append_assoc}
 use native.Mathlib.Numerals.{add-one}
@@ -9,8 +11,7 @@ use mathlib.Core.Logic.{◌⊎◌, inl, inr}
 use lib.IntN.{ℤ}
 use lib.ListN.{length, get_or, drop, length-append}
 use mir.Syntax.{w16}
-use mir.Val.{SFits, to_z, of_z}
-use mir.Facts.{to_z-of_z}
+use mir.Val.{SFits}
 use Rattle.answers.specs.Limits.{room_limit}
 use Rattle.line.proofs.Room.{room_small}
 use borrow.Author.Tests.{leb-true}
@@ -27,31 +28,24 @@ use Rattle.tables.specs.declared.units.Reading.TheVariants.{Crate}
 use Rattle.tables.specs.declared.units.Units.{Units}
 use Rattle.tables.specs.declared.units.Units.TheVariants as Units'
 use Rattle.tables.proofs.Sizes.{in_words_lem, in_crate}
-use Rattle.tables.specs.Opened.{opened_of, plain, found_in}
-use Rattle.tables.specs.declared.opened.Opened as Tables'
-use Rattle.tables.proofs.Openings.{opened-same}
+use Rattle.tables.specs.Opened.{opened_of, plain, LiesIn}
+use Rattle.tables.specs.declared.opened.Array.{Array}
+use Rattle.tables.proofs.Openings.{opened-same, opened-lies}
 use Rattle.tables.specs.declared.records.Keys.TheVariants as Keys'
 use Rattle.tables.specs.declared.records.Spot.{Spot}
 use Rattle.tables.specs.declared.records.Spot.TheVariants as Spot'
 use Rattle.tables.specs.declared.lookup.Why.{Why}
-use Rattle.tables.specs.declared.lookup.Found.{Found}
-use Rattle.tables.specs.declared.lookup.Found.TheVariants as Found'
 use Rattle.kerning.specs.Additions.{Addition, add_at, add_all}
 use Rattle.kerning.specs.Bounds.{Within}
 use Rattle.kerning.specs.declared.choices.PairRule.{PairRule}
 use Rattle.kerning.proofs.Signs.{size_16}
 use Rattle.kerning.proofs.Adding.{length-add_all, add_all-none, add_all-append, within-add_all, within_more, Small, small-none, small_one, small-append}
-use Rattle.pairs.specs.Pairs.{key_of, barred, number_at, number_in, ordered_number, on_class, number_in_row, class_number, pair_number}
-use Rattle.pairs.specs.Reply.{reply_of}
-use Rattle.pairs.specs.declared.PairReply.TheVariants as Reply'
-use Rattle.pairs.specs.Work.{are_words, in_words, is_plain, on_found, opened_number, FirstFrom, stretch, Sized}
+use Rattle.pairs.specs.Pairs.{key_of, number_at, number_in, ordered_number, on_class, number_in_row, class_number, pair_number}
+use Rattle.pairs.specs.Work.{are_words, in_words, is_plain, on_found, opened_number, FirstFrom, added, stretch, Gives, Sized}
 use Rattle.pairs.specs.Pass.{addition_of, Before, none, place as placed, last_below, with_before, pairs_below, counts, worked_by}
 use Rattle.pairs.specs.declared.PairTable.{PairTable}
 use Rattle.pairs.specs.declared.PairTable.TheVariants.{Ordered, Classes}
-use Rattle.pairs.specs.declared.Opened.{Opened}
-use Rattle.pairs.specs.declared.Opened.TheVariants.{Ready, Short, Tupled}
-use Rattle.pairs.specs.declared.Number.{Number}
-use Rattle.pairs.specs.declared.Number.TheVariants.{By, Nothing}
+use Rattle.kerning.specs.declared.heads.Unready.{Unready}
 
 sized-at : (bytes : List ℕ) (place : ℕ) → Sized (number_at bytes place)
 unfolding number_at read_i16
@@ -67,9 +61,9 @@ sized_in bytes first (Spot'.At i) = sized-at bytes (pair_place first i + 4)
 sized_in bytes first Spot'.Absent = tt
 sized_in bytes first Spot'.Cut = tt
 
-sized-class : (found : Found) (then : ℕ → Number) → ((class : ℕ) → Sized (then class)) → Sized (on_class found then)
-sized-class (Found'.At class) then s = s class
-sized-class (Found'.Nothing why) then s = tt
+sized-class : (found : Result ℕ Why) (then : ℕ → Result ℤ Why) → ((class : ℕ) → Sized (then class)) → Sized (on_class found then)
+sized-class (Ok class) then s = s class
+sized-class (Err why) then s = tt
 
 pub sized-ordered : (bytes : List ℕ) (first count left right : ℕ) → Sized (ordered_number bytes first count left right)
 unfolding ordered_number
@@ -82,29 +76,19 @@ sized bytes (Classes rows columns array reading) left right =
     sized-class (lookup_by reading (drop rows bytes) left) _
     (λ row. sized-class (lookup_by reading (drop columns bytes) right) _ (λ column. sized-at bytes (array + row + column)))
 
-pub sized-opened : (bytes rows : List ℕ) (left_rows : Tables'.Opened) (columns : List ℕ) (right_columns : Tables'.Opened) (array left right : ℕ)
-    → Sized (opened_number bytes rows left_rows columns right_columns array left right)
-unfolding opened_number
-sized-opened bytes rows left_rows columns right_columns array left right = go (found_in rows left_rows left) (found_in columns right_columns right)
-  where
-    go : (row column : Found) → Sized (on_found row (λ r. on_found column (λ c. number_at bytes (array + r + c))))
-    go (Found'.At r) (Found'.At c) = sized-at bytes (array + r + c)
-    go (Found'.At r) (Found'.Nothing why) = tt
-    go (Found'.Nothing why) column = tt
-
 -- class pairs in the crate's reading, by the crate's lookup
 pub in_crates : (bytes : List ℕ) (rows columns array left right : ℕ) → pair_number bytes (Classes rows columns array Crate) left right
     ≡ on_class (lookup_at (drop rows bytes) left) (λ row. on_class (lookup_at (drop columns bytes) right) (λ column. number_at bytes (array + row + column)))
 unfolding pair_number class_number number_in_row
 in_crates bytes rows columns array left right =
-    ap₂ (λ (a b : Found). on_class a (λ row. on_class b (λ column. number_at bytes (array + row + column))))
+    ap₂ (λ (a b : Result ℕ Why). on_class a (λ row. on_class b (λ column. number_at bytes (array + row + column))))
     (in_crate (drop rows bytes) left) (in_crate (drop columns bytes) right)
 
 -- and where rows and columns have elements of two bytes, in either reading
-are_words_lem : (units : Units) → are_words units ≡ true → units ≡ Units'.Words
-are_words_lem Units'.Words e = refl
-are_words_lem (Units'.Bytes first count) e = let z : ◌≡◌ {A = ℕ} 0 1 = cc in absurd (omega arith)
-are_words_lem (Units'.None why) e = let z : ◌≡◌ {A = ℕ} 0 1 = cc in absurd (omega arith)
+are_words_lem : (units : Result Units Why) → are_words units ≡ true → units ≡ Ok Units'.Words
+are_words_lem (Ok Units'.Words) e = refl
+are_words_lem (Ok (Units'.Bytes first count)) e = let z : ◌≡◌ {A = ℕ} 0 1 = cc in absurd (omega arith)
+are_words_lem (Err why) e = let z : ◌≡◌ {A = ℕ} 0 1 = cc in absurd (omega arith)
 
 pub words-number : (bytes : List ℕ) (rows columns array : ℕ) (reading : Reading) → in_words bytes rows columns reading ≡ true
     → pair_number bytes (Classes rows columns array Crate) ≡ pair_number bytes (Classes rows columns array reading)
@@ -112,22 +96,26 @@ unfolding in_words pair_number class_number number_in_row
 words-number bytes rows columns array reading e =
     λ i left right. (in_crates bytes rows columns array left right ∙ sym (by_reading left right)) i
   where
-    in_rows : units_by reading (drop rows bytes) ≡ Units'.Words
+    in_rows : units_by reading (drop rows bytes) ≡ Ok Units'.Words
     in_rows = are_words_lem (units_by reading (drop rows bytes)) (both_left (are_words (units_by reading (drop rows bytes))) (are_words (units_by reading (drop columns bytes))) e)
 
-    in_columns : units_by reading (drop columns bytes) ≡ Units'.Words
+    in_columns : units_by reading (drop columns bytes) ≡ Ok Units'.Words
     in_columns = are_words_lem (units_by reading (drop columns bytes)) (both_right (are_words (units_by reading (drop rows bytes))) (are_words (units_by reading (drop columns bytes))) e)
 
     by_reading : (left right : ℕ) → pair_number bytes (Classes rows columns array reading) left right
         ≡ on_class (lookup_at (drop rows bytes) left) (λ row. on_class (lookup_at (drop columns bytes) right) (λ column. number_at bytes (array + row + column)))
     by_reading left right =
-        ap₂ (λ (a b : Found). on_class a (λ row. on_class b (λ column. number_at bytes (array + row + column))))
+        ap₂ (λ (a b : Result ℕ Why). on_class a (λ row. on_class b (λ column. number_at bytes (array + row + column))))
         (in_words_lem reading (drop rows bytes) left in_rows) (in_words_lem reading (drop columns bytes) right in_columns)
 
 -- pairs that have a loop of their own
-pub plain-ordered : (bytes : List ℕ) {pairs : PairTable} {first count : ℕ} → is_plain bytes pairs ≡ true → pairs ≡ Ordered first count → pair_place first count ≤ length bytes
+pub plain_ordered : (bytes : List ℕ) {pairs : PairTable} {first count : ℕ} → is_plain bytes pairs ≡ true → pairs ≡ Ordered first count → pair_place first count ≤ length bytes
 unfolding is_plain
-plain-ordered bytes {pairs} {first} {count} e f = leb-true (pair_place first count) (length bytes) (sym (ap (is_plain bytes) f) ∙ e)
+plain_ordered bytes {pairs} {first} {count} e f = leb-true (pair_place first count) (length bytes) (sym (ap (is_plain bytes) f) ∙ e)
+
+-- what is opened lies inside
+pub opens_inside : (bytes : List ℕ) {opened : Option Array} → opened ≡ opened_of bytes → LiesIn bytes opened
+opens_inside bytes e = subst⁻¹ (LiesIn _) e (opened-lies _)
 
 pub plain-words : (bytes : List ℕ) {pairs : PairTable} {rows columns array : ℕ} {reading : Reading} → is_plain bytes pairs ≡ true
     → pairs ≡ Classes rows columns array reading → pair_number bytes (Classes rows columns array Crate) ≡ pair_number bytes pairs
@@ -135,114 +123,86 @@ unfolding is_plain
 plain-words bytes {pairs} {rows} {columns} {array} {reading} e f =
     words-number bytes rows columns array reading (sym (ap (is_plain bytes) f) ∙ e) ∙ ap (pair_number bytes) (sym f)
 
-pub plain-classes : (bytes glyphs : List ℕ) (before from n : ℕ) (along : List ℤ) {along' : List ℤ} {pairs : PairTable} {rows columns array : ℕ} {reading : Reading}
-    → is_plain bytes pairs ≡ true → pairs ≡ Classes rows columns array reading
-    → along' ≡ add_all (stretch (pair_number bytes (Classes rows columns array Crate)) glyphs before from n) along
-    → along' ≡ add_all (stretch (pair_number bytes pairs) glyphs before from n) along
-plain-classes bytes glyphs before from n along e f a =
-    a ∙ ap (λ (number : ℕ → ℕ → Number). add_all (stretch number glyphs before from n) along) (plain-words bytes e f)
-
--- what opening gives, where tuples are refused or not
-module _ {tupled : Bool} {opened : Opened} where
-  pub barred_not : tupled ≡ false → opened ≡ barred tupled opened
-  unfolding barred
-  barred_not e = rw e
-
-  pub barred_ready : {pairs : PairTable} → tupled ≡ true → opened ≡ Ready pairs → Tupled ≡ barred tupled opened
-  unfolding barred
-  barred_ready e f = rw (e, f)
-
-  pub barred-short : tupled ≡ true → opened ≡ Short → Short ≡ barred tupled opened
-  unfolding barred
-  barred-short e f = rw (e, f)
-
-  pub barred_tupled : tupled ≡ true → opened ≡ Tupled → Tupled ≡ barred tupled opened
-  unfolding barred
-  barred_tupled e f = rw (e, f)
-
 -- by classes whose tables are opened once: the same, but for why there is no number
-module _ (bytes : List ℕ) (rows columns array left right : ℕ) {lefts rights : List ℕ} {left_rows right_columns : Tables'.Opened} {found : Number}
-    (a : lefts ≡ drop rows bytes) (b : rights ≡ drop columns bytes) (o : left_rows ≡ opened_of lefts) (p : right_columns ≡ opened_of rights)
-    (e : found ≡ opened_number bytes lefts left_rows rights right_columns array left right) where
-  opened_is : found ≡ on_found (plain (lookup_at (drop rows bytes) left))
-      (λ row. on_found (plain (lookup_at (drop columns bytes) right)) (λ column. number_at bytes (array + row + column)))
+module _ (bytes : List ℕ) (rows columns array left right : ℕ) {lefts rights : List ℕ} {left_rows right_columns : Option Array}
+    (a : lefts ≡ drop rows bytes) (b : rights ≡ drop columns bytes) (o : left_rows ≡ opened_of lefts) (p : right_columns ≡ opened_of rights) where
+  pub opened_same : opened_number bytes lefts left_rows rights right_columns array left right
+      ≡ result_ok (pair_number bytes (Classes rows columns array Crate) left right)
   unfolding opened_number
-  opened_is = e ∙ rw (o, p, opened-same lefts left, opened-same rights right, a, b)
-
-  pub opened-adds : (place : ℕ) → addition_of place found ≡ addition_of place (pair_number bytes (Classes rows columns array Crate) left right)
-  opened-adds place =
-      ap (addition_of place) opened_is ∙ go (lookup_at (drop rows bytes) left) (lookup_at (drop columns bytes) right)
-      ∙ ap (addition_of place) (sym (in_crates bytes rows columns array left right))
+  opened_same =
+      rw (o, p, opened-same lefts left, opened-same rights right, a, b) (go (lookup_at (drop rows bytes) left) (lookup_at (drop columns bytes) right))
+      ∙ ap result_ok (sym (in_crates bytes rows columns array left right))
     where
-      go : (row column : Found)
-          → addition_of place (on_found (plain row) (λ r. on_found (plain column) (λ c. number_at bytes (array + r + c))))
-          ≡ addition_of place (on_class row (λ r. on_class column (λ c. number_at bytes (array + r + c))))
-      go (Found'.At r) (Found'.At c) = refl
-      go (Found'.At r) (Found'.Nothing why) = refl
-      go (Found'.Nothing why) column = refl
+      go : (row column : Result ℕ Why)
+          → on_found (plain row) (λ r. on_found (plain column) (λ c. result_ok (number_at bytes (array + r + c))))
+          ≡ result_ok (on_class row (λ r. on_class column (λ c. number_at bytes (array + r + c))))
+      go (Ok r) (Ok c) = refl
+      go (Ok r) (Err why) = refl
+      go (Err why) column = refl
 
 -- what one pair adds is small, and one number at most
-small_addition : (place : ℕ) (number : Number) → Sized number → Small (addition_of place number)
-small_addition place (By z) s = small_one (size_16 s)
-small_addition place (Nothing why) s = small-none
+small_addition : (place : ℕ) (number : Result ℤ Why) → Sized number → Small (addition_of place number)
+small_addition place (Ok z) s = small_one (size_16 s)
+small_addition place (Err why) s = small-none
 
-few_addition : (place : ℕ) (number : Number) → length (addition_of place number) ≤ 1
-few_addition place (By z) = omega arith
-few_addition place (Nothing why) = omega arith
+few_addition : (place : ℕ) (number : Result ℤ Why) → length (addition_of place number) ≤ 1
+few_addition place (Ok z) = omega arith
+few_addition place (Err why) = omega arith
 
--- what the code adds
-pub added_by : (place : ℕ) (along : List ℤ) {number : Number} {z : ℤ} {after : List ℤ} → Sized number → number ≡ By z
-    → after ≡ add_at place (to_z w16 (of_z w16 z)) along → after ≡ add_all (addition_of place number) along
+-- what one number of 16 bits adds is small
+pub within_added : (place : ℕ) {z : ℤ} (along : List ℤ) (b : ℕ) → SFits w16 z → Within b along → Within (b + 32768) (add_at place z along)
 unfolding add_all
-added_by place along s f g = rw f (g ∙ ap (λ (x : ℤ). add_at place x along) (to_z-of_z (subst Sized f s)))
+within_added place along b s w = within-add_all along (small_one (size_16 s)) w
 
-module _ (number : (left right : ℕ) → Number) (glyphs : List ℕ) (all : (left right : ℕ) → Sized (number left right)) where
+-- what a call that gave a number adds
+added_is : (place : ℕ) (number : Result ℤ Why) → added place (result_ok number) ≡ addition_of place number
+added_is place (Ok z) = refl
+added_is place (Err why) = refl
+
+module _ (gave : (left right : ℕ) → Option ℤ → Type 0) (glyphs : List ℕ) where
   -- what the loop over a stretch knows: the rest adds what the whole adds
   pub record Stretching (before from stop b : ℕ) (along₀ along : List ℤ) (left place : ℕ) : Type 0 where
     pub begun : left < place
-    pub within : place ≤ stop
-    pub same : add_all (stretch number glyphs left place (stop - place)) along ≡ add_all (stretch number glyphs before from (stop - from)) along₀
+    pub same : (number : (left right : ℕ) → Result ℤ Why) → Gives gave number
+        → add_all (stretch number glyphs left place (stop - place)) along ≡ add_all (stretch number glyphs before from (stop - from)) along₀
     pub long : length along ≡ length along₀
     pub small : Within (b + place * 32768) along
 
-  pub stretching_start : (before from stop b : ℕ) (along : List ℤ) → before < from → from ≤ stop → Within b along
-      → Stretching before from stop b along along before from
-  stretching_start before from stop b along h w small =
-      record { begun = h; within = w; same = refl; long = refl; small = within_more (omega arith) small }
+  pub stretching_start : (before from stop b : ℕ) (along : List ℤ) → before < from → Within b along → Stretching before from stop b along along before from
+  stretching_start before from stop b along h small =
+      record { begun = h; same = λ number gives. refl; long = refl; small = within_more (omega arith) small }
 
-  stretch-next : (left place n : ℕ) {m : ℕ} → m ≡ suc n
+  stretch-next : (number : (left right : ℕ) → Result ℤ Why) (left place n : ℕ) {m : ℕ} → m ≡ suc n
       → stretch number glyphs left place m ≡ addition_of left (number (get_or glyphs left 0) (get_or glyphs place 0)) ++ stretch number glyphs place (suc place) n
   unfolding stretch
-  stretch-next left place n e = ap (stretch number glyphs left place) e
+  stretch-next number left place n e = ap (stretch number glyphs left place) e
 
-  pub stretching_next : {before from stop b : ℕ} {along₀ along after : List ℤ} {left place : ℕ} (added : List Addition)
-      → Stretching before from stop b along₀ along left place → place < stop → after ≡ add_all added along
-      → added ≡ addition_of left (number (get_or glyphs left 0) (get_or glyphs place 0)) → Stretching before from stop b along₀ after place (place + 1)
-  stretching_next {before} {from} {stop} {b} {along₀} {along} {after} {left} {place} added p h f same =
-      let n : Number = number (get_or glyphs left 0) (get_or glyphs place 0) in
-      let e : after ≡ add_all (addition_of left n) along = f ∙ ap (λ (a : List Addition). add_all a along) same in
-      let rest : ℕ = stop - (place + 1) in
-      let r : stretch number glyphs left place (stop - place) ≡ addition_of left n ++ stretch number glyphs place (place + 1) rest =
-      stretch-next left place rest (omega arith) ∙ ap (λ (k : ℕ). addition_of left n ++ stretch number glyphs place k rest) (sym (add-one place)) in
+  pub stretching_next : {before from stop b : ℕ} {along₀ along after : List ℤ} {left place : ℕ} (n : Option ℤ)
+      → Stretching before from stop b along₀ along left place → place < stop
+      → get_or glyphs left 0 < 65536 → get_or glyphs place 0 < 65536 → gave (get_or glyphs left 0) (get_or glyphs place 0) n
+      → after ≡ add_all (added left n) along → ((c : ℕ) → Within c along → Within (c + 32768) after) → Stretching before from stop b along₀ after place (place + 1)
+  stretching_next {before} {from} {stop} {b} {along₀} {along} {after} {left} {place} n p h i j g f w =
       record {
         begun = omega arith;
-        within = omega arith;
-        same =
-            ap (add_all (stretch number glyphs place (place + 1) rest)) e
-            ∙ sym (add_all-append (addition_of left n) (stretch number glyphs place (place + 1) rest) along)
-            ∙ ap (λ (x : List Addition). add_all x along) (sym r) ∙ p.same;
-        long = ap length e ∙ length-add_all (addition_of left n) along ∙ p.long;
-        small =
-            subst (Within (b + (place + 1) * 32768)) (sym e)
-            (within_more (omega (arith, few_addition left n)) (within-add_all along (small_addition left n (all (get_or glyphs left 0) (get_or glyphs place 0))) p.small));
+        same = λ number gives.
+            let m : Result ℤ Why = number (get_or glyphs left 0) (get_or glyphs place 0) in
+            let e : added left n ≡ addition_of left m = ap (added left) (gives (get_or glyphs left 0) (get_or glyphs place 0) i j n g) ∙ added_is left m in
+            let rest : ℕ = stop - (place + 1) in
+            let r : stretch number glyphs left place (stop - place) ≡ addition_of left m ++ stretch number glyphs place (place + 1) rest =
+            stretch-next number left place rest (omega arith) ∙ ap (λ (k : ℕ). addition_of left m ++ stretch number glyphs place k rest) (sym (add-one place)) in
+            ap (add_all (stretch number glyphs place (place + 1) rest)) (f ∙ ap (λ (a : List Addition). add_all a along) e)
+            ∙ sym (add_all-append (addition_of left m) (stretch number glyphs place (place + 1) rest) along)
+            ∙ ap (λ (x : List Addition). add_all x along) (sym r) ∙ p.same number gives;
+        long = ap length f ∙ length-add_all (added left n) along ∙ p.long;
+        small = within_more (omega arith) (w (b + place * 32768) p.small);
       }
 
   pub stretching_done : {before from stop b : ℕ} {along₀ along : List ℤ} {left place : ℕ} → Stretching before from stop b along₀ along left place → stop ≤ place
-      → along ≡ add_all (stretch number glyphs before from (stop - from)) along₀
+      → (number : (left right : ℕ) → Result ℤ Why) → Gives gave number → along ≡ add_all (stretch number glyphs before from (stop - from)) along₀
   unfolding stretch add_all
-  stretching_done {before} {from} {stop} {b} {along₀} {along} {left} {place} p h =
+  stretching_done {before} {from} {stop} {b} {along₀} {along} {left} {place} p h number gives =
       let none : stop - place ≡ 0 = omega arith in
-      ap (λ (n : ℕ). add_all (stretch number glyphs left place n) along) (sym none) ∙ p.same
+      ap (λ (n : ℕ). add_all (stretch number glyphs left place n) along) (sym none) ∙ p.same number gives
 
 -- the laws of pairs whatever places count
 module _ (counts : ℕ → Bool) where
@@ -260,7 +220,7 @@ module _ (counts : ℕ → Bool) where
   last-over from (suc n) all =
       ap (last_below counts) (omega arith) ∙ last-skipped (n + from) (all (n + from) (omega arith) (omega arith)) ∙ last-over from n (λ k l h. all k l (omega arith))
 
-  module _ (number : (left right : ℕ) → Number) (glyphs : List ℕ) where
+  module _ (number : (left right : ℕ) → Result ℤ Why) (glyphs : List ℕ) where
     abbrev below : ℕ → List Addition
     below = pairs_below counts number glyphs
 
@@ -330,7 +290,7 @@ module _ (counts : ℕ → Bool) where
       within-below n along h w = within_more (omega (arith, few-below n, room_small)) (within-add_all along (small-below all n) w)
 
 -- what the loop over the stretches knows: the pairs among the places below `from` have added theirs, and `from` counts, if it is not the end
-module _ (counts : ℕ → Bool) (number : (left right : ℕ) → Number) (glyphs : List ℕ) where
+module _ (counts : ℕ → Bool) (number : (left right : ℕ) → Result ℤ Why) (glyphs : List ℕ) where
   pub record Joining (used : ℕ) (along₀ along : List ℤ) (before from : ℕ) : Type 0 where
     pub within : from ≤ used
     pub here : from < used → counts from ≡ true
@@ -456,24 +416,9 @@ module _ (counts : ℕ → Bool) (number : (left right : ℕ) → Number) (glyph
   joining_small all {used} {along₀} {along} {before} {from} p h w =
       subst (Within (2 ^ 61)) (sym p.same) (within_more (omega arith) (within-below counts number glyphs all from along₀ (omega (arith, p.within)) w))
 
-pub worked-within : (bytes : List ℕ) (opened : Opened) (glyphs : List ℕ) (used : ℕ) (rule : PairRule) {b : ℕ} (along : List ℤ) → used ≤ room_limit → Within b along
+pub worked-within : (bytes : List ℕ) (opened : Result PairTable Unready) (glyphs : List ℕ) (used : ℕ) (rule : PairRule) {b : ℕ} (along : List ℤ) → used ≤ room_limit → Within b along
     → Within (b + 2 ^ 39) (add_all (worked_by bytes opened glyphs used rule).additions along)
 unfolding worked_by
-worked-within bytes (Ready pairs) glyphs used rule along h w =
+worked-within bytes (Ok pairs) glyphs used rule along h w =
     within-below (counts rule glyphs) (pair_number bytes pairs) glyphs (sized bytes pairs) used along h w
-worked-within bytes Short glyphs used rule along h w = within_more (omega arith) (subst (Within _) (sym (add_all-none along)) w)
-worked-within bytes Tupled glyphs used rule along h w = within_more (omega arith) (subst (Within _) (sym (add_all-none along)) w)
-
--- the number of a reply
-pub reply-number : (bytes : List ℕ) (pairs : PairTable) (left right : ℕ) {opened : Opened} {number : Number} {z : ℤ} → opened ≡ Ready pairs
-    → number ≡ pair_number bytes pairs left right → number ≡ By z → Reply'.Number (to_z w16 (of_z w16 z)) ≡ reply_of bytes opened left right
-unfolding reply_of
-reply-number bytes pairs left right {opened} {number} {z} o e f =
-    let h : pair_number bytes pairs left right ≡ By z = sym e ∙ f in
-    let fits : SFits w16 z = subst Sized h (sized bytes pairs left right) in
-    rw (o, reply_of, h) (ap Reply'.Number (to_z-of_z fits))
-
-pub reply-nothing : (bytes : List ℕ) (pairs : PairTable) (left right : ℕ) {opened : Opened} {number : Number} {why : Why} → opened ≡ Ready pairs
-    → number ≡ pair_number bytes pairs left right → number ≡ Nothing why → Reply'.Nothing why ≡ reply_of bytes opened left right
-unfolding reply_of
-reply-nothing bytes pairs left right o e f = rw (o, reply_of, sym e ∙ f)
+worked-within bytes (Err why) glyphs used rule along h w = within_more (omega arith) (subst (Within _) (sym (add_all-none along)) w)

@@ -1,14 +1,12 @@
 -- Apple's manual on kerning pairs: which pair is that of two glyphs, and what its value is. The manual was not at hand: docs/DIFFERENCES.md says
 -- what these lines rest on.
-use Rattle.std.specs.Prelude.{ℕ, suc, ◌+◌, ◌*◌, ◌<◌, ◌≤◌, ◌≡◌, List, ℤ, length, drop}
+use Rattle.answers.specs.declared.Refusal.{Refusal}
+use Rattle.std.specs.Prelude.{ℕ, suc, ◌+◌, ◌*◌, ◌<◌, ◌≤◌, ◌≡◌, List, ℤ, length, drop, Some, Result, Ok, Err}
 use Rattle.laws.specs.Choose.{if_eq}
 use Rattle.laws.specs.Signed.{signed16}
 use Rattle.parse.specs.Reads.{u16_at, u32_at, read_u16}
-use Rattle.parse.specs.declared.ReadU16.TheVariants.{Got}
 use Rattle.tables.specs.ManualLookup.{Layout, format_number, Lies, Alike}
 use Rattle.tables.specs.declared.lookup.Why.{Why}
-use Rattle.pairs.specs.declared.PairReply.{PairReply}
-use Rattle.pairs.specs.declared.PairReply.TheVariants.{Number, Nothing}
 
 -- a pair has 6 bytes: left glyph, right glyph and value, of 16 bits each
 abbrev pub pair_at : (first i : ℕ) → ℕ
@@ -58,15 +56,15 @@ ClassValue bytes glyphs rows columns array left right left_layout right_layout v
 
 -- a lookup table of this layout, which crate and manual read alike for a glyph
 abbrev pub Legible : List ℕ → (glyphs glyph : ℕ) → Layout → Type 0
-Legible bytes glyphs glyph layout = (read_u16 bytes 0 ≡ Got (format_number layout)) × Alike bytes glyphs glyph layout
+Legible bytes glyphs glyph layout = (read_u16 bytes 0 ≡ Some (format_number layout)) × Alike bytes glyphs glyph layout
 
 -- and has an element for the glyph that lies in the table
 abbrev pub Covered : List ℕ → (glyphs glyph : ℕ) → Layout → Type 0
 Covered bytes glyphs glyph layout = (place : ℕ) × Lies bytes glyphs glyph layout place × (place + 2 ≤ length bytes)
 
 -- the answer for a pair is the manual's: DONE with just the value that the pair has, NOTHING exactly when it has none, and then for this reason
-pub record AsManual (reply : PairReply) (Value : ℤ → Type 0) (reason : Why) : Type 0 where
-  pub found : (value : ℤ) → reply ≡ Number value → Value value
-  pub there : (value : ℤ) → Value value → reply ≡ Number value
-  pub nothing : (why : Why) → reply ≡ Nothing why → (value : ℤ) → Value value → ⊥
-  pub none : ((value : ℤ) → Value value → ⊥) → reply ≡ Nothing reason
+pub record AsManual (reply : Result (Result ℤ Why) Refusal) (Value : ℤ → Type 0) (reason : Why) : Type 0 where
+  pub found : (value : ℤ) → reply ≡ Ok (Ok value) → Value value
+  pub there : (value : ℤ) → Value value → reply ≡ Ok (Ok value)
+  pub nothing : (why : Why) → reply ≡ Ok (Err why) → (value : ℤ) → Value value → ⊥
+  pub none : ((value : ℤ) → Value value → ⊥) → reply ≡ Ok (Err reason)

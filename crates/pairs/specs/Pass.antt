@@ -1,20 +1,19 @@
 -- The pair pass: each pair adds its number to the first of its two places.
-use Rattle.std.specs.Prelude.{ℕ, zero, suc, Bool, true, cond, List, [], ◌∷◌, ◌++◌, ltb, get_or}
+use Rattle.tables.specs.declared.lookup.Why.{Why}
+use Rattle.std.specs.Prelude.{ℕ, zero, suc, Bool, true, cond, List, [], ◌∷◌, ◌++◌, ltb, get_or, Result, Ok, Err, ℤ}
 use Rattle.answers.specs.declared.Answer.TheVariants as Answer'
-use Rattle.answers.specs.declared.Refusal.TheVariants as Refusal'
+use Rattle.kerning.specs.Heads.{refusal}
+use Rattle.kerning.specs.declared.heads.Unready.{Unready}
 use Rattle.kerning.specs.Additions.{Addition, Kerned, nothing_added}
 use Rattle.kerning.specs.declared.choices.PairRule.{PairRule}
 use Rattle.kerning.specs.declared.choices.PairRule.TheVariants.{Neighbours, Joined}
 use Rattle.pairs.specs.Pairs.{pair_number}
-use Rattle.pairs.specs.declared.Opened.{Opened}
-use Rattle.pairs.specs.declared.Opened.TheVariants.{Ready, Short, Tupled}
-use Rattle.pairs.specs.declared.Number.{Number}
-use Rattle.pairs.specs.declared.Number.TheVariants.{By, Nothing}
+use Rattle.pairs.specs.declared.PairTable.{PairTable}
 
 -- what a pair adds to the place of its left glyph; a pair that is not found adds nothing
-abbrev pub addition_of : (place : ℕ) → Number → List Addition
-addition_of place (By number) = record { place = place; number = number } ∷ []
-addition_of place (Nothing why) = []
+abbrev pub addition_of : (place : ℕ) → Result ℤ Why → List Addition
+addition_of place (Ok number) = record { place = place; number = number } ∷ []
+addition_of place (Err why) = []
 
 -- a place, or none
 pub data Before : Type 0 where
@@ -27,7 +26,7 @@ module _ (counts : ℕ → Bool) where
   last_below zero = none
   last_below (suc n) = cond (counts n) (place n) (last_below n)
 
-  module _ (number : (left right : ℕ) → Number) (glyphs : List ℕ) where
+  module _ (number : (left right : ℕ) → Result ℤ Why) (glyphs : List ℕ) where
     -- what the glyph at a place adds with the one at the place before
     abbrev pub with_before : Before → ℕ → List Addition
     with_before none q = []
@@ -52,8 +51,7 @@ abbrev pub counts : PairRule → (glyphs : List ℕ) → ℕ → Bool
 counts rule glyphs p = is_counted rule (get_or glyphs p 0)
 
 -- the pass over the first `used` glyphs, by a subtable's pairs; HEAD where they can't be opened, TUPLES where these are refused
-unfoldable pub worked_by : List ℕ → Opened → (glyphs : List ℕ) → (used : ℕ) → PairRule → Kerned
-worked_by bytes (Ready pairs) glyphs used rule =
+unfoldable pub worked_by : List ℕ → Result PairTable Unready → (glyphs : List ℕ) → (used : ℕ) → PairRule → Kerned
+worked_by bytes (Ok pairs) glyphs used rule =
     record { answer = Answer'.Done; additions = pairs_below (counts rule glyphs) (pair_number bytes pairs) glyphs used }
-worked_by bytes Short glyphs used rule = nothing_added (Answer'.Refused Refusal'.Head)
-worked_by bytes Tupled glyphs used rule = nothing_added (Answer'.Refused Refusal'.Tuples)
+worked_by bytes (Err why) glyphs used rule = nothing_added (Answer'.Refused (refusal why))

@@ -1,4 +1,5 @@
 -- More bytes behind a table change nothing for what was read without them.
+use Rattle.std.specs.Prelude.{Option, Some, None}
 use Prim.Native.Nat.{ℕ, ◌+◌, ◌*◌, ◌<◌, ◌≤◌}
 use mathlib.Core.Path.{◌≡◌, refl, sym, ◌∙◌, ap, ap₂}
 use mathlib.Core.Bool.{Bool, true, false, cond}
@@ -9,12 +10,6 @@ use lib.Seq.{get_or-drop}
 use Rattle.laws.specs.Signed.{signed16}
 use Rattle.parse.specs.Reads.{inside, u8_at, u16_at, u32_at, read_u8, read_u16, read_i16, read_u32}
 use Rattle.parse.specs.Use.{on_u16, on_u32}
-use Rattle.parse.specs.declared.ReadU8.TheVariants as U8
-use Rattle.parse.specs.declared.ReadU16.{ReadU16}
-use Rattle.parse.specs.declared.ReadU16.TheVariants as U16
-use Rattle.parse.specs.declared.ReadI16.TheVariants as I16
-use Rattle.parse.specs.declared.ReadU32.{ReadU32}
-use Rattle.parse.specs.declared.ReadU32.TheVariants as U32
 use Rattle.parse.proofs.Laws.{inside_yes, inside-fits}
 
 -- a table begins with these bytes
@@ -44,15 +39,15 @@ choice_stays true p q = p
 choice_stays false p q = q
 
 -- of a number that was read, what is made of it
-pub u16_used : {A : Type 0} {failed : A} (r r' : ReadU16) → Stays U16.Short r r' → (f g : ℕ → A) → ((n : ℕ) → Stays failed (f n) (g n))
+pub u16_used : {A : Type 0} {failed : A} (r r' : Option ℕ) → Stays None r r' → (f g : ℕ → A) → ((n : ℕ) → Stays failed (f n) (g n))
     → Stays failed (on_u16 r f failed) (on_u16 r' g failed)
-u16_used (U16.Got n) r' e f g same not = rw (e (λ p. let z : ◌≡◌ {A = ℕ} 0 1 = cc in omega arith)) (same n not)
-u16_used U16.Short r' e f g same not = absurd (not refl)
+u16_used (Some n) r' e f g same not = rw (e (λ p. let z : ◌≡◌ {A = ℕ} 0 1 = cc in omega arith)) (same n not)
+u16_used None r' e f g same not = absurd (not refl)
 
-pub u32_used : {A : Type 0} {failed : A} (r r' : ReadU32) → Stays U32.Short r r' → (f g : ℕ → A) → ((n : ℕ) → Stays failed (f n) (g n))
+pub u32_used : {A : Type 0} {failed : A} (r r' : Option ℕ) → Stays None r r' → (f g : ℕ → A) → ((n : ℕ) → Stays failed (f n) (g n))
     → Stays failed (on_u32 r f failed) (on_u32 r' g failed)
-u32_used (U32.Got n) r' e f g same not = rw (e (λ p. let z : ◌≡◌ {A = ℕ} 0 1 = cc in omega arith)) (same n not)
-u32_used U32.Short r' e f g same not = absurd (not refl)
+u32_used (Some n) r' e f g same not = rw (e (λ p. let z : ◌≡◌ {A = ℕ} 0 1 = cc in omega arith)) (same n not)
+u32_used None r' e f g same not = absurd (not refl)
 
 module _ {own whole : List ℕ} (b : Begins own whole) where
   pub inside_stays : (at size : ℕ) → inside own at size ≡ true → 0 < size → inside whole at size ≡ true
@@ -66,37 +61,37 @@ module _ {own whole : List ℕ} (b : Begins own whole) where
   u32_stays at h = ap₂ (λ x y. x * 65536 + y) (u16_stays at (omega arith)) (u16_stays (at + 2) (omega arith))
 
   -- reads that do not fail
-  pub read_u8_stays : (at : ℕ) → Stays U8.Short (read_u8 own at) (read_u8 whole at)
+  pub read_u8_stays : (at : ℕ) → Stays None (read_u8 own at) (read_u8 whole at)
   unfolding read_u8
   read_u8_stays at = go (inside own at 1) refl
     where
-      go : (t : Bool) → inside own at 1 ≡ t → Stays U8.Short (cond t (U8.Got (u8_at own at)) U8.Short) (cond (inside whole at 1) (U8.Got (u8_at whole at)) U8.Short)
+      go : (t : Bool) → inside own at 1 ≡ t → Stays None (cond t (Some (u8_at own at)) None) (cond (inside whole at 1) (Some (u8_at whole at)) None)
       go true e not = rw (inside_stays at 1 e (omega arith), b.same at (omega (arith, inside-fits own at 1 e)))
       go false e not = absurd (not refl)
 
-  pub read_u16_stays : (at : ℕ) → Stays U16.Short (read_u16 own at) (read_u16 whole at)
+  pub read_u16_stays : (at : ℕ) → Stays None (read_u16 own at) (read_u16 whole at)
   unfolding read_u16
   read_u16_stays at = go (inside own at 2) refl
     where
-      go : (t : Bool) → inside own at 2 ≡ t → Stays U16.Short (cond t (U16.Got (u16_at own at)) U16.Short) (cond (inside whole at 2) (U16.Got (u16_at whole at)) U16.Short)
-      go true e not = rw (inside_stays at 2 e (omega arith)) (ap U16.Got (u16_stays at (inside-fits own at 2 e)))
+      go : (t : Bool) → inside own at 2 ≡ t → Stays None (cond t (Some (u16_at own at)) None) (cond (inside whole at 2) (Some (u16_at whole at)) None)
+      go true e not = rw (inside_stays at 2 e (omega arith)) (ap Some (u16_stays at (inside-fits own at 2 e)))
       go false e not = absurd (not refl)
 
-  pub read_i16_stays : (at : ℕ) → Stays I16.Short (read_i16 own at) (read_i16 whole at)
+  pub read_i16_stays : (at : ℕ) → Stays None (read_i16 own at) (read_i16 whole at)
   unfolding read_i16
   read_i16_stays at = go (inside own at 2) refl
     where
       go : (t : Bool) → inside own at 2 ≡ t
-          → Stays I16.Short (cond t (I16.Got (signed16 (u16_at own at))) I16.Short) (cond (inside whole at 2) (I16.Got (signed16 (u16_at whole at))) I16.Short)
-      go true e not = rw (inside_stays at 2 e (omega arith)) (ap (λ n. I16.Got (signed16 n)) (u16_stays at (inside-fits own at 2 e)))
+          → Stays None (cond t (Some (signed16 (u16_at own at))) None) (cond (inside whole at 2) (Some (signed16 (u16_at whole at))) None)
+      go true e not = rw (inside_stays at 2 e (omega arith)) (ap (λ n. Some (signed16 n)) (u16_stays at (inside-fits own at 2 e)))
       go false e not = absurd (not refl)
 
-  pub read_u32_stays : (at : ℕ) → Stays U32.Short (read_u32 own at) (read_u32 whole at)
+  pub read_u32_stays : (at : ℕ) → Stays None (read_u32 own at) (read_u32 whole at)
   unfolding read_u32
   read_u32_stays at = go (inside own at 4) refl
     where
-      go : (t : Bool) → inside own at 4 ≡ t → Stays U32.Short (cond t (U32.Got (u32_at own at)) U32.Short) (cond (inside whole at 4) (U32.Got (u32_at whole at)) U32.Short)
-      go true e not = rw (inside_stays at 4 e (omega arith)) (ap U32.Got (u32_stays at (inside-fits own at 4 e)))
+      go : (t : Bool) → inside own at 4 ≡ t → Stays None (cond t (Some (u32_at own at)) None) (cond (inside whole at 4) (Some (u32_at whole at)) None)
+      go true e not = rw (inside_stays at 4 e (omega arith)) (ap Some (u32_stays at (inside-fits own at 4 e)))
       go false e not = absurd (not refl)
 
   -- and what is made of them

@@ -1,15 +1,7 @@
 -- What reading at a place of a table gives. A table is the list of its bytes; a part of it from some start on is `drop start table`.
-use Rattle.std.specs.Prelude.{ℕ, ◌+◌, ◌*◌, Bool, cond, List, ltb, leb, length, get_or}
+use Rattle.std.specs.Prelude.{ℕ, ◌+◌, ◌*◌, Bool, cond, List, ltb, leb, length, get_or, Option, Some, None, ℤ}
 use Rattle.laws.specs.Lists.{both}
 use Rattle.laws.specs.Signed.{signed16}
-use Rattle.parse.specs.declared.ReadU8.{ReadU8}
-use Rattle.parse.specs.declared.ReadU8.TheVariants as U8
-use Rattle.parse.specs.declared.ReadU16.{ReadU16}
-use Rattle.parse.specs.declared.ReadU16.TheVariants as U16
-use Rattle.parse.specs.declared.ReadI16.{ReadI16}
-use Rattle.parse.specs.declared.ReadI16.TheVariants as I16
-use Rattle.parse.specs.declared.ReadU32.{ReadU32}
-use Rattle.parse.specs.declared.ReadU32.TheVariants as U32
 
 -- the place is below the table's end, and `size` bytes from it on lie in the table
 unfoldable pub inside : List ℕ → ℕ → ℕ → Bool
@@ -25,14 +17,14 @@ u16_at table at = u8_at table at * 256 + u8_at table (at + 1)
 abbrev pub u32_at : List ℕ → ℕ → ℕ
 u32_at table at = u16_at table at * 65536 + u16_at table (at + 2)
 
-unfoldable pub read_u8 : List ℕ → ℕ → ReadU8
-read_u8 table at = cond (inside table at 1) (U8.Got (u8_at table at)) U8.Short
+unfoldable pub read_u8 : List ℕ → ℕ → Option ℕ
+read_u8 table at = cond (inside table at 1) (Some (u8_at table at)) None
 
-unfoldable pub read_u16 : List ℕ → ℕ → ReadU16
-read_u16 table at = cond (inside table at 2) (U16.Got (u16_at table at)) U16.Short
+unfoldable pub read_u16 : List ℕ → ℕ → Option ℕ
+read_u16 table at = cond (inside table at 2) (Some (u16_at table at)) None
 
-unfoldable pub read_i16 : List ℕ → ℕ → ReadI16
-read_i16 table at = cond (inside table at 2) (I16.Got (signed16 (u16_at table at))) I16.Short
+unfoldable pub read_i16 : List ℕ → ℕ → Option ℤ
+read_i16 table at = cond (inside table at 2) (Some (signed16 (u16_at table at))) None
 
-unfoldable pub read_u32 : List ℕ → ℕ → ReadU32
-read_u32 table at = cond (inside table at 4) (U32.Got (u32_at table at)) U32.Short
+unfoldable pub read_u32 : List ℕ → ℕ → Option ℕ
+read_u32 table at = cond (inside table at 4) (Some (u32_at table at)) None

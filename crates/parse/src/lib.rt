@@ -10,37 +10,6 @@ ghost use Rattle.parse.specs.Parts.{read_part};
 
 pub mod bytes;
 
-#[derive(Clone, Copy)]
-pub enum ReadU8 {
-    Got(u8),
-    Short,
-}
-
-#[derive(Clone, Copy)]
-pub enum ReadU16 {
-    Got(u16),
-    Short,
-}
-
-#[derive(Clone, Copy)]
-pub enum ReadI16 {
-    Got(i16),
-    Short,
-}
-
-#[derive(Clone, Copy)]
-pub enum ReadU32 {
-    Got(u32),
-    Short,
-}
-
-// A list's bytes, by the place where they end.
-#[derive(Clone, Copy)]
-pub enum ReadPart {
-    Until(usize),
-    Short,
-}
-
 // A byte as a number that sums and products have room for.
 fn wide(byte: u8) -> u32
     ensures { (result ≡ byte) × (result < 256) }
@@ -56,13 +25,11 @@ pub fn is_set(number: u32, mask: u32) -> bool
     number / mask % 2 == 1
 }
 
-pub fn read_u8(table: &[u8], at: usize) -> ReadU8
+#[tactic(auto, unfolding(crate::specs::Reads::read_u8, crate::specs::Reads::inside))]
+pub fn read_u8(table: &[u8], at: usize) -> Option<u8>
     ensures { result ≡ read_u8 table.now at }
 {
-    if table.len() <= at {
-        return ReadU8::Short;
-    }
-    ReadU8::Got(table[at])
+    table.get(at).copied()
 }
 
 // The 16-bit number at a place that is known to lie in the table.
@@ -73,33 +40,30 @@ pub fn u16_at(table: &[u8], at: usize) -> u16
     (wide(table[at]) * 256 + wide(table[at + 1])) as u16
 }
 
-pub fn read_u16(table: &[u8], at: usize) -> ReadU16
+#[tactic(auto, unfolding(crate::specs::Reads::read_u16, crate::specs::Reads::inside))]
+pub fn read_u16(table: &[u8], at: usize) -> Option<u16>
     ensures { result ≡ read_u16 table.now at }
 {
-    if table.len() < 2 {
-        return ReadU16::Short;
+    if table.len() < 2 || table.len() - 2 < at {
+        return None;
     }
-    if table.len() - 2 < at {
-        return ReadU16::Short;
-    }
-    ReadU16::Got(u16_at(table, at))
+    Some(u16_at(table, at))
 }
 
-pub fn read_u32(table: &[u8], at: usize) -> ReadU32
+#[tactic(auto, unfolding(crate::specs::Reads::read_u32, crate::specs::Reads::inside))]
+pub fn read_u32(table: &[u8], at: usize) -> Option<u32>
     ensures { result ≡ read_u32 table.now at }
 {
-    if table.len() < 4 {
-        return ReadU32::Short;
-    }
-    if table.len() - 4 < at {
-        return ReadU32::Short;
+    if table.len() < 4 || table.len() - 4 < at {
+        return None;
     }
     let high = wide(table[at]) * 256 + wide(table[at + 1]);
     let low = wide(table[at + 2]) * 256 + wide(table[at + 3]);
-    ReadU32::Got(high * 65536 + low)
+    Some(high * 65536 + low)
 }
 
 // The signed value of a 16-bit number.
+#[tactic(auto, using(laws::proofs::Signed::signed16_low, laws::proofs::Signed::signed16_high))]
 pub fn to_signed16(number: u16) -> i16
     ensures { result ≡ signed16 number }
 {
@@ -109,38 +73,28 @@ pub fn to_signed16(number: u16) -> i16
     -1 - ((65535 - number) as i16)
 }
 
-pub fn read_i16(table: &[u8], at: usize) -> ReadI16
+#[tactic(auto, unfolding(crate::specs::Reads::read_u16, crate::specs::Reads::read_i16, crate::specs::Reads::inside))]
+pub fn read_i16(table: &[u8], at: usize) -> Option<i16>
     ensures { result ≡ read_i16 table.now at }
 {
-    let ReadU16::Got(number) = read_u16(table, at) else {
-        return ReadI16::Short;
-    };
-    ReadI16::Got(to_signed16(number))
+    read_u16(table, at).map(to_signed16)
 }
 
 // Where `size` bytes from `at` on end. A list of no bytes at or past the table's end is not there, as in the crate.
-pub fn read_part(table: &[u8], at: usize, size: usize) -> ReadPart
+#[tactic(auto, unfolding(crate::specs::Parts::read_part, crate::specs::Reads::inside))]
+pub fn read_part(table: &[u8], at: usize, size: usize) -> Option<usize>
     ensures { result ≡ read_part table.now at size }
 {
-    if table.len() < size {
-        return ReadPart::Short;
+    if table.len() < size || table.len() - size < at || table.len() <= at {
+        return None;
     }
-    if table.len() - size < at {
-        return ReadPart::Short;
-    }
-    if table.len() <= at {
-        return ReadPart::Short;
-    }
-    ReadPart::Until(at + size)
+    Some(at + size)
 }
 
 // The table from `start` on; nothing of it where the start is past its end.
+#[tactic(auto, using(laws::proofs::Parts::part_is))]
 pub fn from(table: &[u8], start: usize) -> &[u8]
     ensures { result.now ≡ drop start table.now }
 {
-    if table.len() <= start {
-        let end = table.len();
-        return &table[end..];
-    }
-    &table[start..]
+    &table[start.min(table.len())..]
 }

@@ -1,4 +1,6 @@
 -- Where the two readings of kerx agree.
+use Rattle.std.specs.Prelude.{Option, Some, None, Result, Ok, Err, ℤ}
+use Rattle.tables.specs.declared.lookup.Why.{Why}
 use Prim.Native.Nat.{ℕ}
 use mathlib.Core.Path.{◌≡◌, refl, sym, ap, ap₂, subst}
 use mathlib.Core.Bool.{Bool, true, false, cond}
@@ -10,21 +12,17 @@ use Rattle.laws.specs.Lists.{both}
 use Rattle.answers.specs.declared.Answer.TheVariants as Answer'
 use Rattle.answers.specs.declared.Refusal.TheVariants as Refusal'
 use Rattle.parse.specs.Reads.{read_u16, read_u32}
-use Rattle.parse.specs.declared.ReadU16.TheVariants.{Got}
-use Rattle.parse.specs.declared.ReadU32.{ReadU32}
-use Rattle.parse.specs.declared.ReadU32.TheVariants as U32
 use Rattle.parse.proofs.Laws.{u32_value}
 use Rattle.tables.specs.declared.units.Reading.TheVariants.{Crate, Manual}
 use Rattle.tables.specs.declared.units.Units.{Units}
 use Rattle.tables.proofs.Sizes.{other-units}
 use Rattle.kerning.specs.Additions.{nothing_added}
 use Rattle.kerning.specs.declared.choices.PairRule.{PairRule}
-use Rattle.pairs.specs.Pairs.{ordered_kerx, classes_kerx, barred}
+use Rattle.kerning.specs.Heads.{barred}
+use Rattle.pairs.specs.Pairs.{ordered_kerx, classes_kerx}
 use Rattle.pairs.specs.Pass.{counts, pairs_below, worked_by}
 use Rattle.pairs.specs.Work.{are_words, in_words}
 use Rattle.pairs.specs.declared.PairTable.TheVariants.{Classes}
-use Rattle.pairs.specs.declared.Number.{Number}
-use Rattle.pairs.specs.declared.Opened.TheVariants.{Ready}
 use Rattle.pairs.proofs.Passes.{words-number}
 use Rattle.kerx_machine.specs.Machine.{has_tuples, is_tupled}
 use Rattle.kerx.specs.Kerx.{worked}
@@ -32,16 +30,16 @@ use Rattle.promises.specs.Lists.{NoneOfTen}
 
 module _ (bytes : List ℕ) (glyphs : List ℕ) (used : ℕ) (rule : PairRule) where
   -- class pairs without format 10
-  words : (rows columns : ℕ) → (read_u16 (drop rows bytes) 0 ≡ Got 10 → ⊥) → (read_u16 (drop columns bytes) 0 ≡ Got 10 → ⊥) → in_words bytes rows columns Manual ≡ true
+  words : (rows columns : ℕ) → (read_u16 (drop rows bytes) 0 ≡ Some 10 → ⊥) → (read_u16 (drop columns bytes) 0 ≡ Some 10 → ⊥) → in_words bytes rows columns Manual ≡ true
   unfolding in_words
   words rows columns a b =
-      ap₂ (λ (u v : Units). both (are_words u) (are_words v)) (other-units Manual (drop rows bytes) a) (other-units Manual (drop columns bytes) b)
+      ap₂ (λ (u v : Result Units Why). both (are_words u) (are_words v)) (other-units Manual (drop rows bytes) a) (other-units Manual (drop columns bytes) b)
 
-  same-pairs : (rows columns array : ℕ) → (read_u16 (drop rows bytes) 0 ≡ Got 10 → ⊥) → (read_u16 (drop columns bytes) 0 ≡ Got 10 → ⊥)
-      → worked_by bytes (Ready (Classes rows columns array Manual)) glyphs used rule ≡ worked_by bytes (Ready (Classes rows columns array Crate)) glyphs used rule
+  same-pairs : (rows columns array : ℕ) → (read_u16 (drop rows bytes) 0 ≡ Some 10 → ⊥) → (read_u16 (drop columns bytes) 0 ≡ Some 10 → ⊥)
+      → worked_by bytes (Ok (Classes rows columns array Manual)) glyphs used rule ≡ worked_by bytes (Ok (Classes rows columns array Crate)) glyphs used rule
   unfolding worked_by
   same-pairs rows columns array a b =
-      ap (λ (number : ℕ → ℕ → Number). record { answer = Answer'.Done; additions = pairs_below (counts rule glyphs) number glyphs used })
+      ap (λ (number : ℕ → ℕ → Result ℤ Why). record { answer = Answer'.Done; additions = pairs_below (counts rule glyphs) number glyphs used })
       (sym (words-number bytes rows columns array Manual (words rows columns a b)))
 
   same-classes : NoneOfTen bytes → worked_by bytes (classes_kerx bytes Manual) glyphs used rule ≡ worked_by bytes (classes_kerx bytes Crate) glyphs used rule
@@ -51,21 +49,21 @@ module _ (bytes : List ℕ) (glyphs : List ℕ) (used : ℕ) (rule : PairRule) w
       goal : Type 0
       goal = worked_by bytes (classes_kerx bytes Manual) glyphs used rule ≡ worked_by bytes (classes_kerx bytes Crate) glyphs used rule
 
-      by_rows : (r : ReadU32) → read_u32 bytes 16 ≡ r → goal
-      by_rows U32.Short e = rw e
-      by_rows (U32.Got rows) e = by_columns (read_u32 bytes 20) refl
+      by_rows : (r : Option ℕ) → read_u32 bytes 16 ≡ r → goal
+      by_rows None e = rw e
+      by_rows (Some rows) e = by_columns (read_u32 bytes 20) refl
         where
-          by_columns : (r : ReadU32) → read_u32 bytes 20 ≡ r → goal
-          by_columns U32.Short f = rw (e, f)
-          by_columns (U32.Got columns) f = by_array (read_u32 bytes 24) refl
+          by_columns : (r : Option ℕ) → read_u32 bytes 20 ≡ r → goal
+          by_columns None f = rw (e, f)
+          by_columns (Some columns) f = by_array (read_u32 bytes 24) refl
             where
-              by_array : (r : ReadU32) → read_u32 bytes 24 ≡ r → goal
-              by_array U32.Short g = rw (e, f, g)
-              by_array (U32.Got array) g =
+              by_array : (r : Option ℕ) → read_u32 bytes 24 ≡ r → goal
+              by_array None g = rw (e, f, g)
+              by_array (Some array) g =
                   rw (e, f, g)
                   (same-pairs rows columns array
-                  (subst (λ (n : ℕ). read_u16 (drop n bytes) 0 ≡ Got 10 → ⊥) (sym (u32_value bytes 16 e).1) none.0)
-                  (subst (λ (n : ℕ). read_u16 (drop n bytes) 0 ≡ Got 10 → ⊥) (sym (u32_value bytes 20 f).1) none.1))
+                  (subst (λ (n : ℕ). read_u16 (drop n bytes) 0 ≡ Some 10 → ⊥) (sym (u32_value bytes 16 e).1) none.0)
+                  (subst (λ (n : ℕ). read_u16 (drop n bytes) 0 ≡ Some 10 → ⊥) (sym (u32_value bytes 20 f).1) none.1))
 
 pub manual_pairs : (bytes : List ℕ) (version format : ℕ) (glyphs : List ℕ) (used : ℕ) (rule : PairRule) → (format ≡ 1 → ⊥) → has_tuples bytes version ≡ false
     → NoneOfTen bytes

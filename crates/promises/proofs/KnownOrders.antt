@@ -1,4 +1,5 @@
 -- The conditions under which the order of kerx subtables does not matter can be met, and each is needed: by computation.
+use Rattle.std.specs.Prelude.{Some, Ok, Err}
 use Prim.Native.Nat.{ℕ, zero, suc, ◌+◌, ◌<◌, ◌≤◌}
 use mathlib.Core.Path.{refl, ◌≡◌, ◌∙◌, ap, ap₂, subst, subst⁻¹}
 use mathlib.Core.Bool.{false}
@@ -17,7 +18,6 @@ use Rattle.tables.specs.Lookup.{lookup_at, in_format, trimmed_at, element_at}
 use Rattle.tables.specs.Units.{units_by, in_units, lookup_by}
 use Rattle.tables.specs.declared.units.Reading.TheVariants.{Crate}
 use Rattle.tables.specs.declared.lookup.Why.TheVariants.{NotCovered, CutShort}
-use Rattle.tables.specs.declared.lookup.Found.TheVariants as Found'
 use Rattle.state_tables.specs.Inside.{ClassReads}
 use Rattle.state_tables.specs.States.{extended_by}
 use Rattle.state_tables.specs.Classes.{class_by_lookup, class_of, class_in, found_class}
@@ -25,7 +25,6 @@ use Rattle.state_tables.specs.Entries.{entry_number, entry_at, resolved_in, reso
 use Rattle.state_tables.specs.Entries as Entries
 use Rattle.state_tables.specs.declared.Edition.TheVariants.{Extended}
 use Rattle.state_tables.specs.declared.entries.Entry.{Entry}
-use Rattle.state_tables.specs.declared.entries.Entered.TheVariants as Entered'
 use Rattle.machine.specs.Stall.{stalled}
 use Rattle.kerning.specs.Additions.{add_at, add_all, additions_at}
 use Rattle.kerning.specs.Choices.{unchosen}
@@ -39,15 +38,14 @@ use Rattle.kerning_machine.specs.declared.Reading.TheVariants.{Kerx}
 use Rattle.kerning_machine.specs.declared.Kerning.{Kerning}
 use Rattle.kerning_machine.specs.declared.KerningState.{KerningState}
 use Rattle.kerning_machine.specs.declared.KerningStep.{KerningStep}
-use Rattle.kerning_machine.specs.declared.Opened.TheVariants.{Ready}
 use Rattle.kerx_machine.specs.Machine.{tuples_of, body_of, is_tupled, opened_any, opened}
 use Rattle.kerx_machine.specs.Machine as Machine'
-use Rattle.pairs.specs.Pairs.{number_at, number_in, ordered_number, pair_number, ordered_kerx, barred}
+use Rattle.kerning.specs.Heads.{barred}
+use Rattle.pairs.specs.Pairs.{number_at, number_in, ordered_number, pair_number, ordered_kerx}
 use Rattle.pairs.specs.Pass.{last_below, pairs_below, place, counts}
 use Rattle.pairs.specs.Pass as Pairs'
 use Rattle.pairs.specs.Inside.{PairsInside}
 use Rattle.pairs.specs.declared.PairTable.TheVariants.{Ordered}
-use Rattle.pairs.specs.declared.Number.TheVariants.{By, Nothing}
 use Rattle.kerning_lists.specs.Walk.{heads_from, visited}
 use Rattle.kerning_lists.specs.Run.{zeros, contribution, contributions, used_part, ran_over}
 use Rattle.kerning_lists.specs.Family.{walk_of, ran}
@@ -65,7 +63,7 @@ ordered = one_pair 34 10
 pair_stated : AsStated ordered
 pair_stated = refl
 
-pair_found : pair_number ordered (Ordered 28 1) 5 6 ≡ By (signed16 10)
+pair_found : pair_number ordered (Ordered 28 1) 5 6 ≡ Ok (signed16 10)
 unfolding pair_number ordered_number number_in number_at searched find side_of side_of_pair inside read_i16 read_u32
 pair_found = refl
 
@@ -84,7 +82,7 @@ pairs-inside =
       opens = refl;
       numbers = λ p q h c l n.
           let (e, f) = only_pair p q h l in
-          let g : pair_number ordered (Ordered 28 1) 5 6 ≡ Nothing CutShort = rw (e, f) at n in
+          let g : pair_number ordered (Ordered 28 1) 5 6 ≡ Err CutShort = rw (e, f) at n in
           let k = pair_found in
           let z : ◌≡◌ {A = ℕ} 0 1 = cc in omega arith;
     }
@@ -112,15 +110,15 @@ machine_of = record { states = record { edition = Extended 20 Crate; classes = 5
 list_stated : AsStated good_list
 list_stated = refl
 
-machine-opens : opened_any good_list 2 Crate ≡ Ready machine_of
+machine-opens : opened_any good_list 2 Crate ≡ Ok machine_of
 unfolding opened_any tuples_of extended_by inside read_u32
 machine-opens = refl
 
-class_five : lookup_by Crate (drop 20 body) 5 ≡ Found'.At 4
+class_five : lookup_by Crate (drop 20 body) 5 ≡ Ok 4
 unfolding lookup_by units_by in_units lookup_at in_format format_of trimmed_at element_at inside read_u16
 class_five = refl
 
-class_six : lookup_by Crate (drop 20 body) 6 ≡ Found'.Nothing NotCovered
+class_six : lookup_by Crate (drop 20 body) 6 ≡ Err NotCovered
 unfolding lookup_by units_by in_units lookup_at in_format format_of trimmed_at element_at inside read_u16
 class_six = refl
 
@@ -138,11 +136,11 @@ pushing = record { state = 0; flags = 0x8000; payload = 48 }
 abbrev idle : Entry
 idle = record { state = 0; flags = 0; payload = 42 }
 
-pushes : entry_of body machine_of.states 0 4 2 ≡ Entered'.At pushing
+pushes : entry_of body machine_of.states 0 4 2 ≡ Some pushing
 unfolding entry_of entry_number Entries.number_in entry_at resolved resolved_in inside read_u16
 pushes = refl
 
-idles : entry_of body machine_of.states 0 1 2 ≡ Entered'.At idle
+idles : entry_of body machine_of.states 0 1 2 ≡ Some idle
 unfolding entry_of entry_number Entries.number_in entry_at resolved resolved_in inside read_u16
 idles = refl
 
@@ -232,7 +230,7 @@ pub inside_met : Each (ReadsInside false 2 line 2 unchosen) (one_pair 34 10 ∷ 
 inside_met = more pair_inside (more list_inside none)
 
 pub needs_each : NeedsEach
-unfolding left_by zeros tab ran ran_over used_part walk_of heads_from visited head_limit contributions contribution add_all add_at list_of Heads.head_in subtable_of worked is_tupled barred Pairs'.worked_by pairs_below last_below ordered_kerx pair_number ordered_number number_in number_at searched find side_of side_of_pair Machine'.worked opened opened_any tuples_of extended_by Kerning'.barred Kerning'.worked_by Kerning'.passed passed_by pass_from next acted orders_of kerx_orders indexed_orders kerx_start tuple_size stacked walked_from walk Lists.number_at ruled additions_at listed behind settled stalled class_of class_in class_by_lookup lookup_by units_by in_units lookup_at in_format format_of trimmed_at element_at entry_of entry_number Entries.number_in entry_at resolved resolved_in inside read_u16 read_i16 read_u32 signed16
+unfolding left_by zeros tab ran ran_over used_part walk_of heads_from visited head_limit contributions contribution add_all add_at list_of Heads.head_in subtable_of worked is_tupled barred Pairs'.worked_by pairs_below last_below ordered_kerx pair_number ordered_number number_in number_at searched find side_of side_of_pair Machine'.worked opened opened_any tuples_of extended_by Kerning'.worked_by Kerning'.passed passed_by pass_from next acted orders_of kerx_orders indexed_orders kerx_start tuple_size stacked walked_from walk Lists.number_at ruled additions_at listed behind settled stalled class_of class_in class_by_lookup lookup_by units_by in_units lookup_at in_format format_of trimmed_at element_at entry_of entry_number Entries.number_in entry_at resolved resolved_in inside read_u16 read_i16 read_u32 signed16
 needs_each =
     record {
       held = refl;

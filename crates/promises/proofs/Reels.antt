@@ -1,9 +1,9 @@
 -- The theorems on reels, from the crate below.
+use Rattle.std.specs.Prelude.{Ok}
 use Prim.Native.Nat.{ℕ, ◌<◌}
 use mathlib.Core.Path.{◌≡◌, sym, subst}
 use mathlib.Core.List.{List}
 use Rattle.answers.specs.Refuse.{refuse}
-use Rattle.answers.specs.declared.Check.TheVariants.{Passed}
 use Rattle.line.specs.Line.{Line, Valid}
 use Rattle.line.specs.History.{FromLine, history_by}
 use Rattle.stored.specs.Reading.{read_line}
@@ -21,7 +21,7 @@ use Rattle.reel.proofs.Through.{line_through, reel-demand3, reel-fresh-demand3}
 use Rattle.promises.specs.Demand3.{Reels}
 
 read_through : (r : Reel) (k : ℕ) → k < lines_of r → Lent r → (steps : List (Step r k)) → (bytes glyphs tags homes : List ℕ)
-    → refuse (read_tests newest_version bytes glyphs tags homes) ≡ Passed → (parts_of r k).line ≡ read_line bytes glyphs tags
+    → refuse (read_tests newest_version bytes glyphs tags homes) ≡ Ok tt → (parts_of r k).line ≡ read_line bytes glyphs tags
     → FromLine (read_line bytes glyphs tags)
     (history_by leaves makes (calls_of r k steps) (read_line bytes glyphs tags)) (parts_of (steps_leave r k steps r) k).line
 read_through r k h v steps bytes glyphs tags homes taken e =

@@ -1,10 +1,9 @@
 -- Demand 1: any table bytes and any lent line get an answer, and the work ends; bad calls are refused by number and change nothing; a pass that ends
 -- early or runs out of room leaves exactly the edits made before that point. The contracts of the exported entries say so: none has a `requires`,
 -- each is proved to end, and each states its answer and all that was lent. Here is what shows that their definitions mean it.
-use Rattle.std.specs.Prelude.{ℕ, ◌+◌, ◌<◌, ◌≤◌, ◌≡◌, Bool, true, false, List, [], ◌∷◌, map, ◌⊎◌, length}
+use Rattle.std.specs.Prelude.{ℕ, ◌+◌, ◌<◌, ◌≤◌, ◌≡◌, Bool, true, false, List, [], ◌∷◌, map, ◌⊎◌, length, Ok, Err}
 use Rattle.answers.specs.Refuse.{Test, refuse}
 use Rattle.answers.specs.declared.Answer.TheVariants.{Done, Full, Limit}
-use Rattle.answers.specs.declared.Check.TheVariants.{Passed, Refused}
 use Rattle.line.specs.Line.{Line, Valid, Legal}
 use Rattle.line.specs.Test.{Decides, is_valid, is_legal}
 use Rattle.state_tables.specs.declared.States.{States}
@@ -12,6 +11,7 @@ use Rattle.machine.specs.Stall.{Falls, stalled}
 use Rattle.machine.specs.Machine.{Bounded}
 use Rattle.rearrangement.specs.Calls.{rearrangement}
 use Rattle.contextual.specs.Calls.{contextual}
+use Rattle.ligature.specs.declared.Stack.{Stack}
 use Rattle.ligature.specs.Ligature as Ligature
 use Rattle.ligature.specs.Calls.{ligature}
 use Rattle.insertion.specs.Calls.{insertion}
@@ -29,12 +29,11 @@ use Rattle.kern.specs.Kern.{kern}
 use Rattle.kerx.specs.Kerx.{kerx}
 use Rattle.kerx.specs.Heads.{turned_round}
 use Rattle.shaper.specs.Shaper.{input_of, shaper_room, shaped}
-use Rattle.shaper.specs.declared.Input.TheVariants.{TableUntil}
 
 pub record Demand1 : Type 0 where
   -- a call without tests passes; the first test that holds refuses with its number, whatever comes behind; one that does not hold leaves it to the rest
-  pub refuse-none : refuse [] ≡ Passed
-  pub refuse-here : (t : Test) (ts : List Test) → t.holds ≡ true → refuse (t ∷ ts) ≡ Refused t.refusal
+  pub refuse-none : refuse [] ≡ Ok tt
+  pub refuse-here : (t : Test) (ts : List Test) → t.holds ≡ true → refuse (t ∷ ts) ≡ Err t.refusal
   pub refuse-later : (t : Test) (ts : List Test) → t.holds ≡ false → refuse (t ∷ ts) ≡ refuse ts
   -- LINE is given exactly when it should be: the test decides whether a line is valid
   pub valid-exact : (l : Line) → Decides (Valid l) (is_valid l)
@@ -54,7 +53,7 @@ pub record Demand1 : Type 0 where
       → AnchorMachine.pass_from classes ankr bytes anchoring glyphs used (more + AnchorMachine.rest used AnchorMachine.fresh 0) AnchorMachine.fresh 0
       ≡ AnchorMachine.passed_by classes ankr bytes anchoring glyphs used
   -- nor are those on the entries of a ligature's step and on a list of its actions
-  pub entry_turns : (bytes : List ℕ) (states : States) (index glyph class more state : ℕ) (stack : Ligature.Stack) (cycles : ℕ) (made : List Ligature.Ligation)
+  pub entry_turns : (bytes : List ℕ) (states : States) (index glyph class more state : ℕ) (stack : Stack) (cycles : ℕ) (made : List Ligature.Ligation)
       → cycles ≤ 17
       → Ligature.ran bytes states index glyph class (more + 18) state stack cycles made ≡ Ligature.ran bytes states index glyph class 18 state stack cycles made
   pub action_turns : (bytes places : List ℕ) (depth more number at sum cycles : ℕ) (glyphs : List ℕ) (made : List Ligature.Ligation) → cycles ≤ 33
@@ -72,7 +71,7 @@ pub record Demand1 : Type 0 where
   -- a run of kerx from right to left reads the same subtables, each turned the other way round
   pub walk-turned : (bytes : List ℕ) → Family'.walk_of kerx true bytes ≡ map turned_round (Family'.walk_of kerx false bytes)
   -- an input that the shaper takes is answered DONE, FULL or LIMIT
-  pub shaped_runs : (input glyphs tags homes : List ℕ) (end : ℕ) → input_of input ≡ TableUntil end → length glyphs ≡ shaper_room
+  pub shaped_runs : (input glyphs tags homes : List ℕ) (end : ℕ) → input_of input ≡ Ok end → length glyphs ≡ shaper_room
       → length tags ≡ shaper_room → length homes ≡ shaper_room
       → ((shaped input glyphs tags homes).reply.answer ≡ Done)
       ⊎ (((shaped input glyphs tags homes).reply.answer ≡ Full) ⊎ ((shaped input glyphs tags homes).reply.answer ≡ Limit))

@@ -1,15 +1,13 @@
 -- Demand 2: on document 01's domain the results equal the crate's. The contracts say of every entry which definition it equals, and runs beside the
 -- crate compare them. Here are the theorems that join these definitions to Apple's manual, and to the verbs as document 01 draws them. The manual was
 -- not at hand: docs/DIFFERENCES.md says what stands in for it, and lists where the crate does otherwise, which the hypotheses here leave out.
-use Rattle.std.specs.Prelude.{ℕ, suc, ◌+◌, ◌*◌, ◌-◌, ◌%◌, ◌<◌, ◌≤◌, ◌≡◌, Bool, true, false, List, [], ◌∷◌, ◌++◌, ℤ, length, get_or, take, drop}
+use Rattle.std.specs.Prelude.{ℕ, suc, ◌+◌, ◌*◌, ◌-◌, ◌%◌, ◌<◌, ◌≤◌, ◌≡◌, Bool, true, false, List, [], ◌∷◌, ◌++◌, ℤ, length, get_or, take, drop, Some, None, Result, Ok, Err}
 use Rattle.laws.specs.Choose.{if_lt}
 use Rattle.answers.specs.Limits.{table_limit, head_limit}
 use Rattle.answers.specs.declared.Answer.TheVariants.{Done, Ended, Refused}
 use Rattle.answers.specs.declared.Refusal.{Refusal}
 use Rattle.answers.specs.declared.Refusal.TheVariants.{Overlap}
 use Rattle.parse.specs.Reads.{u8_at, u16_at, u32_at, read_u16}
-use Rattle.parse.specs.declared.ReadU16.TheVariants as U16
-use Rattle.parse.specs.declared.ReadU32.TheVariants as U32
 use Rattle.tables.specs.Records.{pair_place, format_of}
 use Rattle.tables.specs.Search.{searched}
 use Rattle.tables.specs.Survey.{scanned, survey_at}
@@ -27,19 +25,16 @@ use Rattle.tables.specs.declared.records.Keys.TheVariants.{Glyphs, Pairs}
 use Rattle.tables.specs.declared.records.Spot.TheVariants as Spot
 use Rattle.tables.specs.declared.lookup.Why.{Why}
 use Rattle.tables.specs.declared.lookup.Why.TheVariants.{NotCovered, CutShort}
-use Rattle.tables.specs.declared.lookup.Found.{Found}
 use Rattle.tables.specs.declared.survey.Surveyed.{Surveyed}
 use Rattle.tables.specs.declared.survey.Surveyed.TheVariants.{Sorted, Bad}
 use Rattle.mend.specs.Table.{exponent_of}
 use Rattle.mend.specs.Mend.{lot_of, mend_call}
 use Rattle.mend.specs.Looks.{plain_look, new_table, AreBytes, Shared, Renumbered, LargestPower}
-use Rattle.mend.specs.declared.head.Lot.TheVariants.{Of}
 use Rattle.state_tables.specs.States.{extended_by, extended_at, classic_at}
 use Rattle.state_tables.specs.Classes.{class_of}
 use Rattle.state_tables.specs.Manual as StateTable
 use Rattle.state_tables.specs.Manual.{ClassIs, LookupGives, ArrayGives, class_table, extended, classic}
 use Rattle.state_tables.specs.declared.States.{States}
-use Rattle.state_tables.specs.declared.Made.TheVariants.{Ready, Short}
 use Rattle.ltag.specs.Ltag.{language_index}
 use Rattle.ltag.specs.Manual as Ltag
 use Rattle.machine.specs.Head.{body_of}
@@ -53,7 +48,6 @@ use Rattle.noncontextual.specs.NonContextual as NonContextual
 use Rattle.noncontextual.specs.NonContextual.{writes_below}
 use Rattle.contextual.specs.Substitutes.{substitute_of, substitute_by}
 use Rattle.contextual.specs.Manual.{lookup_number}
-use Rattle.contextual.specs.declared.Substitute.TheVariants as Substitute
 use Rattle.ligature.specs.Actions.{read_action, read_number}
 use Rattle.ligature.specs.Manual.{action_number, component_number, ligature_number}
 use Rattle.insertion.specs.Lists.{glyph_list, glyphs_at}
@@ -68,9 +62,6 @@ use Rattle.chains.specs.Manual.{manual_order, manual_reversed, only_vertical, Li
 use Rattle.chains.specs.Manual.{subtable_head_size, subtable_total, subtable_place, manual_chain, manual_feature, manual_subtable, manual_heads, manual_flags}
 use Rattle.chains.specs.declared.Edition.{Edition}
 use Rattle.chains.specs.declared.Edition.TheVariants.{Morx, Mort}
-use Rattle.chains.specs.declared.NextChain.TheVariants as Chain
-use Rattle.chains.specs.declared.NextFeature.TheVariants as Feature
-use Rattle.chains.specs.declared.NextSubtable.TheVariants as Subtable
 use Rattle.line.specs.Line.{Line}
 use Rattle.machine.specs.Machine.{passed, pass_call, call_leaves}
 use Rattle.rearrangement.specs.Calls.{rearrangement}
@@ -86,8 +77,7 @@ use Rattle.pairs.specs.Pass.{every_place, pairs_below, worked_by}
 use Rattle.pairs.specs.Joined.{JoinedPair, AddedBy}
 use Rattle.pairs.specs.declared.PairTable.{PairTable}
 use Rattle.pairs.specs.declared.PairTable.TheVariants.{Ordered, Classes}
-use Rattle.pairs.specs.declared.Opened.{Opened}
-use Rattle.pairs.specs.declared.Number.{Number}
+use Rattle.kerning.specs.declared.heads.Unready.{Unready}
 use Rattle.pairs.specs.Manual.{Rising, OrderedValue, ClassValue, Legible, Covered}
 use Rattle.pairs.specs.Manual as Pair
 use Rattle.line.specs.Line.{Line}
@@ -119,11 +109,8 @@ use Rattle.anchor_machine.specs.Manual.{action_type, action_table, mark_point, c
 use Rattle.anchor_machine.specs.declared.Anchoring.{Anchoring}
 use Rattle.anchor_machine.specs.declared.AnchorState.{AnchorState}
 use Rattle.anchor_machine.specs.declared.Numbers.TheVariants as Numbers
-use Rattle.anchor_machine.specs.declared.Written.TheVariants as Written
-use Rattle.anchor_machine.specs.declared.Opened.TheVariants as Machine
 use Rattle.kerning.specs.declared.choices.Choices as Choices'
 use Rattle.kerning_lists.specs.declared.Subtable as Subtable'
-use Rattle.kerning_lists.specs.declared.Head.TheVariants as Head
 use Rattle.kerx.specs.Heads.{head_in}
 use Rattle.kerx.specs.Anchored.{adding, machine_of}
 use Rattle.kerx.specs.Anchored as Anchored
@@ -150,12 +137,12 @@ pub record Lookups : Type 0 where
       → TheOne (λ i. u32_at bytes (pair_place first i)) (λ i. u32_at bytes (pair_place first i)) count key (searched bytes first Pairs count key)
   -- in all six formats the element found is the one that lies where the manual says, and it is found wherever it lies in the table, where crate and
   -- manual read alike
-  pub lookup_as_manual : (layout : Lookup.Layout) (bytes : List ℕ) (glyphs glyph : ℕ) → read_u16 bytes 0 ≡ U16.Got (Lookup.format_number layout)
+  pub lookup_as_manual : (layout : Lookup.Layout) (bytes : List ℕ) (glyphs glyph : ℕ) → read_u16 bytes 0 ≡ Some (Lookup.format_number layout)
       → Lookup.Alike bytes glyphs glyph layout → Lookup.AsManual bytes glyphs glyph layout
   -- in the manual's reading format 10 is the manual's with elements of one byte and of two, finds nothing with any other unit size, and the other formats
   -- are as in the crate's
-  pub format_ten : (bytes : List ℕ) (glyphs glyph : ℕ) → read_u16 bytes 0 ≡ U16.Got 10 → FormatTen bytes glyphs glyph
-  pub other_formats : (bytes : List ℕ) (glyph : ℕ) → (read_u16 bytes 0 ≡ U16.Got 10 → ⊥) → lookup_by Manual bytes glyph ≡ lookup_at bytes glyph
+  pub format_ten : (bytes : List ℕ) (glyphs glyph : ℕ) → read_u16 bytes 0 ≡ Some 10 → FormatTen bytes glyphs glyph
+  pub other_formats : (bytes : List ℕ) (glyph : ℕ) → (read_u16 bytes 0 ≡ Some 10 → ⊥) → lookup_by Manual bytes glyph ≡ lookup_at bytes glyph
   pub in_crate : (bytes : List ℕ) (glyph : ℕ) → lookup_by Crate bytes glyph ≡ lookup_at bytes glyph
   -- a table that the survey calls sorted has all its records in order
   pub survey_sound : (bytes : List ℕ) (kind : Kind) (count : ℕ) → scanned bytes kind count ≡ Sorted → InOrder bytes kind count
@@ -164,7 +151,7 @@ pub record Lookups : Type 0 where
   -- the record that it names is bad, while all before it are good
   pub survey_bad : (bytes : List ℕ) (kind : Kind) (count i : ℕ) → scanned bytes kind count ≡ Bad i → FirstBad bytes kind count i
   -- where format and count can be read, the survey answers each of sorted, bad and another unit size exactly when it should
-  pub survey_exact : (bytes : List ℕ) (kind : Kind) {number : ℕ} → read_u16 bytes 0 ≡ U16.Got number → format_of number ≡ Records kind → 6 ≤ length bytes
+  pub survey_exact : (bytes : List ℕ) (kind : Kind) {number : ℕ} → read_u16 bytes 0 ≡ Some number → format_of number ≡ Records kind → 6 ≤ length bytes
       → (s : Surveyed) → (survey_at bytes ≡ s → Says bytes kind s) × (Says bytes kind s → survey_at bytes ≡ s)
 
 -- Why nothing is found: what each reason says, who passes it on and who drops it.
@@ -172,12 +159,12 @@ pub record Reasons : Type 0 where
   -- unknown format exactly when the format can be read and is none of the six, cut short exactly when a read that the lookup tries fails, not covered
   -- otherwise
   pub why_exact : (bytes : List ℕ) (glyph : ℕ) (why : Why)
-      → (lookup_at bytes glyph ≡ Found.Nothing why → Because bytes glyph why) × (Because bytes glyph why → lookup_at bytes glyph ≡ Found.Nothing why)
+      → (lookup_at bytes glyph ≡ Err why → Because bytes glyph why) × (Because bytes glyph why → lookup_at bytes glyph ≡ Err why)
   -- on a table that the survey passes not covered means that no record holds the glyph
-  pub uncovered-exact : (bytes : List ℕ) (kind : Kind) (glyph : ℕ) {number : ℕ} → read_u16 bytes 0 ≡ U16.Got number → format_of number ≡ Records kind
+  pub uncovered-exact : (bytes : List ℕ) (kind : Kind) (glyph : ℕ) {number : ℕ} → read_u16 bytes 0 ≡ Some number → format_of number ≡ Records kind
       → survey_at bytes ≡ Sorted
-      → (lookup_at bytes glyph ≡ Found.Nothing NotCovered → (i : ℕ) → Holds (first_of bytes kind) (last_of bytes kind) (u16_at bytes 4) glyph i → ⊥)
-      × (((i : ℕ) → Holds (first_of bytes kind) (last_of bytes kind) (u16_at bytes 4) glyph i → ⊥) → lookup_at bytes glyph ≡ Found.Nothing NotCovered)
+      → (lookup_at bytes glyph ≡ Err NotCovered → (i : ℕ) → Holds (first_of bytes kind) (last_of bytes kind) (u16_at bytes 4) glyph i → ⊥)
+      × (((i : ℕ) → Holds (first_of bytes kind) (last_of bytes kind) (u16_at bytes 4) glyph i → ⊥) → lookup_at bytes glyph ≡ Err NotCovered)
   -- each reason once, by computation
   pub known-reasons : KnownReasons
   -- a lookup's answer passes it on
@@ -185,31 +172,31 @@ pub record Reasons : Type 0 where
       → lookup_reply table start glyph ≡ reply_of (lookup_at (drop start table) glyph)
   -- and so does a pair's
   pub pair_passes_on : (bytes : List ℕ) (pairs : PairTable) (left right : ℕ)
-      → Reply.reply_of bytes (Opened.Ready pairs) left right ≡ number_reply (pair_number bytes pairs left right)
+      → Reply.reply_of bytes (Ok pairs) left right ≡ number_reply (pair_number bytes pairs left right)
   -- a search that ends without the pair is not covered
   pub absent-uncovered : (bytes : List ℕ) (first count left right : ℕ) → searched bytes first Pairs count (key_of left right) ≡ Spot.Absent
-      → pair_number bytes (Ordered first count) left right ≡ Number.Nothing NotCovered
+      → pair_number bytes (Ordered first count) left right ≡ Err NotCovered
   -- of class pairs the left glyph's lookup speaks first, then the right one's, then the number's read
-  pub left_speaks_first : (bytes : List ℕ) (rows columns array left right : ℕ) (why : Why) → lookup_at (drop rows bytes) left ≡ Found.Nothing why
-      → pair_number bytes (Classes rows columns array Crate) left right ≡ Number.Nothing why
-  pub right_speaks_next : (bytes : List ℕ) (rows columns array left right row : ℕ) (why : Why) → lookup_at (drop rows bytes) left ≡ Found.At row
-      → lookup_at (drop columns bytes) right ≡ Found.Nothing why → pair_number bytes (Classes rows columns array Crate) left right ≡ Number.Nothing why
-  pub number_speaks_last : (bytes : List ℕ) (rows columns array left right row column : ℕ) → lookup_at (drop rows bytes) left ≡ Found.At row
-      → lookup_at (drop columns bytes) right ≡ Found.At column
+  pub left_speaks_first : (bytes : List ℕ) (rows columns array left right : ℕ) (why : Why) → lookup_at (drop rows bytes) left ≡ Err why
+      → pair_number bytes (Classes rows columns array Crate) left right ≡ Err why
+  pub right_speaks_next : (bytes : List ℕ) (rows columns array left right row : ℕ) (why : Why) → lookup_at (drop rows bytes) left ≡ Ok row
+      → lookup_at (drop columns bytes) right ≡ Err why → pair_number bytes (Classes rows columns array Crate) left right ≡ Err why
+  pub number_speaks_last : (bytes : List ℕ) (rows columns array left right row column : ℕ) → lookup_at (drop rows bytes) left ≡ Ok row
+      → lookup_at (drop columns bytes) right ≡ Ok column
       → pair_number bytes (Classes rows columns array Crate) left right ≡ number_at bytes (array + row + column)
   -- classes drop it: 1, whatever the reason
-  pub class_drops : (bytes : List ℕ) (glyph : ℕ) (why : Why) {states : States} → extended_at bytes ≡ Ready states → (glyph ≡ 65535 → ⊥)
-      → lookup_at (drop (class_table extended bytes) bytes) glyph ≡ Found.Nothing why → class_of bytes states glyph ≡ 1
+  pub class_drops : (bytes : List ℕ) (glyph : ℕ) (why : Why) {states : States} → extended_at bytes ≡ Some states → (glyph ≡ 65535 → ⊥)
+      → lookup_at (drop (class_table extended bytes) bytes) glyph ≡ Err why → class_of bytes states glyph ≡ 1
   -- contextual substitution drops it: there is no substitute, whatever the reason
   pub contextual_drops : (bytes : List ℕ) (number glyph : ℕ) → (number ≡ 0xFFFF → ⊥) → 20 ≤ length bytes
-      → u32_at bytes 16 + number * 4 + 4 ≤ length bytes → (why : Why) → lookup_at (lookup_number bytes number) glyph ≡ Found.Nothing why
-      → substitute_of bytes number glyph ≡ Substitute.None
+      → u32_at bytes 16 + number * 4 + 4 ≤ length bytes → (why : Why) → lookup_at (lookup_number bytes number) glyph ≡ Err why
+      → substitute_of bytes number glyph ≡ None
   -- non-contextual substitution drops it: nothing is written at the glyph's place
-  pub noncontextual_drops : (lookup : ℕ → Found) (glyphs : List ℕ) (place : ℕ) (why : Why) → lookup (get_or glyphs place 0) ≡ Found.Nothing why
+  pub noncontextual_drops : (lookup : ℕ → Result ℕ Why) (glyphs : List ℕ) (place : ℕ) (why : Why) → lookup (get_or glyphs place 0) ≡ Err why
       → writes_below lookup glyphs (suc place) ≡ writes_below lookup glyphs place
   -- the pair pass drops it: two neighbours add nothing
-  pub pass_drops : (number : (left right : ℕ) → Number) (glyphs : List ℕ) (place : ℕ) (why : Why)
-      → number (get_or glyphs place 0) (get_or glyphs (suc place) 0) ≡ Number.Nothing why
+  pub pass_drops : (number : (left right : ℕ) → Result ℤ Why) (glyphs : List ℕ) (place : ℕ) (why : Why)
+      → number (get_or glyphs place 0) (get_or glyphs (suc place) 0) ≡ Err why
       → pairs_below every_place number glyphs (suc (suc place)) ≡ pairs_below every_place number glyphs (suc place)
 
 -- A mended lookup table.
@@ -219,16 +206,16 @@ pub record Mends : Type 0 where
       → survey_at (new_table (mend_call buffer numbers size table start)) ≡ Sorted
   -- every glyph finds in it what a plain look from the first record down finds in the old table; it is not covered in one exactly when in the other
   pub mended-lookup : (buffer numbers : List ℕ) (size : ℕ) (table : List ℕ) (start : ℕ) → AreBytes table → {kind : Kind} {count : ℕ}
-      → lot_of (drop start table) ≡ Of kind count → (mend_call buffer numbers size table start).answer ≡ Done → (glyph : ℕ)
+      → lot_of (drop start table) ≡ Some (record { kind = kind; count = count }) → (mend_call buffer numbers size table start).answer ≡ Done → (glyph : ℕ)
       → lookup_at (new_table (mend_call buffer numbers size table start)) glyph ≡ plain_look (drop start table) kind glyph count 0
   -- kept records have different numbers below the count of the new table, which has their bytes there; the others have 0xFFFF
   pub mended-numbers : (buffer numbers : List ℕ) (size : ℕ) (table : List ℕ) (start : ℕ) → AreBytes table → {kind : Kind} {count : ℕ}
-      → lot_of (drop start table) ≡ Of kind count → (mend_call buffer numbers size table start).answer ≡ Done
+      → lot_of (drop start table) ≡ Some (record { kind = kind; count = count }) → (mend_call buffer numbers size table start).answer ≡ Done
       → Renumbered (drop start table) (new_table (mend_call buffer numbers size table start)) kind count
       (u16_at (new_table (mend_call buffer numbers size table start)) 4) (mend_call buffer numbers size table start).numbers
   -- OVERLAP exactly when two records to be kept share a glyph
   pub overlap_exact : (buffer numbers : List ℕ) (size : ℕ) (table : List ℕ) (start : ℕ) → length table ≤ table_limit → {kind : Kind} {count : ℕ}
-      → lot_of (drop start table) ≡ Of kind count
+      → lot_of (drop start table) ≡ Some (record { kind = kind; count = count })
       → ((mend_call buffer numbers size table start).answer ≡ Refused Overlap → Shared (drop start table) kind count)
       × (Shared (drop start table) kind count → (mend_call buffer numbers size table start).answer ≡ Refused Overlap)
   -- a refusal leaves buffer, numbers and size as they were
@@ -242,16 +229,16 @@ pub record Mends : Type 0 where
 -- State tables: classes and entries.
 pub record StateTables : Type 0 where
   -- an extended class is the manual's, where the class table is a lookup that crate and manual read alike
-  pub class_by-lookup : (bytes : List ℕ) (layout : Lookup.Layout) (glyphs glyph : ℕ) {states : States} → extended_at bytes ≡ Ready states
-      → read_u16 (drop (class_table extended bytes) bytes) 0 ≡ U16.Got (Lookup.format_number layout)
+  pub class_by-lookup : (bytes : List ℕ) (layout : Lookup.Layout) (glyphs glyph : ℕ) {states : States} → extended_at bytes ≡ Some states
+      → read_u16 (drop (class_table extended bytes) bytes) 0 ≡ Some (Lookup.format_number layout)
       → ((glyph ≡ 65535 → ⊥) → Lookup.Alike (drop (class_table extended bytes) bytes) glyphs glyph layout)
       → ClassIs (LookupGives (drop (class_table extended bytes) bytes) layout glyphs glyph) glyph (class_of bytes states glyph)
   -- a classic class is the manual's, of any glyph
-  pub class_by_array_lem : (bytes : List ℕ) (glyph : ℕ) {states : States} → classic_at bytes ≡ Ready states
+  pub class_by_array_lem : (bytes : List ℕ) (glyph : ℕ) {states : States} → classic_at bytes ≡ Some states
       → ClassIs (ArrayGives (drop (class_table classic bytes) bytes) glyph) glyph (class_of bytes states glyph)
   -- in both layouts the entry of a state and a class below the class count is the manual's, wherever that names a state
   pub entry_as_manual : (layout : StateTable.Layout) (bytes : List ℕ) (state class payload : ℕ) {states : States}
-      → StateTable.head_at layout bytes ≡ Ready states → StateTable.AsManual layout bytes states state class payload
+      → StateTable.head_at layout bytes ≡ Some states → StateTable.AsManual layout bytes states state class payload
 
 -- The sixteen verbs.
 pub record Verbs : Type 0 where
@@ -273,19 +260,19 @@ pub record SubtableLists : Type 0 where
   pub by_manual : (bytes : List ℕ) (number glyph : ℕ) → (number ≡ 0xFFFF → ⊥) → 20 ≤ length bytes
       → u32_at bytes 16 + number * 4 + 4 ≤ length bytes → substitute_of bytes number glyph ≡ substitute_by (lookup_at (lookup_number bytes number) glyph)
   pub past_manual : (bytes : List ℕ) (number glyph : ℕ) → (number ≡ 0xFFFF → ⊥) → 20 ≤ length bytes
-      → length bytes < u32_at bytes 16 + number * 4 + 4 → substitute_of bytes number glyph ≡ Substitute.None
+      → length bytes < u32_at bytes 16 + number * 4 + 4 → substitute_of bytes number glyph ≡ None
   -- ligature action i, component i and ligature i lie where the manual says; one past the table can't be read
   pub action_by_manual : (bytes : List ℕ) (i : ℕ) → 20 ≤ length bytes → u32_at bytes 16 + i * 4 + 4 ≤ length bytes
-      → read_action bytes i ≡ U32.Got (action_number bytes i)
-  pub action_past_manual : (bytes : List ℕ) (i : ℕ) → 20 ≤ length bytes → length bytes < u32_at bytes 16 + i * 4 + 4 → read_action bytes i ≡ U32.Short
+      → read_action bytes i ≡ Some (action_number bytes i)
+  pub action_past_manual : (bytes : List ℕ) (i : ℕ) → 20 ≤ length bytes → length bytes < u32_at bytes 16 + i * 4 + 4 → read_action bytes i ≡ None
   pub component_by_manual : (bytes : List ℕ) (i : ℕ) → 24 ≤ length bytes → u32_at bytes 20 + i * 2 + 2 ≤ length bytes
-      → read_number bytes 20 i ≡ U16.Got (component_number bytes i)
+      → read_number bytes 20 i ≡ Some (component_number bytes i)
   pub component_past_manual : (bytes : List ℕ) (i : ℕ) → 24 ≤ length bytes → length bytes < u32_at bytes 20 + i * 2 + 2
-      → read_number bytes 20 i ≡ U16.Short
+      → read_number bytes 20 i ≡ None
   pub ligature_by_manual : (bytes : List ℕ) (i : ℕ) → 28 ≤ length bytes → u32_at bytes 24 + i * 2 + 2 ≤ length bytes
-      → read_number bytes 24 i ≡ U16.Got (ligature_number bytes i)
+      → read_number bytes 24 i ≡ Some (ligature_number bytes i)
   pub ligature_past_manual : (bytes : List ℕ) (i : ℕ) → 28 ≤ length bytes → length bytes < u32_at bytes 24 + i * 2 + 2
-      → read_number bytes 24 i ≡ U16.Short
+      → read_number bytes 24 i ≡ None
   -- a list to insert has the manual's glyphs
   pub glyphs_by_manual : (bytes : List ℕ) (number count : ℕ) → glyphs_at bytes (u32_at bytes 16 + number * 2) count ≡ glyphs_from bytes number count
   -- one of some glyphs is read exactly where they lie in the table
@@ -310,24 +297,24 @@ pub record Chains : Type 0 where
   pub chain_as_manual : (edition : Edition) (table : List ℕ) (start : ℕ) → start + 8 ≤ length table → (i : ℕ) → i < chain_total table start
       → Lie table (chain_head_size edition) (chain_place table start) (suc i)
       → next_chain edition table (after_chains table edition i (chains_from table start))
-      ≡ Chain.At (manual_chain edition table (chain_place table start i) (chain_total table start - suc i))
+      ≡ Some (manual_chain edition table (chain_place table start i) (chain_total table start - suc i))
   pub chains-end : (edition : Edition) (table : List ℕ) (start : ℕ) → start + 8 ≤ length table → (n : ℕ)
       → EndsAt table (chain_head_size edition) (chain_place table start) (chain_total table start) n
-      → next_chain edition table (after_chains table edition n (chains_from table start)) ≡ Chain.End
+      → next_chain edition table (after_chains table edition n (chains_from table start)) ≡ None
   -- so are feature j of a chain
   pub feature_as_manual : (edition : Edition) (table : List ℕ) (chain j : ℕ) → j < feature_total edition table chain → Lie table 12 (feature_place edition chain) (suc j)
       → next_feature table (after_features table j (manual_chain edition table chain 0).features)
-      ≡ Feature.At (manual_feature table (feature_place edition chain j) (feature_total edition table chain - suc j))
+      ≡ Some (manual_feature table (feature_place edition chain j) (feature_total edition table chain - suc j))
   pub features-end : (edition : Edition) (table : List ℕ) (chain n : ℕ) → EndsAt table 12 (feature_place edition chain) (feature_total edition table chain) n
-      → next_feature table (after_features table n (manual_chain edition table chain 0).features) ≡ Feature.End
+      → next_feature table (after_features table n (manual_chain edition table chain 0).features) ≡ None
   -- and subtable k
   pub subtable_as_manual : (edition : Edition) (table : List ℕ) (chain k : ℕ) → k < subtable_total edition table chain
       → Lie table (subtable_head_size edition) (subtable_place edition table chain) (suc k)
       → next_subtable edition table (after_subtables table edition k (manual_chain edition table chain 0).subtables)
-      ≡ Subtable.At (manual_subtable edition table (subtable_place edition table chain k) (subtable_total edition table chain - suc k))
+      ≡ Some (manual_subtable edition table (subtable_place edition table chain k) (subtable_total edition table chain - suc k))
   pub subtables_end : (edition : Edition) (table : List ℕ) (chain n : ℕ)
       → EndsAt table (subtable_head_size edition) (subtable_place edition table chain) (subtable_total edition table chain) n
-      → next_subtable edition table (after_subtables table edition n (manual_chain edition table chain 0).subtables) ≡ Subtable.End
+      → next_subtable edition table (after_subtables table edition n (manual_chain edition table chain 0).subtables) ≡ None
   -- the heads that a run walks over are the manual's, chain 0, its subtables, chain 1, and so on: as many of them as a run may count, and one more
   pub walk_as_manual : (edition : Edition) (table : List ℕ) (start : ℕ) → walk_of edition table start ≡ take (suc head_limit) (manual_heads edition table start)
 
@@ -335,10 +322,10 @@ pub record Chains : Type 0 where
 -- manual's reading.
 pub record Older : Type 0 where
   -- kind 0: the rearrangement machine of morx, by the classic state table behind the head
-  pub rearranges : (bytes : List ℕ) (l : Line) {states : States} → has_kind bytes 0 ≡ true → classic_at (drop 8 bytes) ≡ Ready states
+  pub rearranges : (bytes : List ℕ) (l : Line) {states : States} → has_kind bytes 0 ≡ true → classic_at (drop 8 bytes) ≡ Some states
       → old_rearrangement.worked bytes l ≡ passed rearrangement (drop 8 bytes) states l
   -- where that can't be opened the pass is ENDED, and changes nothing
-  pub ends_closed : (bytes : List ℕ) (l : Line) → has_kind bytes 0 ≡ true → classic_at (drop 8 bytes) ≡ Short
+  pub ends_closed : (bytes : List ℕ) (l : Line) → has_kind bytes 0 ≡ true → classic_at (drop 8 bytes) ≡ None
       → old_rearrangement.worked bytes l ≡ record { answer = Ended; changes = [] }
   -- kind 4: the non-contextual pass of morx, by the lookup behind the head in the manual's reading
   pub substitutes : (bytes : List ℕ) (l : Line) → has_kind bytes 4 ≡ true → old_non_contextual.worked bytes l ≡ NonContextual.passed (lookup_by Manual (drop 8 bytes)) l
@@ -446,14 +433,14 @@ pub record Choosing : Type 0 where
       → Family'.run_call family table start rtl l along (choices_of 0) ≡ Family'.run_call family table start rtl l along unchosen
   -- there every place counts
   pub neighbours_all : (bytes : List ℕ) (pairs : PairTable) (glyphs : List ℕ) (used : ℕ)
-      → (worked_by bytes (Opened.Ready pairs) glyphs used unchosen.pairs).additions ≡ pairs_below every_place (pair_number bytes pairs) glyphs used
+      → (worked_by bytes (Ok pairs) glyphs used unchosen.pairs).additions ≡ pairs_below every_place (pair_number bytes pairs) glyphs used
   -- bits without a name are not looked at
   pub unnamed_bits : (bits : ℕ) → choices_of bits ≡ choices_of (bits % 4)
   -- joined pairs: the additions are those of the pairs of two glyphs below 0xFFFF with only 0xFFFF between them, each to the first of the two
   pub joined-pairs : (bytes : List ℕ) (pairs : PairTable) (glyphs : List ℕ) (used : ℕ) → ((k : ℕ) → k < used → get_or glyphs k 0 ≤ 0xFFFF)
-      → AddedBy (JoinedPair glyphs used) (pair_number bytes pairs) glyphs (worked_by bytes (Opened.Ready pairs) glyphs used Joined).additions
+      → AddedBy (JoinedPair glyphs used) (pair_number bytes pairs) glyphs (worked_by bytes (Ok pairs) glyphs used Joined).additions
   -- without 0xFFFF among the used glyphs both rules give the same
-  pub joined_without_deleted : (bytes : List ℕ) (opened : Opened) (glyphs : List ℕ) (used : ℕ) → ((k : ℕ) → k < used → get_or glyphs k 0 < 0xFFFF)
+  pub joined_without_deleted : (bytes : List ℕ) (opened : Result PairTable Unready) (glyphs : List ℕ) (used : ℕ) → ((k : ℕ) → k < used → get_or glyphs k 0 < 0xFFFF)
       → worked_by bytes opened glyphs used Joined ≡ worked_by bytes opened glyphs used Neighbours
   -- without its bit the manual's reading of kerx is not chosen, and every answer is the crate reading's
   pub manual_default : (bits : ℕ) → is_set bits 2 ≡ false → choices_of bits ≡ record { pairs = rule_of bits; reading = Crate }
@@ -463,8 +450,8 @@ pub record Choosing : Type 0 where
       → Kerx'.worked bytes version format glyphs used (record { pairs = rule; reading = Manual })
       ≡ Kerx'.worked bytes version format glyphs used (record { pairs = rule; reading = Crate })
   -- and a machine's classes are those of the crate's reading, so that it differs in its lists alone
-  pub manual_classes : (bytes : List ℕ) → (read_u16 (drop (u32_at bytes 4) bytes) 0 ≡ U16.Got 10 → ⊥) → (glyph : ℕ) {crates manuals : States}
-      → extended_by Crate bytes ≡ Ready crates → extended_by Manual bytes ≡ Ready manuals → class_of bytes manuals glyph ≡ class_of bytes crates glyph
+  pub manual_classes : (bytes : List ℕ) → (read_u16 (drop (u32_at bytes 4) bytes) 0 ≡ Some 10 → ⊥) → (glyph : ℕ) {crates manuals : States}
+      → extended_by Crate bytes ≡ Some crates → extended_by Manual bytes ≡ Some manuals → class_of bytes manuals glyph ≡ class_of bytes crates glyph
   -- known cases by computation
   pub known-pairs : KnownPairs
 
@@ -473,7 +460,8 @@ pub record Marks : Type 0 where
   -- what is written is exact: x and y are the marked glyph's point less the current glyph's, from -65,535 to 65,535, and the distance is the mark's, below
   -- 255
   pub offset-exact : (ankr : List ℕ) (reading : Reading) (s : AnchorState) (index glyph mark current : ℕ) {x y : ℤ} {back : ℕ}
-      → written_by ankr reading s index glyph (Numbers.At mark current) ≡ Written.At x y back → Exact ankr reading s index glyph mark current x y back
+      → written_by ankr reading s index glyph (Numbers.At mark current) ≡ Some (record { x = x; y = y; back = back })
+      → Exact ankr reading s index glyph mark current x y back
   -- so is each write of a pass, at a place of its line, by the mark that stands there: it has the glyph of the place where it was set, which is not ahead,
   -- or is place 0 with glyph 0 before any
   pub pass-exact : (table ankr : List ℕ) (start version : ℕ) (l : Line) (along x y : List ℤ) (back : List ℕ) (choices : Choices'.Choices)
@@ -489,12 +477,12 @@ pub record Marks : Type 0 where
   -- and an anchored pass by a subtable that is not of format 4 is the pass without anchors, and writes nothing to them
   pub anchored-pass : (table ankr : List ℕ) (start : ℕ) (l : Line) (along x y : List ℤ) (back : List ℕ) (choices : Choices'.Choices) → length ankr ≤ table_limit
       → are_long (length l.glyphs) x y back ≡ true → (version : ℕ)
-      → ((s : Subtable'.Subtable) → head_in false version 0 (drop start table) ≡ Head.At s → s.format ≡ 4 → ⊥)
+      → ((s : Subtable'.Subtable) → head_in false version 0 (drop start table) ≡ Some s → s.format ≡ 4 → ⊥)
       → Anchored.pass_call table ankr start version l along x y back choices ≡ adding (Family'.pass_call kerx table start version l along choices)
   -- the state table begins 12 bytes into the subtable, and action type and action table are told behind its head, as the manual says
-  pub marks_as_manual : (bytes : List ℕ) (version : ℕ) {states : States} → Kerx.HasFormat bytes 4 32 → extended_by Crate (drop 12 bytes) ≡ Ready states
+  pub marks_as_manual : (bytes : List ℕ) (version : ℕ) {states : States} → Kerx.HasFormat bytes 4 32 → extended_by Crate (drop 12 bytes) ≡ Some states
       → machine_of bytes version Crate
-      ≡ Machine.Ready (record { states = states; reading = Crate; action = action_type (drop 12 bytes); control = action_table (drop 12 bytes) })
+      ≡ Ok (record { states = states; reading = Crate; action = action_type (drop 12 bytes); control = action_table (drop 12 bytes) })
   -- record i of the action table lies where the manual says, and is that of index 2 i; one past the table can't be read
   pub record_by_manual : (bytes : List ℕ) (anchoring : Anchoring) (i : ℕ) → anchoring.action ≡ 1 → anchoring.control ≡ action_table bytes
       → action_table bytes + i * 4 + 4 ≤ length bytes → numbers_of bytes anchoring (i * 2) ≡ Numbers.At (mark_point bytes i) (current_point bytes i)
@@ -502,7 +490,7 @@ pub record Marks : Type 0 where
       → length bytes < action_table bytes + i * 4 + 4 → numbers_of bytes anchoring (i * 2) ≡ Numbers.Short
   -- a glyph's points lie where the manual says, by a lookup that crate and manual read alike
   pub points_as_manual : (ankr : List ℕ) (glyphs glyph : ℕ) (layout : Lookup.Layout) (number : ℕ) → 12 ≤ length ankr
-      → read_u16 (Ankr.lookup_part ankr) 0 ≡ U16.Got (Lookup.format_number layout) → Lookup.Alike (Ankr.lookup_part ankr) glyphs glyph layout
+      → read_u16 (Ankr.lookup_part ankr) 0 ≡ Some (Lookup.format_number layout) → Lookup.Alike (Ankr.lookup_part ankr) glyphs glyph layout
       → Ankr.AsManual ankr glyphs glyph layout number
   -- known cases by computation
   pub known-marks : KnownMarks

@@ -1,8 +1,7 @@
 -- Demand 3: from a fresh line, or one that was read, through any sequence of substitution passes, every typed character belongs to exactly one place, the one that the
 -- history of edits gives; the length is the characters typed plus the glyphs inserted, and never exceeds the room.
-use Rattle.std.specs.Prelude.{ℕ, ◌<◌, ◌≡◌, List, [], map, ◌++◌, length, take, drop, get_or, false}
+use Rattle.std.specs.Prelude.{ℕ, ◌<◌, ◌≡◌, List, [], map, ◌++◌, length, take, drop, get_or, false, Ok, Err}
 use Rattle.answers.specs.Refuse.{refuse}
-use Rattle.answers.specs.declared.Check.TheVariants.{Passed}
 use Rattle.answers.specs.declared.Refusal.TheVariants as Refusal
 use Rattle.line.specs.Line.{Line, Valid, Belongs, line_of, OnceEach}
 use Rattle.line.specs.Changes.{Change, apply_all, history_of}
@@ -12,7 +11,6 @@ use Rattle.line.specs.Known as Known
 use Rattle.stored.specs.Record.{record_of, size_of}
 use Rattle.stored.specs.Reading.{AreBytes, version_in, read_line, Accepted}
 use Rattle.stored.specs.Entries.{newest_version, record_tests, read_tests, read_call}
-use Rattle.stored.specs.declared.ReadLine.TheVariants as Read
 use Rattle.stored.specs.Known as Records
 use Rattle.morx.specs.Sequence.{Call, leaves, makes}
 use Rattle.morx.specs.Memory.{in_memory}
@@ -35,15 +33,15 @@ pub record Stored : Type 0 where
       → record_of (read_line bytes glyphs tags) ≡ bytes
   -- none of TABLE, VERSION and RECORD is given exactly when the bytes are those that are to be accepted
   pub accepted_exact : (newest : ℕ) (bytes : List ℕ)
-      → (refuse (record_tests newest bytes []) ≡ Passed → Accepted newest bytes) × (Accepted newest bytes → refuse (record_tests newest bytes []) ≡ Passed)
+      → (refuse (record_tests newest bytes []) ≡ Ok tt → Accepted newest bytes) × (Accepted newest bytes → refuse (record_tests newest bytes []) ≡ (Ok tt))
   -- how many bytes a record has
   pub record_size : (glyphs tags homes : List ℕ) (used : ℕ) → length (record_of (line_of glyphs tags homes used)) ≡ size_of used (length homes)
   -- a line that was read is valid
-  pub read_valid : (newest : ℕ) (bytes glyphs tags homes : List ℕ) → refuse (read_tests newest bytes glyphs tags homes) ≡ Passed
+  pub read_valid : (newest : ℕ) (bytes glyphs tags homes : List ℕ) → refuse (read_tests newest bytes glyphs tags homes) ≡ Ok tt
       → Valid (read_line bytes glyphs tags)
   -- a box that knows version 1 alone answers VERSION to every record of version 2, and writes nothing
   pub older_refuses : (bytes glyphs tags homes : List ℕ) → Accepted newest_version bytes → version_in bytes ≡ 2
-      → read_call 1 bytes glyphs tags homes ≡ record { reply = Read.Refused Refusal.Version; glyphs = glyphs; tags = tags; homes = homes }
+      → read_call 1 bytes glyphs tags homes ≡ record { reply = Err Refusal.Version; glyphs = glyphs; tags = tags; homes = homes }
   -- bytes of version 1 it reads as the newest box does, whatever they are
   pub older_alike : (bytes glyphs tags homes : List ℕ) → version_in bytes ≡ 1
       → read_call 1 bytes glyphs tags homes ≡ read_call newest_version bytes glyphs tags homes
@@ -76,31 +74,31 @@ pub record Reels : Type 0 where
       → FromLine (parts_of r k).line (history_by leaves makes (calls_of r k steps) (parts_of r k).line) (parts_of (steps_leave r k steps r) k).line
   -- from a fresh one
   pub reel-fresh-demand3 : (r : Reel) (k : ℕ) → k < lines_of r → Lent r → (steps : List (Step r k)) → (glyphs tags homes : List ℕ)
-      → refuse (fresh_tests glyphs tags homes) ≡ Passed → (parts_of r k).line ≡ fresh_of glyphs tags homes
+      → refuse (fresh_tests glyphs tags homes) ≡ Ok tt → (parts_of r k).line ≡ fresh_of glyphs tags homes
       → FromFresh (length glyphs) (length homes)
       (history_by leaves makes (calls_of r k steps) (fresh_of glyphs tags homes)) (parts_of (steps_leave r k steps r) k).line
   -- and from one just read
   pub reel_read_demand3 : (r : Reel) (k : ℕ) → k < lines_of r → Lent r → (steps : List (Step r k)) → (bytes glyphs tags homes : List ℕ)
-      → refuse (read_tests newest_version bytes glyphs tags homes) ≡ Passed → (parts_of r k).line ≡ read_line bytes glyphs tags
+      → refuse (read_tests newest_version bytes glyphs tags homes) ≡ Ok tt → (parts_of r k).line ≡ read_line bytes glyphs tags
       → FromLine (read_line bytes glyphs tags)
       (history_by leaves makes (calls_of r k steps) (read_line bytes glyphs tags)) (parts_of (steps_leave r k steps r) k).line
 
 pub record Demand3 : Type 0 where
   -- Demand 3 itself: from a fresh line, over any sequence of lone verbs, passes of every kind, steps that write the line and whole runs with any
   -- requests, of morx and of mort in any mixture, refused and cut-short ones included, on any tables
-  pub fresh-demand3 : (glyphs tags homes : List ℕ) → refuse (fresh_tests glyphs tags homes) ≡ Passed → (calls : List Call)
+  pub fresh-demand3 : (glyphs tags homes : List ℕ) → refuse (fresh_tests glyphs tags homes) ≡ Ok tt → (calls : List Call)
       → FromFresh (length glyphs) (length homes)
       (history_by leaves makes calls (fresh_of glyphs tags homes)) (left_by leaves makes calls (fresh_of glyphs tags homes))
   -- the same from any valid line, each character starting where it is found
   pub demand3 : (calls : List Call) (l : Line) → Valid l → FromLine l (history_by leaves makes calls l) (left_by leaves makes calls l)
   -- from a line just read, in any room: its homes are the start of the history, and its length stands for the characters typed
-  pub read_demand3 : (bytes glyphs tags homes : List ℕ) → refuse (read_tests newest_version bytes glyphs tags homes) ≡ Passed → (calls : List Call)
+  pub read_demand3 : (bytes glyphs tags homes : List ℕ) → refuse (read_tests newest_version bytes glyphs tags homes) ≡ Ok tt → (calls : List Call)
       → FromLine (read_line bytes glyphs tags)
       (history_by leaves makes calls (read_line bytes glyphs tags)) (left_by leaves makes calls (read_line bytes glyphs tags))
   -- a line that is taken as fresh is valid
-  pub fresh-valid : (glyphs tags homes : List ℕ) → refuse (fresh_tests glyphs tags homes) ≡ Passed → Valid (fresh_of glyphs tags homes)
+  pub fresh-valid : (glyphs tags homes : List ℕ) → refuse (fresh_tests glyphs tags homes) ≡ Ok tt → Valid (fresh_of glyphs tags homes)
   -- and each of its characters starts at its own place
-  pub fresh_starts : (glyphs tags homes : List ℕ) → refuse (fresh_tests glyphs tags homes) ≡ Passed → (c : ℕ)
+  pub fresh_starts : (glyphs tags homes : List ℕ) → refuse (fresh_tests glyphs tags homes) ≡ Ok tt → (c : ℕ)
       → c < length (fresh_of glyphs tags homes).homes → Belongs (fresh_of glyphs tags homes) c c
   -- on a valid line every call leaves what the changes that it states make of it, and these never exceed the room
   pub calls_honest : Honest leaves makes

@@ -1,9 +1,9 @@
 -- The answers that document 01 marks, in one table.
-use Rattle.std.specs.Prelude.{ℕ, ◌≡◌, List, [], ◌∷◌, map, length, take, ℤ, pos, negsuc}
+use Rattle.answers.specs.declared.Refusal.{Refusal}
+use Rattle.tables.specs.declared.lookup.Why.{Why}
+use Rattle.std.specs.Prelude.{ℕ, ◌≡◌, List, [], ◌∷◌, map, length, take, ℤ, pos, negsuc, Option, Some, None, Result, Ok, Err}
 use Rattle.answers.specs.Numbers.{number_of, answer_of}
 use Rattle.answers.specs.declared.Answer.TheVariants as Answer
-use Rattle.answers.specs.declared.Reply.{Reply}
-use Rattle.answers.specs.declared.Reply.TheVariants.{Value, Nothing, Refused}
 use Rattle.kerning.specs.Additions.{add_all}
 use Rattle.kerning.specs.Choices.{choices_of}
 use Rattle.kerning_lists.specs.Run.{zeros}
@@ -15,8 +15,6 @@ use Rattle.state_tables.specs.Classes.{class_extended}
 use Rattle.ligature.specs.Actions.{offset_of}
 use Rattle.tables.specs.Lookup.{lookup_reply}
 use Rattle.tables.specs.declared.lookup.Why.TheVariants.{NotCovered, CutShort, UnknownFormat}
-use Rattle.tables.specs.declared.lookup.LookupReply.{LookupReply}
-use Rattle.tables.specs.declared.lookup.LookupReply.TheVariants as Lookup
 
 -- what is asked: the element of a glyph in the lookup table that these bytes are; the glyphs of the line 10 to 14 after a verb on a window; the
 -- class of a glyph in the extended state table that these bytes are; the offset of a ligature action
@@ -31,15 +29,15 @@ pub record Given : Type 0 where
   pub number : ℕ
   pub values : List ℤ
 
-abbrev given : Reply → Given
-given (Value v) = record { number = 0; values = pos v ∷ [] }
-given Nothing = record { number = 1; values = [] }
-given (Refused why) = record { number = number_of (answer_of (Refused why)); values = [] }
+abbrev given : Result (Option ℕ) Refusal → Given
+given (Ok (Some v)) = record { number = 0; values = pos v ∷ [] }
+given (Ok None) = record { number = 1; values = [] }
+given (Err why) = record { number = number_of (answer_of (Err why)); values = [] }
 
-abbrev looked : LookupReply → Given
-looked (Lookup.Element element) = record { number = 0; values = pos element ∷ [] }
-looked (Lookup.Nothing why) = record { number = 1; values = [] }
-looked (Lookup.Refused why) = record { number = number_of (Answer.Refused why); values = [] }
+abbrev looked : Result (Result ℕ Why) Refusal → Given
+looked (Ok (Ok element)) = record { number = 0; values = pos element ∷ [] }
+looked (Ok (Err why)) = record { number = 1; values = [] }
+looked (Err why) = record { number = number_of (Answer.Refused why); values = [] }
 
 -- a fresh line of five characters
 abbrev line : Line
@@ -96,9 +94,9 @@ AllKnown = map (λ (r : Row). answer_to r.asked) rows ≡ map (λ (r : Row). r.a
 
 -- why nothing is found: a glyph before the first, an element that is cut off, a format that no lookup table has
 pub record KnownReasons : Type 0 where
-  pub before_the_first : lookup_reply trimmed 0 4 ≡ Lookup.Nothing NotCovered
-  pub cut_off : lookup_reply (take 8 trimmed) 0 6 ≡ Lookup.Nothing CutShort
-  pub format_three : lookup_reply (0 ∷ 3 ∷ []) 0 6 ≡ Lookup.Nothing UnknownFormat
+  pub before_the_first : lookup_reply trimmed 0 4 ≡ Ok (Err NotCovered)
+  pub cut_off : lookup_reply (take 8 trimmed) 0 6 ≡ Ok (Err CutShort)
+  pub format_three : lookup_reply (0 ∷ 3 ∷ []) 0 6 ≡ Ok (Err UnknownFormat)
 
 -- a kern subtable of the old edition: the pair 5 6, and 10 for it
 abbrev one_pair : List ℕ

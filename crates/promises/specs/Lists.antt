@@ -1,7 +1,6 @@
 -- The lists of numbers of kern and kerx: three instances of the one statement about walks, each by where number k lies and what its end rule makes of a number.
-use Rattle.std.specs.Prelude.{ℕ, ◌+◌, ◌*◌, ◌%◌, ◌<◌, ◌^◌, ◌≡◌, Bool, false, List, [], drop}
+use Rattle.std.specs.Prelude.{ℕ, ◌+◌, ◌*◌, ◌%◌, ◌<◌, ◌^◌, ◌≡◌, Bool, false, List, [], drop, Some}
 use Rattle.parse.specs.Reads.{u32_at, read_u16}
-use Rattle.parse.specs.declared.ReadU16.TheVariants.{Got}
 use Rattle.kerning.specs.Lists.{leaves, ruled}
 use Rattle.kerning.specs.Walks.{Walks}
 use Rattle.kerning.specs.declared.lists.Rule.TheVariants.{Odd, Never, Marked}
@@ -10,7 +9,7 @@ use Rattle.kerning_machine.specs.declared.Reading.TheVariants.{Kern, Kerx, Manua
 
 -- none of the two lookups of a subtable of format 2 is of format 10
 abbrev pub NoneOfTen : List ℕ → Type 0
-NoneOfTen bytes = (read_u16 (drop (u32_at bytes 16) bytes) 0 ≡ Got 10 → ⊥) × (read_u16 (drop (u32_at bytes 20) bytes) 0 ≡ Got 10 → ⊥)
+NoneOfTen bytes = (read_u16 (drop (u32_at bytes 16) bytes) 0 ≡ Some 10 → ⊥) × (read_u16 (drop (u32_at bytes 20) bytes) 0 ≡ Some 10 → ⊥)
 
 -- kern: the list begins where the flags but the highest two say, 0 is none; the numbers are two bytes apart; an odd one is the last
 pub record KernList (bytes : List ℕ) (crossed : Bool) (flags : ℕ) (stack : List ℕ) (depth used : ℕ) : Type 0 where

@@ -1,4 +1,5 @@
 -- The machine's steps add their windows to the history, and these insert nothing.
+use Rattle.std.specs.Prelude.{Option, Some, None}
 use Prim.Native.Nat.{ℕ}
 use mathlib.Core.Path.{refl}
 use mathlib.Core.Bool.{Bool}
@@ -13,12 +14,11 @@ use Rattle.rearrangement.specs.Rearrangement.{next, changes_of}
 use Rattle.rearrangement.specs.Calls.{rearrangement}
 use Rattle.rearrangement.specs.declared.RearrangementState.{RearrangementState}
 use Rattle.rearrangement.specs.declared.Window.{Window}
-use Rattle.rearrangement.specs.declared.Window.TheVariants as Window'
 
-quiet_edit : (w : Window) → Quiet (changes_of w)
+quiet_edit : (w : Option Window) → Quiet (changes_of w)
 unfolding history_of edits_of inserted added
-quiet_edit Window'.None = refl
-quiet_edit (Window'.At first last verb) = refl
+quiet_edit None = refl
+quiet_edit (Some w) = refl
 
 pub step_fits : (classes : ℕ → ℕ) (bytes : List ℕ) (states : States) (s : RearrangementState) (l : Line) (i g : ℕ) (e : Bool) → Valid l
     → Fits (rearrangement.step classes bytes states s l i g e).changes l

@@ -1,5 +1,5 @@
 -- Laws of the rearrangement machine.
+pub mod Calls
 pub mod Passes
-pub mod Steps
 pub mod Honesty
 pub mod Turns

@@ -1,18 +1,15 @@
 -- The pass's loops: the shared laws of passes at this machine.
+use Rattle.std.specs.Prelude.{Option, Some, None}
 use Prim.Native.Nat.{ℕ, ◌+◌, ◌*◌, ◌-◌, ◌<◌, ◌≤◌}
 use mathlib.Core.Path.{◌≡◌, refl, sym, ◌∙◌, ap, subst, subst⁻¹}
 use mathlib.Core.Bool.{Bool, true, false}
 use mathlib.Core.List.{List, []}
 use native.Mathlib.Omega.{arith}
-use lib.Dec.{eqb}
 use lib.ListN.{length, get_or}
-use borrow.Author.Tests.{eqb-true, eqb-false}
 use Rattle.answers.specs.declared.Answer.{Answer}
 use Rattle.answers.specs.declared.Answer.TheVariants as Answer'
 use Rattle.state_tables.specs.declared.States.{States}
 use Rattle.state_tables.specs.declared.entries.Entry.{Entry}
-use Rattle.state_tables.specs.declared.entries.Entered.{Entered}
-use Rattle.state_tables.specs.declared.entries.Entered.TheVariants as Entered'
 use Rattle.state_tables.specs.declared.opened.Classes.{Classes}
 use Rattle.state_tables.specs.Classes.{class_of}
 use Rattle.state_tables.specs.Entries.{entry_of}
@@ -35,16 +32,15 @@ use Rattle.rearrangement.specs.Calls.{rearrangement}
 use Rattle.rearrangement.specs.declared.RearrangementState.{RearrangementState}
 use Rattle.rearrangement.specs.declared.RearrangementStep.{RearrangementStep}
 use Rattle.rearrangement.specs.declared.Window.{Window}
-use Rattle.rearrangement.specs.declared.Window.TheVariants as Window'
 
 -- an edit leaves homes and length
-pub edited : (w : Window) (glyphs tags homes : List ℕ) (used : ℕ) {glyphs' tags' : List ℕ}
+pub edited : (w : Option Window) (glyphs tags homes : List ℕ) (used : ℕ) {glyphs' tags' : List ℕ}
     → glyphs' ≡ (apply_all (changes_of w) (line_of glyphs tags homes used)).glyphs
     → tags' ≡ (apply_all (changes_of w) (line_of glyphs tags homes used)).tags
     → line_of glyphs' tags' homes used ≡ apply_all (changes_of w) (line_of glyphs tags homes used)
 unfolding apply_all apply
-edited Window'.None glyphs tags homes used g t = rw (g, t)
-edited (Window'.At first last verb) glyphs tags homes used g t = rw (g, t)
+edited None glyphs tags homes used g t = rw (g, t)
+edited (Some w) glyphs tags homes used g t = rw (g, t)
 
 -- a step that is DONE has gone by the stall rule
 pub stalls : (classes : ℕ → ℕ) (bytes : List ℕ) (states : States) (s : RearrangementState) (index glyph : ℕ) (ends : Bool)
@@ -55,12 +51,12 @@ pub stalls : (classes : ℕ → ℕ) (bytes : List ℕ) (states : States) (s : R
 unfolding next acted
 stalls classes bytes states s index glyph ends done = go (entry_of bytes states s.state (class_here classes glyph ends) 0) refl
   where
-    go : (e : Entered) → entry_of bytes states s.state (class_here classes glyph ends) 0 ≡ e
+    go : (e : Option Entry) → entry_of bytes states s.state (class_here classes glyph ends) 0 ≡ e
         → (stays : Bool)
         × ((next classes bytes states s index glyph ends).state.cycles ≡ (stalled s.cycles stays).cycles)
         × ((next classes bytes states s index glyph ends).advance ≡ (stalled s.cycles stays).advance)
-    go (Entered'.At entry) f = (is_set entry.flags 0x4000, rw (f, next), rw (f, next))
-    go Entered'.Ended f =
+    go (Some entry) f = (is_set entry.flags 0x4000, rw (f, next), rw (f, next))
+    go None f =
         let n : is_done (next classes bytes states s index glyph ends).answer ≡ false = rw (f, next) in
         let z : ◌≡◌ {A = ℕ} 0 1 = cc in absurd (omega arith)
 
@@ -74,18 +70,6 @@ any_end : (f h : ℕ → ℕ) (bytes : List ℕ) (states : States) (s : Rearrang
     → next f bytes states s index glyph true ≡ next h bytes states s index glyph true
 unfolding next class_here
 any_end f h bytes states s index glyph = refl
-
--- the place of the next step: the same, or the next one
-abbrev pub place_after : (stays : Bool) → (place : ℕ) → ℕ
-place_after true place = place
-place_after false place = place + 1
-
-after_one : (advance place : ℕ) → advance ≤ 1 → place + advance ≡ place_after (eqb advance 0) place
-after_one advance place h = go (eqb advance 0) refl
-  where
-    go : (b : Bool) → eqb advance 0 ≡ b → place + advance ≡ place_after b place
-    go true e = omega (arith, eqb-true advance 0 e)
-    go false e = omega (arith, eqb-false advance 0 e)
 
 module _ (index bytes : List ℕ) (states : States) (l₀ : Line) where
   abbrev classes : ℕ → ℕ
@@ -174,16 +158,16 @@ module _ (index bytes : List ℕ) (states : States) (l₀ : Line) where
           }
 
       -- by what the code reads there
-      module _ {class : ℕ} {entered : Entered} (k : class ≡ classes_by index (class_by bytes opened) (get_or glyphs i 0)) (r : entered ≡ entry_of bytes states s.state class 0) where
+      module _ {class : ℕ} {entered : (Option Entry)} (k : class ≡ classes_by index (class_by bytes opened) (get_or glyphs i 0)) (r : entered ≡ entry_of bytes states s.state class 0) where
         class-here : class ≡ classes (get_or glyphs i 0)
         class-here = k ∙ ap (λ (f : ℕ → ℕ). f (get_or glyphs i 0)) (opened-index index bytes states g.table)
 
         -- no entry
-        ended_at : entered ≡ Entered'.Ended → unmoved s Answer'.Ended ≡ at
+        ended_at : entered ≡ None → unmoved s Answer'.Ended ≡ at
         unfolding next class_here
         ended_at f = rw (← class-here, sym r ∙ f, next)
 
-        pub going_ended : entered ≡ Entered'.Ended → Ends Answer'.Ended glyphs tags
+        pub going_ended : entered ≡ None → Ends Answer'.Ended glyphs tags
         unfolding apply_all
         going_ended f =
             ends (unmoved s Answer'.Ended)
@@ -193,7 +177,7 @@ module _ (index bytes : List ℕ) (states : States) (l₀ : Line) where
             refl refl
 
         -- an entry
-        module _ {entry : Entry} {step : RearrangementStep} (f : entered ≡ Entered'.At entry) (a : step ≡ acted s entry i) where
+        module _ {entry : Entry} {step : RearrangementStep} (f : entered ≡ Some entry) (a : step ≡ acted s entry i) where
           acted-at : step ≡ at
           unfolding next class_here
           acted-at = rw (← class-here, sym r ∙ f, a, next)
@@ -201,45 +185,41 @@ module _ (index bytes : List ℕ) (states : States) (l₀ : Line) where
           done : is_done at.answer ≡ true
           done = subst (λ (t : RearrangementStep). is_done t.answer ≡ true) acted-at (acted-done s entry i a)
 
-          advances : i + step.advance ≡ place_after (eqb step.advance 0) i
-          advances = after_one step.advance i (subst⁻¹ (λ (t : RearrangementStep). t.advance ≤ 1) acted-at (at_advances done))
+          within-one : step.advance ≤ 1
+          within-one = subst⁻¹ (λ (t : RearrangementStep). t.advance ≤ 1) acted-at (at_advances done)
 
-          pub going_less : (used - place_after (eqb step.advance 0) i) * 18 + (18 - step.state.cycles) < (used - i) * 18 + (18 - s.cycles)
-          going_less =
-              subst (λ (n : ℕ). (used - n) * 18 + (18 - step.state.cycles) < (used - i) * 18 + (18 - s.cycles)) advances
-              (subst⁻¹ (λ (t : RearrangementStep). (used - (i + t.advance)) * 18 + (18 - t.state.cycles) < (used - i) * 18 + (18 - s.cycles)) acted-at
-              (at_less done))
-
-          pub going_goes : {memo' glyphs' tags' : List ℕ} → Remembers (class_by bytes opened) memo'
+          goes : {memo' glyphs' tags' : List ℕ} → Remembers (class_by bytes opened) memo'
               → glyphs' ≡ (apply_all (changes_of step.edit) here).glyphs → tags' ≡ (apply_all (changes_of step.edit) here).tags
-              → length glyphs' ≡ length glyphs → length tags' ≡ length tags
-              → Going opened memo' glyphs' tags' homes used step.state (place_after (eqb step.advance 0) i)
-          going_goes {memo'} {glyphs'} {tags'} m p q lg lt =
-              subst (λ (n : ℕ). Going opened memo' glyphs' tags' homes used step.state n) advances
+              → length glyphs' ≡ length glyphs → length tags' ≡ length tags → (place : ℕ) → i + step.advance ≡ place
+              → Going opened memo' glyphs' tags' homes used step.state place
+          goes {memo'} {glyphs'} {tags'} m p q lg lt place e =
+              subst (λ (n : ℕ). Going opened memo' glyphs' tags' homes used step.state n) e
               (subst⁻¹ (λ (t : RearrangementStep). Going opened memo' glyphs' tags' homes used t.state (i + t.advance)) acted-at
               (at_goes done m
               (subst (λ (t : RearrangementStep). glyphs' ≡ (apply_all (changes_of t.edit) here).glyphs) acted-at p)
               (subst (λ (t : RearrangementStep). tags' ≡ (apply_all (changes_of t.edit) here).tags) acted-at q)
               lg lt))
 
+          -- the next step is at the same place, with more cycles, or at the next one
+          pub going_less : step.advance ≡ 0 → 18 - step.state.cycles < 18 - s.cycles
+          going_less e =
+              let less = subst⁻¹ (λ (t : RearrangementStep). (used - (i + t.advance)) * 18 + (18 - t.state.cycles) < (used - i) * 18 + (18 - s.cycles)) acted-at (at_less done) in
+              omega (arith, e, less)
+
+          pub going_stays : {memo' glyphs' tags' : List ℕ} → step.advance ≡ 0 → Remembers (class_by bytes opened) memo'
+              → glyphs' ≡ (apply_all (changes_of step.edit) here).glyphs → tags' ≡ (apply_all (changes_of step.edit) here).tags
+              → length glyphs' ≡ length glyphs → length tags' ≡ length tags → Going opened memo' glyphs' tags' homes used step.state i
+          going_stays e m p q lg lt = goes m p q lg lt i (omega arith)
+
+          pub going_moves : {memo' glyphs' tags' : List ℕ} → (step.advance ≡ 0 → ⊥) → Remembers (class_by bytes opened) memo'
+              → glyphs' ≡ (apply_all (changes_of step.edit) here).glyphs → tags' ≡ (apply_all (changes_of step.edit) here).tags
+              → length glyphs' ≡ length glyphs → length tags' ≡ length tags → Going opened memo' glyphs' tags' homes used step.state (i + 1)
+          going_moves n m p q lg lt = goes m p q lg lt (i + 1) (omega (arith, n, within-one))
+
 -- the steps at one place lead on, whatever line the pass began with
 pub record Staying (index bytes : List ℕ) (states : States) (opened : Classes) (homes : List ℕ) (used place : ℕ) (memo₀ glyphs₀ tags₀ : List ℕ) (s₀ : RearrangementState)
-    (memo glyphs tags : List ℕ) (s : RearrangementState) (stays : Bool) : Type 0 where
-  pub leads : (l₀ : Line) → Going index bytes states l₀ opened memo₀ glyphs₀ tags₀ homes used s₀ place
-      → Going index bytes states l₀ opened memo glyphs tags homes used s (place_after stays place)
-
-module _ {index bytes : List ℕ} {states : States} {opened : Classes} {homes : List ℕ} {used place : ℕ} {memo₀ glyphs₀ tags₀ : List ℕ} {s₀ : RearrangementState}
-    {memo glyphs tags : List ℕ} {s : RearrangementState} {stays : Bool}
-    (t : Staying index bytes states opened homes used place memo₀ glyphs₀ tags₀ s₀ memo glyphs tags s stays) {l₀ : Line}
-    (g : Going index bytes states l₀ opened memo₀ glyphs₀ tags₀ homes used s₀ place) where
-  led : (b : Bool) → stays ≡ b → Going index bytes states l₀ opened memo glyphs tags homes used s (place_after b place)
-  led b e = subst (λ (x : Bool). Going index bytes states l₀ opened memo glyphs tags homes used s (place_after x place)) e (t.leads l₀ g)
-
-  pub still_here : stays ≡ true → Going index bytes states l₀ opened memo glyphs tags homes used s place
-  still_here = led true
-
-  pub moved_on : stays ≡ false → Going index bytes states l₀ opened memo glyphs tags homes used s (place + 1)
-  moved_on = led false
+    (memo glyphs tags : List ℕ) (s : RearrangementState) : Type 0 where
+  pub leads : (l₀ : Line) → Going index bytes states l₀ opened memo₀ glyphs₀ tags₀ homes used s₀ place → Going index bytes states l₀ opened memo glyphs tags homes used s place
 
 pub going_start : (index bytes : List ℕ) (states : States) (glyphs tags homes : List ℕ) (used : ℕ) {opened : Classes} {memo : List ℕ} {s : RearrangementState}
     → opened ≡ opened_classes bytes states.edition → memo ≡ nothing_found → s ≡ fresh

@@ -1,4 +1,5 @@
 -- More turns than a pass counts with change nothing.
+use Rattle.std.specs.Prelude.{Option, Some, None}
 use Prim.Native.Nat.{ℕ, ◌≤◌}
 use mathlib.Core.Path.{◌≡◌, refl}
 use mathlib.Core.Bool.{false}
@@ -15,16 +16,15 @@ use Rattle.rearrangement.specs.Rearrangement.{changes_of, next}
 use Rattle.rearrangement.specs.Calls.{rearrangement}
 use Rattle.rearrangement.specs.declared.RearrangementState.{RearrangementState}
 use Rattle.rearrangement.specs.declared.Window.{Window}
-use Rattle.rearrangement.specs.declared.Window.TheVariants as Window'
 use Rattle.rearrangement.proofs.Passes.{stalls}
 
 abbrev Sound : RearrangementState → Line → ℕ → Type 0
 Sound s l i = s.cycles ≤ 17
 
-used-kept : (w : Window) (l : Line) → (apply_all (changes_of w) l).used ≡ l.used
+used-kept : (w : Option Window) (l : Line) → (apply_all (changes_of w) l).used ≡ l.used
 unfolding apply_all apply
-used-kept Window'.None l = refl
-used-kept (Window'.At first last verb) l = refl
+used-kept None l = refl
+used-kept (Some w) l = refl
 
 counts : (classes : ℕ → ℕ) (bytes : List ℕ) (states : States) → Counts (rearrangement.step classes bytes states) Sound rearrangement.rest
 counts classes bytes states =

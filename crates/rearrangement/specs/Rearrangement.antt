@@ -1,5 +1,5 @@
 -- The rearrangement machine's step, as the crate's `next`.
-use Rattle.std.specs.Prelude.{ℕ, ◌%◌, Bool, cond, List, [], ◌∷◌}
+use Rattle.std.specs.Prelude.{ℕ, ◌%◌, Bool, cond, List, [], ◌∷◌, Option, Some, None}
 use Rattle.laws.specs.Bits.{is_set}
 use Rattle.laws.specs.Choose.{if_lt, if_eq}
 use Rattle.answers.specs.declared.Answer.{Answer}
@@ -14,7 +14,6 @@ use Rattle.machine.specs.Pass.{Stepped}
 use Rattle.rearrangement.specs.declared.RearrangementState.{RearrangementState}
 use Rattle.rearrangement.specs.declared.RearrangementStep.{RearrangementStep}
 use Rattle.rearrangement.specs.declared.Window.{Window}
-use Rattle.rearrangement.specs.declared.Window.TheVariants as Window'
 
 -- the state at the start of a pass
 abbrev pub fresh : RearrangementState
@@ -25,8 +24,8 @@ abbrev pub mark_after : ℕ → ℕ → Bool → ℕ
 mark_after was index sets = cond sets index was
 
 -- a verb other than 0 works on the marked window, unless its start is above its end
-unfoldable pub window_of : (first last verb : ℕ) → Window
-window_of first last verb = if_eq verb 0 Window'.None (if_lt last first Window'.None (Window'.At first last verb))
+unfoldable pub window_of : (first last verb : ℕ) → Option Window
+window_of first last verb = if_eq verb 0 None (if_lt last first None (Some (record { first = first; last = last; verb = verb })))
 
 -- the entry's flags: 0x8000 marks the first place, 0x2000 the last, the low four bits are the verb, 0x4000 is don't advance
 unfoldable pub acted : RearrangementState → Entry → ℕ → RearrangementStep
@@ -49,7 +48,7 @@ acted s entry index =
 
 -- an answer that makes no edit and leaves the state as it was, as ENDED where there is no entry
 abbrev pub unmoved : RearrangementState → Answer → RearrangementStep
-unmoved s answer = record { answer = answer; state = s; advance = 0; edit = Window'.None }
+unmoved s answer = record { answer = answer; state = s; advance = 0; edit = None }
 
 -- a step, with any classes: class, then entry, then what the entry does
 unfoldable pub next : (classes : ℕ → ℕ) → List ℕ → States → RearrangementState → (index glyph : ℕ) → (ends : Bool) → RearrangementStep
@@ -57,9 +56,9 @@ next classes bytes states s index glyph ends =
     on_entry (entry_of bytes states s.state (class_here classes glyph ends) 0) (λ entry. acted s entry index) (unmoved s Answer'.Ended)
 
 -- what a step does to the line
-abbrev pub changes_of : Window → List Change
-changes_of Window'.None = []
-changes_of (Window'.At first last verb) = Change.window first last verb ∷ []
+abbrev pub changes_of : Option Window → List Change
+changes_of None = []
+changes_of (Some w) = Change.window w.first w.last w.verb ∷ []
 
 -- as a step that changes a line
 abbrev pub stepped : RearrangementStep → Stepped RearrangementState

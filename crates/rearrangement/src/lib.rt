@@ -7,19 +7,17 @@ ghost use Rattle.answers.specs.Limits.{room_limit};
 ghost use Rattle.line.specs.Line.{line_of};
 ghost use Rattle.line.specs.Changes.{apply_all};
 ghost use Rattle.state_tables.specs.Classes.{class_of};
-ghost use Rattle.state_tables.specs.Opened.{class_by, LiesIn, Remembers};
 ghost use Rattle.machine.specs.Pass.{Passed};
 ghost use Rattle.rearrangement.specs.Rearrangement.{fresh, mark_after, window_of, acted, next, changes_of, unmoved};
 ghost use Rattle.rearrangement.specs.Calls.{state_tests, rearrangement, length_tests, step_call};
 ghost use Rattle.machine.specs.Call.{step_tests};
 ghost use Rattle.machine.specs.Machine.{passed, subtable_of, pass_call, call_leaves};
 ghost use Rattle.machine.specs.Work.{passed_leaves, work_leaves};
-ghost use Rattle.indexes.specs.Index.{classes_by, indexed};
+ghost use Rattle.indexes.specs.Index.{indexed};
 
-use answers::{Answer, Check, ROOM, Refusal};
-use state_tables::entries::{Entered, Entry};
-use state_tables::opened::Classes;
-use state_tables::{Made, States, entries, opened};
+use answers::{Answer, Refusal};
+use state_tables::entries::Entry;
+use state_tables::{States, entries, opened};
 
 pub mod lent;
 
@@ -32,15 +30,12 @@ pub struct RearrangementState {
     pub cycles: u16,
 }
 
-// What a step does to the line: nothing, or a verb on a window.
+// A verb on a window of the line.
 #[derive(Clone, Copy)]
-pub enum Window {
-    None,
-    At {
-        first: usize,
-        last: usize,
-        verb: u16,
-    },
+pub struct Window {
+    pub first: usize,
+    pub last: usize,
+    pub verb: u16,
 }
 
 // What a step answers: DONE with the advance, or ENDED; the new state and the edit.
@@ -49,7 +44,7 @@ pub struct RearrangementStep {
     pub answer: Answer,
     pub state: RearrangementState,
     pub advance: usize,
-    pub edit: Window,
+    pub edit: Option<Window>,
 }
 
 // A mark is set to the index where its flag says so.
@@ -60,16 +55,14 @@ fn marked(was: usize, index: usize, sets: bool) -> usize
 }
 
 // The window of a verb other than 0 whose start is not above its end.
-fn window_of(first: usize, last: usize, verb: u16) -> Window
+#[tactic(auto, unfolding(crate::specs::Rearrangement::window_of))]
+fn window_of(first: usize, last: usize, verb: u16) -> Option<Window>
     ensures { result ≡ window_of first last verb }
 {
-    if verb == 0 {
-        return Window::None;
+    if verb == 0 || last < first {
+        return None;
     }
-    if last < first {
-        return Window::None;
-    }
-    Window::At { first, last, verb }
+    Some(Window { first, last, verb })
 }
 
 impl RearrangementState {
@@ -98,31 +91,30 @@ impl RearrangementState {
     }
 
     // The tests before a lone step: TABLE, LINE, PLACE, STATE, HEAD.
-    fn refuse(self, table_length: usize, used: usize, index: usize, made: Made) -> Check
+    #[tactic(auto, unfolding(crate::specs::Calls::length_tests, crate::specs::Calls::state_tests, machine::specs::Call::step_tests, machine::specs::Call::place_test, machine::specs::Call::head_test, answers::specs::Refuse::refuse))]
+    fn refuse(
+        self,
+        table_length: usize,
+        used: usize,
+        index: usize,
+        made: Option<States>,
+    ) -> Result<(), Refusal>
         ensures { result ≡ refuse (step_tests table_length (length_tests used) used index (state_tests self used) made) }
     {
-        if let Check::Refused(why) = answers::refuse_table(table_length) {
-            return Check::Refused(why);
-        }
+        answers::refuse_table(table_length)?;
         if answers::above_room(used) {
-            return Check::Refused(Refusal::Line);
+            return Err(Refusal::Line);
         }
         if used < index {
-            return Check::Refused(Refusal::Place);
+            return Err(Refusal::Place);
         }
-        if used < self.first {
-            return Check::Refused(Refusal::State);
+        if used < self.first || used < self.last || RearrangementState::MOST_CYCLES < self.cycles {
+            return Err(Refusal::State);
         }
-        if used < self.last {
-            return Check::Refused(Refusal::State);
+        if made.is_none() {
+            return Err(Refusal::Head);
         }
-        if RearrangementState::MOST_CYCLES < self.cycles {
-            return Check::Refused(Refusal::State);
-        }
-        if let Made::Short = made {
-            return Check::Refused(Refusal::Head);
-        }
-        Check::Passed
+        Ok(())
     }
 
     // A step that makes no edit and hands the state back as given.
@@ -133,11 +125,12 @@ impl RearrangementState {
             answer,
             state: self,
             advance: 0,
-            edit: Window::None,
+            edit: None,
         }
     }
 
     // A lone step by the subtable at `start`, on a line of so many places.
+    #[tactic(auto, unfolding(crate::specs::Calls::step_call, machine::specs::Call::lone_step))]
     pub fn step(
         self,
         table: &[u8],
@@ -151,16 +144,17 @@ impl RearrangementState {
     {
         let bytes = parse::from(table, start);
         let made = machine::open(bytes, RearrangementState::KIND);
-        if let Check::Refused(why) = self.refuse(table.len(), used, index, made) {
+        if let Err(why) = self.refuse(table.len(), used, index, made) {
             return self.unmoved(Answer::Refused(why));
         }
-        let Made::Ready(states) = made else {
+        let Some(states) = made else {
             return self.unmoved(Answer::Refused(Refusal::Head));
         };
         self.next(parse::from(bytes, 12), states, index, glyph, ends)
     }
 
     // What an entry does: the marks, then the verb, then the stall rule.
+    #[tactic(auto, unfolding(crate::specs::Rearrangement::acted))]
     fn act(self, entry: Entry, index: usize) -> RearrangementStep
         ensures { result ≡ acted self entry index }
     {
@@ -194,6 +188,7 @@ impl RearrangementState {
     }
 
     // The crate's `next`, over the bytes from the state table on.
+    #[tactic(auto, unfolding(crate::specs::Rearrangement::next))]
     pub fn next(
         self,
         bytes: &[u8],
@@ -205,7 +200,7 @@ impl RearrangementState {
         ensures { result ≡ next (class_of bytes.now states) bytes.now states self index glyph ends }
     {
         let class = machine::class_at(bytes, states, glyph, ends);
-        let Entered::At(entry) = entries::entry_of(bytes, states, self.state, class, 0) else {
+        let Some(entry) = entries::entry_of(bytes, states, self.state, class, 0) else {
             return self.unmoved(Answer::Ended);
         };
         self.act(entry, index)
@@ -213,40 +208,17 @@ impl RearrangementState {
 }
 
 // A step's edit, made on the line.
-fn edit(glyphs: &mut [u16], tags: &mut [u16], homes: &[u16], used: usize, window: Window)
+#[tactic(auto, unfolding(line::specs::Changes::apply_all, line::specs::Changes::apply))]
+fn edit(glyphs: &mut [u16], tags: &mut [u16], homes: &[u16], used: usize, window: Option<Window>)
     requires { (used ≤ length glyphs.old) × (used ≤ length tags.old) }
     ensures glyphs { glyphs.new ≡ (apply_all (changes_of window)
         (line_of glyphs.old tags.old homes.now used)).glyphs }
     ensures tags { tags.new ≡ (apply_all (changes_of window) (line_of glyphs.old tags.old homes.now used)).tags }
 {
-    let Window::At { first, last, verb } = window else {
+    let Some(Window { first, last, verb }) = window else {
         return;
     };
     line::edits::rearrange(glyphs, tags, used, first, last, verb);
-}
-
-// The class of a glyph: an array's element, or what is remembered of any other class table.
-fn class_now(bytes: &[u8], opened: Classes, memo: &mut [u32; 64], glyph: u16) -> u16
-    requires { LiesIn bytes.now opened × Remembers (class_by bytes.now opened) memo.old }
-    ensures class { result ≡ class_by bytes.now opened glyph }
-    ensures memo { Remembers (class_by bytes.now opened) memo.new }
-{
-    let Classes::Words { base, first, count } = opened else {
-        return opened::remembered(bytes, opened, memo, glyph);
-    };
-    opened::class_in_words(bytes, base, first, count, glyph)
-}
-
-// The class of a glyph: by the index, where that reaches it.
-fn class_by(bytes: &[u8], opened: Classes, memo: &mut [u32; 64], glyph: u16, index: &[u16]) -> u16
-    requires { LiesIn bytes.now opened × Remembers (class_by bytes.now opened) memo.old }
-    ensures class { result ≡ classes_by index.now (class_by bytes.now opened) glyph }
-    ensures memo { Remembers (class_by bytes.now opened) memo.new }
-{
-    if (glyph as usize) < index.len() {
-        return index[glyph as usize];
-    }
-    class_now(bytes, opened, memo, glyph)
 }
 
 // The pass over a line that LINE has taken, with the bytes from the state table on, by the classes of an index.
@@ -270,31 +242,29 @@ fn pass_line(
     let opened = opened::open(bytes, states);
     let mut memo = opened::nothing_found();
     let mut state = RearrangementState::new();
-    let mut place = 0;
-    while place < used {
+    for place in 0..used {
         // A place has a loop of its own, so that the next glyph's read does not wait for this entry's flags.
-        let mut stays = true;
-        while stays {
+        'steps: loop {
             // What `next` does, written out: as a call of its own its answer would go through memory.
-            let class = class_by(bytes, opened, &mut memo, glyphs[place], index);
-            let Entered::At(entry) = entries::entry_of(bytes, states, state.state, class, 0) else {
+            let class = indexes::class_by(bytes, opened, &mut memo, glyphs[place], index);
+            let Some(entry) = entries::entry_of(bytes, states, state.state, class, 0) else {
                 return Answer::Ended;
             };
             let step = state.act(entry, place);
-            let window = step.edit;
-            edit(glyphs, tags, homes, used, window);
+            edit(glyphs, tags, homes, used, step.edit);
             state = step.state;
-            stays = step.advance == 0;
+            if step.advance != 0 {
+                break;
+            }
         }
-        place += 1;
     }
     let step = state.next(bytes, states, used, machine::END, true);
-    let window = step.edit;
-    edit(glyphs, tags, homes, used, window);
+    edit(glyphs, tags, homes, used, step.edit);
     step.answer
 }
 
 // The pass over a line that LINE has taken, by the subtable that the bytes begin with and the classes of an index; HEAD where it can't be opened.
+#[tactic(auto, unfolding(machine::specs::Work::work_leaves, machine::specs::Work::passed_leaves, line::specs::Changes::apply_all))]
 pub fn work_by(
     bytes: &[u8],
     glyphs: &mut [u16],
@@ -311,7 +281,7 @@ pub fn work_by(
     ensures tags { tags.new ≡ (work_leaves (subtable_of (indexed index.now rearrangement)) bytes.now
         (line_of glyphs.old tags.old homes.now used)).tags }
 {
-    let Made::Ready(states) = machine::open(bytes, RearrangementState::KIND) else {
+    let Some(states) = machine::open(bytes, RearrangementState::KIND) else {
         return Answer::Refused(Refusal::Head);
     };
     pass_line(
@@ -341,11 +311,11 @@ pub fn work(
     ensures tags { tags.new ≡ (work_leaves (subtable_of rearrangement) bytes.now
         (line_of glyphs.old tags.old homes.now used)).tags }
 {
-    let none = [0u16; 0];
-    work_by(bytes, glyphs, tags, homes, used, &none)
+    work_by(bytes, glyphs, tags, homes, used, &[])
 }
 
 // The pass over a line, by the subtable at `start`.
+#[tactic(auto, using(crate::proofs::Calls::taken_fits), unfolding(machine::specs::Machine::pass_call, machine::specs::Machine::call_leaves, machine::specs::Work::work_leaves, line::specs::Changes::apply_all))]
 pub fn pass(
     table: &[u8],
     start: usize,
@@ -363,7 +333,7 @@ pub fn pass(
 {
     let bytes = parse::from(table, start);
     let made = machine::open(bytes, RearrangementState::KIND);
-    if let Check::Refused(why) = machine::refuse_pass(
+    if let Err(why) = machine::refuse_pass(
         table.len(),
         glyphs,
         tags,

@@ -1,11 +1,10 @@
 -- Each way out of the code leaves what the definitions say.
 use Prim.Native.Nat.{ℕ, ◌+◌, ◌-◌, ◌≤◌}
-use mathlib.Core.Path.{◌≡◌, refl, ◌∙◌, sym, ap}
-use mathlib.Core.Bool.{Bool, true, false, not}
+use mathlib.Core.Path.{◌≡◌, ◌∙◌, ap}
+use mathlib.Core.Bool.{true, false}
 use mathlib.Core.List.{List, ◌++◌}
 use native.Mathlib.Omega.{arith}
 use lib.ListN.{take, drop}
-use borrow.Author.Tests.{not-true, not-false}
 use borrow.Rule.Slice.PartMut.{mid_of, put_mid}
 use Rattle.answers.specs.declared.Answer.TheVariants as Answer'
 use Rattle.answers.specs.declared.Refusal.TheVariants as Refusal'
@@ -50,47 +49,34 @@ module _ (table : List ℕ) (start : ℕ) (choices : Choices) (requests : List �
       ∙ ap (λ (n : ℕ). line_of (mid_of span.at span.room glyphs) (mid_of span.at span.room tags) (mid_of span.from n homes) used)
       (size_again span.from span.count)
 
-  pub part_ran : {reply : RunReply} {glyphs' tags' homes' : List ℕ}
-      → reply ≡ run_reply_of (run_call table start choices lent_line requests) lent_line
-      → glyphs' ≡ (run_leaves table start choices lent_line requests).glyphs
-      → tags' ≡ (run_leaves table start choices lent_line requests).tags
-      → homes' ≡ (run_leaves table start choices lent_line requests).homes
-      → (reply ≡ run_reply_of (run_call table start choices there requests) there)
-      × ((put_mid span.at (span.at + span.room - span.at) glyphs glyphs' ≡ over span.at span.room glyphs (run_leaves table start choices there requests).glyphs)
-      × ((put_mid span.at (span.at + span.room - span.at) tags tags' ≡ over span.at span.room tags (run_leaves table start choices there requests).tags)
-      × (put_mid span.from (span.from + span.count - span.from) homes homes' ≡ over span.from span.count homes (run_leaves table start choices there requests).homes)))
-  part_ran r g t h = (
-    r ∙ ap (λ (l : Line). run_reply_of (run_call table start choices l requests) l) lent_there,
-    (
-      put_over span.at span.room glyphs (g ∙ ap (λ (l : Line). (run_leaves table start choices l requests).glyphs) lent_there),
-      (
-        put_over span.at span.room tags (t ∙ ap (λ (l : Line). (run_leaves table start choices l requests).tags) lent_there),
-        put_over span.from span.count homes (h ∙ ap (λ (l : Line). (run_leaves table start choices l requests).homes) lent_there),
-      ),
-    ),
-  )
+  pub part_reply : {reply : RunReply} → reply ≡ run_reply_of (run_call table start choices lent_line requests) lent_line
+      → reply ≡ run_reply_of (run_call table start choices there requests) there
+  part_reply r = r ∙ ap (λ (l : Line). run_reply_of (run_call table start choices l requests) l) lent_there
+
+  -- one of its slices
+  pub part_left : (at size : ℕ) (slice : List ℕ) (of : Line → List ℕ) {after : List ℕ} → after ≡ of (run_leaves table start choices lent_line requests)
+      → put_mid at (at + size - at) slice after ≡ over at size slice (of (run_leaves table start choices there requests))
+  part_left at size slice of e = put_over at size slice (e ∙ ap (λ (l : Line). of (run_leaves table start choices l requests)) lent_there)
 
 -- what stands in the slices that were lent
-abbrev pub Left : (after left : Reel) → Type 0
-Left after left =
-    (after.used ≡ left.used)
-    × ((after.answers ≡ left.answers)
-    × ((after.heads ≡ left.heads)
-    × ((after.glyphs ≡ left.glyphs)
-    × ((after.tags ≡ left.tags)
-    × (after.homes ≡ left.homes)))))
+pub record Left (after left : Reel) : Type 0 where
+  pub used : after.used ≡ left.used
+  pub answers : after.answers ≡ left.answers
+  pub heads : after.heads ≡ left.heads
+  pub glyphs : after.glyphs ≡ left.glyphs
+  pub tags : after.tags ≡ left.tags
+  pub homes : after.homes ≡ left.homes
 
 left_by : {r s : Reel} → r ≡ s → Left r s
-left_by e = (
-  ap (λ (x : Reel). x.used) e,
-  (
-    ap (λ (x : Reel). x.answers) e,
-    (
-      ap (λ (x : Reel). x.heads) e,
-      (ap (λ (x : Reel). x.glyphs) e, (ap (λ (x : Reel). x.tags) e, ap (λ (x : Reel). x.homes) e)),
-    ),
-  ),
-)
+left_by e =
+    record {
+      used = ap (λ (x : Reel). x.used) e;
+      answers = ap (λ (x : Reel). x.answers) e;
+      heads = ap (λ (x : Reel). x.heads) e;
+      glyphs = ap (λ (x : Reel). x.glyphs) e;
+      tags = ap (λ (x : Reel). x.tags) e;
+      homes = ap (λ (x : Reel). x.homes) e;
+    }
 
 module _ (table : List ℕ) (start : ℕ) (choices : Choices) (requests : List ℕ) where
   -- the loop over all lines
@@ -99,16 +85,15 @@ module _ (table : List ℕ) (start : ℕ) (choices : Choices) (requests : List �
   unfolding table_leaves
   all-ran r₀ r at from i g h = left_by (going_done (run_by table start choices requests) (run_keeps table start choices requests) r₀ r at from i g h)
 
-  -- the call
-  module _ (r : Reel) {lent : Bool} (e : lent ≡ is_lent r) where
-    pub no_reel : not lent ≡ true → (Answer'.Refused Refusal'.Reel ≡ reel_answer r) × Left r (table_leaves table start choices requests r)
-    unfolding reel_answer table_leaves reel_leaves
-    no_reel h = rw (sym e ∙ not-true _ h) (refl, (refl, (refl, (refl, (refl, (refl, refl))))))
+  -- a call that is refused
+  pub no_reel : (r : Reel) → is_lent r ≡ false → Left r (table_leaves table start choices requests r)
+  unfolding table_leaves reel_leaves
+  no_reel r e = left_by (rw e)
 
-module _ (r : Reel) {lent : Bool} (e : lent ≡ is_lent r) (h : not lent ≡ false) where
-  pub is_reel : is_lent r ≡ true
-  is_reel = sym e ∙ not-false _ h
+pub answers-reel : (r : Reel) → is_lent r ≡ false → Answer'.Refused Refusal'.Reel ≡ reel_answer r
+unfolding reel_answer
+answers-reel r e = rw e
 
-  pub reel-ran : {Left : Type 0} → Left → (Answer'.Done ≡ reel_answer r) × Left
-  unfolding reel_answer
-  reel-ran left = (rw is_reel, left)
+pub answers-done : (r : Reel) → is_lent r ≡ true → Answer'.Done ≡ reel_answer r
+unfolding reel_answer
+answers-done r e = rw e

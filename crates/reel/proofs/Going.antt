@@ -13,12 +13,12 @@ use Rattle.morx.specs.Work.{run_reply_of}
 use Rattle.morx.specs.declared.Choices.{Choices}
 use Rattle.morx.specs.declared.RunReply.{RunReply}
 use Rattle.reel.specs.Parts.{place_of, part_of, with_part}
-use Rattle.reel.specs.Reel.{Reel, reel_of, Lent, line_limit, lines_of, parts_of, heads_behind, ran_part, reel_leaves}
+use Rattle.reel.specs.Reel.{Reel, reel_of, Lent, lines_of, parts_of, heads_behind, ran_part, reel_leaves}
 use Rattle.reel.specs.Runs.{with_line, run_line, run_lines}
 use Rattle.reel.specs.Morx.{run_by}
 use Rattle.reel.specs.Work.{Inside, span_line, over, Keeps}
 use Rattle.reel.specs.declared.Span.{Span}
-use Rattle.reel.proofs.Parts.{place-first, place-next}
+use Rattle.reel.proofs.Parts.{place_first, place_next}
 use Rattle.reel.proofs.Lines.{reel_by, glyphs_fit, tags_fit, homes_fit}
 use Rattle.reel.proofs.Orders.{run_lent, in_turn}
 use Rattle.reel.proofs.Kept.{run_keeps}
@@ -27,7 +27,6 @@ pub record Going (run : Line → Ran) (r₀ r : Reel) (at from i : ℕ) : Type 0
   pub lent₀ : Lent r₀
   pub lent : Lent r
   pub within : i ≤ lines_of r₀
-  pub few : i ≤ 256
   pub at_place : at ≡ place_of r₀.rooms i
   pub from_place : from ≡ place_of r₀.characters i
   pub so_far : run_lines run (λ k. k) i r₀ ≡ r
@@ -40,9 +39,8 @@ module _ (run : Line → Ran) where
         lent₀ = v;
         lent = v;
         within = omega arith;
-        few = omega arith;
-        at_place = sym (place-first r₀.rooms);
-        from_place = sym (place-first r₀.characters);
+        at_place = sym (place_first r₀.rooms);
+        from_place = sym (place_first r₀.characters);
         so_far = refl;
       }
 
@@ -56,10 +54,6 @@ module _ (run : Line → Ran) where
 next-line : (run : Line → Ran) (r₀ : Reel) (i : ℕ) → run_lines run (λ k. k) (suc i) r₀ ≡ run_line run i (run_lines run (λ k. k) i r₀)
 unfolding run_lines
 next-line run r₀ i = refl
-
-few_lines : (r : Reel) → Lent r → lines_of r ≤ 256
-unfolding line_limit
-few_lines r v = v.few
 
 -- one turn
 module _ (table : List ℕ) (start : ℕ) (choices : Choices) (requests : List ℕ) (rooms characters used answers heads glyphs tags homes : List ℕ) (i : ℕ) where
@@ -106,9 +100,8 @@ module _ (table : List ℕ) (start : ℕ) (choices : Choices) (requests : List �
           lent₀ = going.lent₀;
           lent = subst Lent (sym turn) (run_lent run (run_keeps table start choices requests) now going.lent i h);
           within = omega (arith, h, ap (λ (x : List ℕ). length x) er);
-          few = omega (arith, h, few_lines now going.lent);
-          at_place = ap (λ (x : ℕ). x + get_or rooms i 0) ea ∙ place-next rooms i ∙ ap (λ (x : List ℕ). place_of x (i + 1)) (sym er);
-          from_place = ap (λ (x : ℕ). x + get_or characters i 0) ef ∙ place-next characters i ∙ ap (λ (x : List ℕ). place_of x (i + 1)) (sym ec);
+          at_place = ap (λ (x : ℕ). x + get_or rooms i 0) ea ∙ place_next rooms i ∙ ap (λ (x : List ℕ). place_of x (i + 1)) (sym er);
+          from_place = ap (λ (x : ℕ). x + get_or characters i 0) ef ∙ place_next characters i ∙ ap (λ (x : List ℕ). place_of x (i + 1)) (sym ec);
           so_far = so_much r₀ going.so_far ∙ sym turn;
         }
       where

@@ -1,4 +1,5 @@
 -- A run of morx leaves the slices as long as they are, whatever line it is lent: a refused one changes nothing.
+use Rattle.std.specs.Prelude.{Result, Ok, Err}
 use Prim.Native.Nat.{ℕ}
 use mathlib.Core.Path.{◌≡◌, refl, ◌∙◌, sym}
 use mathlib.Core.List.{List, [], ◌∷◌}
@@ -6,8 +7,6 @@ use lib.ListN.{length}
 use Rattle.answers.specs.Refuse.{refuse, table_test}
 use Rattle.answers.specs.declared.Answer.TheVariants as Answer'
 use Rattle.answers.specs.declared.Refusal.{Refusal}
-use Rattle.answers.specs.declared.Check.{Check}
-use Rattle.answers.specs.declared.Check.TheVariants as Check'
 use Rattle.answers.proofs.Refusals.{passed_later}
 use Rattle.line.specs.Line.{Line, Valid}
 use Rattle.line.specs.Test.{line_test}
@@ -34,7 +33,7 @@ unfolding apply_all
 none_kept l = record { glyphs = refl; tags = refl; homes = refl }
 
 module _ (table : List ℕ) (start : ℕ) (choices : Choices) (requests : List ℕ) where
-  passed-valid : (l : Line) → refuse (run_tests (length table) start l requests) ≡ Check'.Passed → Valid l
+  passed-valid : (l : Line) → refuse (run_tests (length table) start l requests) ≡ Ok tt → Valid l
   unfolding run_tests
   passed-valid l e =
       passed-line l (start_test (length table) start ∷ [])
@@ -45,8 +44,8 @@ module _ (table : List ℕ) (start : ℕ) (choices : Choices) (requests : List �
   unfolding run_call
   run_keeps = record { kept = λ l. go l (refuse (run_tests (length table) start l requests)) refl (run_fits table start choices l requests) }
     where
-      go : (l : Line) (check : Check) → refuse (run_tests (length table) start l requests) ≡ check
+      go : (l : Line) (check : Result Unit Refusal) → refuse (run_tests (length table) start l requests) ≡ check
           → (Valid l → Fits (run_call table start choices l requests).changes l)
           → SameRoom (apply_all (if_passed (λ (why : Refusal). record { answer = Answer'.Refused why; changes = []; heads = 0 }) check (ran table start choices l requests)).changes l) l
-      go l (Check'.Refused why) e fits = none_kept l
-      go l Check'.Passed e fits = fitting_kept (ran table start choices l requests).changes l (passed-valid l e) (rw e at (fits (passed-valid l e)))
+      go l (Err why) e fits = none_kept l
+      go l (Ok tt) e fits = fitting_kept (ran table start choices l requests).changes l (passed-valid l e) (rw e at (fits (passed-valid l e)))

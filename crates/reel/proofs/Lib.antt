@@ -1,11 +1,9 @@
 -- Laws of a reel.
 pub mod Parts
-pub mod Adding
 pub mod Exact
 pub mod Lines
 pub mod Orders
 pub mod Kept
-pub mod Testing
 pub mod Going
 pub mod Calls
 pub mod Through

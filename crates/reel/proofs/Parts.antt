@@ -24,13 +24,13 @@ place-behind sizes i (suc k) h =
     (eq-or-ne i k)
 
 -- where the next one begins
-pub place-next : (sizes : List ℕ) (k : ℕ) → place_of sizes k + get_or sizes k 0 ≡ place_of sizes (k + 1)
+pub place_next : (sizes : List ℕ) (k : ℕ) → place_of sizes k + get_or sizes k 0 ≡ place_of sizes (k + 1)
 unfolding place_of
-place-next sizes k = sym (ap (place_of sizes) (add-one k))
+place_next sizes k = sym (ap (place_of sizes) (add-one k))
 
-pub place-first : (sizes : List ℕ) → place_of sizes 0 ≡ 0
+pub place_first : (sizes : List ℕ) → place_of sizes 0 ≡ 0
 unfolding place_of
-place-first sizes = refl
+place_first sizes = refl
 
 -- each ends within all of them
 pub part_inside : (sizes : List ℕ) (k : ℕ) → k < length sizes → place_of sizes k + get_or sizes k 0 ≤ total sizes

@@ -1,10 +1,10 @@
 -- Demand 3 for each line of a reel by itself: it is demand 3 over the calls that the line sees.
+use Rattle.std.specs.Prelude.{Ok}
 use Prim.Native.Nat.{ℕ, ◌<◌}
 use mathlib.Core.Path.{◌≡◌, refl, ◌∙◌, sym, ap, subst}
 use mathlib.Core.List.{List, [], ◌∷◌}
 use lib.ListN.{length, get_or}
 use Rattle.answers.specs.Refuse.{refuse}
-use Rattle.answers.specs.declared.Check.TheVariants.{Passed}
 use Rattle.line.specs.Line.{Line, Valid}
 use Rattle.line.specs.Entries.{fresh_of, fresh_tests}
 use Rattle.line.specs.History.{FromLine, FromFresh, left_by, history_by}
@@ -134,7 +134,7 @@ module _ (r : Reel) (k : ℕ) (h : k < lines_of r) where
         (demand3 (calls_of r k steps) (parts_of r k).line v)
 
     -- and from a fresh one
-    pub reel-fresh-demand3 : (glyphs tags homes : List ℕ) → refuse (fresh_tests glyphs tags homes) ≡ Passed → (parts_of r k).line ≡ fresh_of glyphs tags homes
+    pub reel-fresh-demand3 : (glyphs tags homes : List ℕ) → refuse (fresh_tests glyphs tags homes) ≡ Ok tt → (parts_of r k).line ≡ fresh_of glyphs tags homes
         → FromFresh (length glyphs) (length homes) (history_by leaves makes (calls_of r k steps) (fresh_of glyphs tags homes)) (parts_of (steps_leave r k steps r) k).line
     reel-fresh-demand3 glyphs tags homes taken e =
         subst (FromFresh (length glyphs) (length homes) (history_by leaves makes (calls_of r k steps) (fresh_of glyphs tags homes)))

@@ -16,18 +16,16 @@ use morx::{Choices, RunReply};
 pub const LINES: usize = 256;
 
 // Whether sizes add up to a length. Each is taken from what is left, so that no sum is made that could leave 64 bits.
+#[tactic(auto, using(crate::proofs::Parts::place_first, crate::proofs::Parts::place_next, crate::proofs::Parts::part_inside), unfolding(crate::specs::Parts::adds_up, crate::specs::Parts::total))]
 pub fn adds_up(sizes: &[usize], slice: usize) -> bool
     ensures { result ≡ adds_up sizes.now slice }
 {
     let mut left = slice;
-    let mut i: usize = 0;
-    while i < sizes.len() {
-        let size = sizes[i];
+    for &size in sizes {
         if left < size {
             return false;
         }
         left -= size;
-        i += 1;
     }
     left == 0
 }
@@ -42,6 +40,7 @@ pub struct Span {
 }
 
 // Whether what is lent is a reel.
+#[tactic(auto, unfolding(crate::specs::Reel::is_lent, crate::specs::Reel::line_limit))]
 fn is_lent(
     rooms: &[usize],
     characters: &[usize],
@@ -56,28 +55,14 @@ fn is_lent(
         used.now answers.now heads.now glyphs.now tags.now homes.now) }
 {
     let lines = rooms.len();
-    if LINES < lines {
-        return false;
-    }
-    if characters.len() != lines {
-        return false;
-    }
-    if used.len() != lines {
-        return false;
-    }
-    if answers.len() != lines {
-        return false;
-    }
-    if heads.len() != lines {
-        return false;
-    }
-    if !adds_up(rooms, glyphs.len()) {
-        return false;
-    }
-    if !adds_up(rooms, tags.len()) {
-        return false;
-    }
-    adds_up(characters, homes.len())
+    lines <= LINES
+        && characters.len() == lines
+        && used.len() == lines
+        && answers.len() == lines
+        && heads.len() == lines
+        && adds_up(rooms, glyphs.len())
+        && adds_up(rooms, tags.len())
+        && adds_up(characters, homes.len())
 }
 
 // The run of the line whose part lies there.
@@ -103,17 +88,19 @@ fn run_part(
     ensures homes { homes.new ≡ over span.from span.count homes.old (run_leaves table.now start choices
         (span_line span glyphs.old tags.old homes.old used) requests.now).homes }
 {
-    let at = span.at;
-    let end = at + span.room;
-    let from = span.from;
-    let last = from + span.count;
+    let Span {
+        at,
+        room,
+        from,
+        count,
+    } = span;
     morx::run(
         table,
         start,
         choices,
-        &mut glyphs[at..end],
-        &mut tags[at..end],
-        &mut homes[from..last],
+        &mut glyphs[at..at + room],
+        &mut tags[at..at + room],
+        &mut homes[from..from + count],
         used,
         requests,
     )
@@ -125,69 +112,7 @@ fn heads_behind(answer: Answer, was: u32, heads: u32) -> u32
 {
     match answer {
         Answer::Refused(_) => was,
-        Answer::Done => heads,
-        Answer::Nothing => heads,
-        Answer::Full => heads,
-        Answer::Ended => heads,
-        Answer::Limit => heads,
-    }
-}
-
-// The runs of all lines of a reel, one after the other.
-fn run_lines(
-    table: &[u8],
-    start: usize,
-    choices: Choices,
-    requests: &[u32],
-    rooms: &[usize],
-    characters: &[usize],
-    used: &mut [usize],
-    answers: &mut [u32],
-    heads: &mut [u32],
-    glyphs: &mut [u16],
-    tags: &mut [u16],
-    homes: &mut [u16],
-)
-    requires { is_lent (reel_of rooms.now characters.now used.old answers.old heads.old glyphs.old tags.old homes.old) ≡ true }
-    ensures used { used.new ≡ (table_leaves table.now start choices requests.now
-        (reel_of rooms.now characters.now
-        used.old answers.old heads.old glyphs.old tags.old homes.old)).used }
-    ensures answers { answers.new ≡ (table_leaves table.now start choices requests.now
-        (reel_of rooms.now characters.now
-        used.old answers.old heads.old glyphs.old tags.old homes.old)).answers }
-    ensures heads { heads.new ≡ (table_leaves table.now start choices requests.now
-        (reel_of rooms.now characters.now
-        used.old answers.old heads.old glyphs.old tags.old homes.old)).heads }
-    ensures glyphs { glyphs.new ≡ (table_leaves table.now start choices requests.now
-        (reel_of rooms.now characters.now
-        used.old answers.old heads.old glyphs.old tags.old homes.old)).glyphs }
-    ensures tags { tags.new ≡ (table_leaves table.now start choices requests.now
-        (reel_of rooms.now characters.now
-        used.old answers.old heads.old glyphs.old tags.old homes.old)).tags }
-    ensures homes { homes.new ≡ (table_leaves table.now start choices requests.now
-        (reel_of rooms.now characters.now
-        used.old answers.old heads.old glyphs.old tags.old homes.old)).homes }
-{
-    let mut at: usize = 0;
-    let mut from: usize = 0;
-    let mut i: usize = 0;
-    while i < rooms.len() {
-        let span = Span {
-            at,
-            room: rooms[i],
-            from,
-            count: characters[i],
-        };
-        let reply = run_part(
-            table, start, choices, requests, span, glyphs, tags, homes, used[i],
-        );
-        let answer = reply.answer;
-        used[i] = reply.used;
-        answers[i] = answers::number(answer);
-        heads[i] = heads_behind(answer, heads[i], reply.heads);
-        at += span.room;
-        from += span.count;
-        i += 1;
+        _ => heads,
     }
 }
 
@@ -230,9 +155,24 @@ pub fn run(
     if !is_lent(rooms, characters, used, answers, heads, glyphs, tags, homes) {
         return Answer::Refused(Refusal::Reel);
     }
-    run_lines(
-        table, start, choices, requests, rooms, characters, used, answers, heads, glyphs, tags,
-        homes,
-    );
+    let mut at = 0;
+    let mut from = 0;
+    // kept: the C interface lends what each line has in slices of their own, and a line's part is written in five of them at once.
+    for i in 0..rooms.len() {
+        let span = Span {
+            at,
+            room: rooms[i],
+            from,
+            count: characters[i],
+        };
+        let reply = run_part(
+            table, start, choices, requests, span, glyphs, tags, homes, used[i],
+        );
+        used[i] = reply.used;
+        answers[i] = u32::from(reply.answer);
+        heads[i] = heads_behind(reply.answer, heads[i], reply.heads);
+        at += span.room;
+        from += span.count;
+    }
     Answer::Done
 }

@@ -5,13 +5,11 @@ ghost use Rattle.replay.specs.Results.{word_at, has_words, is_result};
 use shaper::{SHAPER_ROOM, Shaped};
 
 // The 16-bit number at a place, 0 where there is none.
+#[tactic(auto, unfolding(crate::specs::Results::word_at))]
 pub fn word(bytes: &[u8], at: usize) -> u16
     ensures { result ≡ word_at bytes.now at }
 {
-    let parse::ReadU16::Got(number) = parse::read_u16(bytes, at) else {
-        return 0;
-    };
-    number
+    parse::read_u16(bytes, at).unwrap_or(0)
 }
 
 // Whether the numbers begin with the first `count` words.
@@ -21,17 +19,16 @@ fn has_words(numbers: &[u8], words: &[u16], count: usize) -> bool
     if words.len() < count {
         return false;
     }
-    let mut place = 0;
-    while place < count {
+    for place in 0..count {
         if words[place] != word(numbers, place * 2) {
             return false;
         }
-        place += 1;
     }
     true
 }
 
 // Whether the numbers are the result: answer, heads, used length and characters, then the used glyphs and tags, and the homes.
+#[tactic(auto, unfolding(crate::specs::Results::is_result))]
 pub fn is_result(
     numbers: &[u8],
     shaped: Shaped,
@@ -43,27 +40,12 @@ pub fn is_result(
 {
     let used = word(numbers, 4) as usize;
     let characters = word(numbers, 6) as usize;
-    let answer = shaped.answer;
-    if answers::number(answer) != word(numbers, 0) as u32 {
-        return false;
-    }
-    if shaped.heads != word(numbers, 2) as u32 {
-        return false;
-    }
-    if shaped.used != used {
-        return false;
-    }
-    if shaped.characters != characters {
-        return false;
-    }
-    if numbers.len() != 8 + used * 4 + characters * 2 {
-        return false;
-    }
-    if !has_words(parse::from(numbers, 8), glyphs, used) {
-        return false;
-    }
-    if !has_words(parse::from(numbers, 8 + used * 2), tags, used) {
-        return false;
-    }
-    has_words(parse::from(numbers, 8 + used * 4), homes, characters)
+    u32::from(shaped.answer) == word(numbers, 0) as u32
+        && shaped.heads == word(numbers, 2) as u32
+        && shaped.used == used
+        && shaped.characters == characters
+        && numbers.len() == 8 + used * 4 + characters * 2
+        && has_words(parse::from(numbers, 8), glyphs, used)
+        && has_words(parse::from(numbers, 8 + used * 2), tags, used)
+        && has_words(parse::from(numbers, 8 + used * 4), homes, characters)
 }

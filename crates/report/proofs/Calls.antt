@@ -1,4 +1,5 @@
 -- The tests of a report, from what the code has tested, and what lines have that pass them.
+use Rattle.std.specs.Prelude.{Result, Ok, Err}
 use Prim.Native.Nat.{ℕ, ◌<◌}
 use mathlib.Core.Path.{◌≡◌, refl, sym, ◌∙◌}
 use mathlib.Core.Bool.{Bool, true, false, not}
@@ -14,8 +15,6 @@ use Rattle.answers.specs.Refuse.{refuse}
 use Rattle.answers.specs.declared.Refusal.{Refusal}
 use Rattle.answers.specs.declared.Refusal.TheVariants as Refusal'
 use Rattle.answers.specs.declared.Answer.TheVariants as Answer'
-use Rattle.answers.specs.declared.Check.{Check}
-use Rattle.answers.specs.declared.Check.TheVariants.{Passed, Refused}
 use Rattle.answers.proofs.Refusals.{passed_here, passed_later}
 use Rattle.line.specs.Line.{Valid}
 use Rattle.kerning.specs.Line.{is_modest, is_kernable, is_taken}
@@ -100,7 +99,7 @@ module _ (r : Lines) (sums largest smallest : List ℤ) where
 
   -- the tests, as the code makes them
   module _ {lent : Bool} (e : lent ≡ is_lent r sums largest smallest) where
-    pub no_reel : not lent ≡ true → Refused Refusal'.Reel ≡ refuse (report_tests r sums largest smallest)
+    pub no_reel : not lent ≡ true → Err Refusal'.Reel ≡ refuse (report_tests r sums largest smallest)
     unfolding refuse report_tests
     no_reel h = rw (sym e ∙ not-true _ h)
 
@@ -109,16 +108,16 @@ module _ (r : Lines) (sums largest smallest : List ℤ) where
       is_cut = (lent_of r sums largest smallest (sym e ∙ not-false _ h)).cut
 
       module _ {taken : Bool} (t : taken ≡ are_taken r) where
-        pub no_line : not taken ≡ true → Refused Refusal'.Line ≡ refuse (report_tests r sums largest smallest)
+        pub no_line : not taken ≡ true → Err Refusal'.Line ≡ refuse (report_tests r sums largest smallest)
         unfolding refuse report_tests
         no_line n = rw (sym e ∙ not-false _ h, sym t ∙ not-true _ n)
 
-        pub all_pass : not taken ≡ false → Passed ≡ refuse (report_tests r sums largest smallest)
+        pub all_pass : not taken ≡ false → Ok tt ≡ refuse (report_tests r sums largest smallest)
         unfolding refuse report_tests
         all_pass n = rw (sym e ∙ not-false _ h, sym t ∙ not-false _ n)
 
   -- and what passed them
-  pub is_ready_lem : refuse (report_tests r sums largest smallest) ≡ Passed → Ready r.rooms r.used r.along sums largest smallest
+  pub is_ready_lem : refuse (report_tests r sums largest smallest) ≡ Ok tt → Ready r.rooms r.used r.along sums largest smallest
   unfolding report_tests
   is_ready_lem p = ready (lent_of r sums largest smallest (not-false _ (passed_here _ _ p))) (not-false _ (passed_here _ _ (passed_later _ _ p)))
 
@@ -127,12 +126,12 @@ abbrev pub Left : (after left : Page) → Type 0
 Left after left =
     (after.sums ≡ left.sums) × ((after.largest ≡ left.largest) × ((after.smallest ≡ left.smallest) × (after.totals ≡ left.totals)))
 
-module _ (r : Lines) (page : Page) {check : Check} (e : check ≡ refuse (report_tests r page.sums page.largest page.smallest)) where
-  pub refused_leaves : {why : Refusal} → check ≡ Refused why → (Answer'.Refused why ≡ report_answer r page) × Left page (report_leaves r page)
+module _ (r : Lines) (page : Page) {check : (Result Unit Refusal)} (e : check ≡ refuse (report_tests r page.sums page.largest page.smallest)) where
+  pub refused_leaves : {why : Refusal} → check ≡ Err why → (Answer'.Refused why ≡ report_answer r page) × Left page (report_leaves r page)
   unfolding report_answer report_leaves
   refused_leaves f = rw (sym e ∙ f) (refl, (refl, (refl, (refl, refl))))
 
-  pub passed-leaves : {after : Page} → check ≡ Passed → Left after (written r.rooms r.used r.along)
+  pub passed-leaves : {after : Page} → check ≡ Ok tt → Left after (written r.rooms r.used r.along)
       → (Answer'.Done ≡ report_answer r page) × Left after (report_leaves r page)
   unfolding report_answer report_leaves
   passed-leaves f left = rw (sym e ∙ f) (refl, left)

@@ -1,4 +1,5 @@
 -- The largest is one of the numbers that none is above, and the smallest one that none is below: of a line, and of all lines.
+use Rattle.std.specs.Prelude.{Result, Ok, Err}
 use Prim.Native.Nat.{ℕ, zero, suc, ◌<◌}
 use mathlib.Core.Path.{◌≡◌, refl, sym, ◌∙◌, ap, subst}
 use mathlib.Core.Bool.{Bool, true, false, cond}
@@ -17,8 +18,6 @@ use Rattle.laws.proofs.Numbers.{eq-or-ne}
 use Rattle.answers.specs.Refuse.{refuse}
 use Rattle.answers.specs.declared.Refusal.{Refusal}
 use Rattle.answers.specs.declared.Answer.TheVariants as Answer'
-use Rattle.answers.specs.declared.Check.{Check}
-use Rattle.answers.specs.declared.Check.TheVariants.{Passed, Refused}
 use Rattle.report.specs.Numbers.{chosen_of, largest_of, smallest_of, has_some, chosen_beside}
 use Rattle.report.specs.Report.{Lines, Page, count_of, along_at, used_at, report_tests, sum_at, largest_at, smallest_at, some_of, largest_of_all, smallest_of_all, written, answer_by, page_by, report_answer, report_leaves}
 use Rattle.report.specs.Extremes.{above, below, Extreme, ExtremeOfAll, Reported}
@@ -295,15 +294,15 @@ pub reported : (r : Lines) (page : Page) → report_answer r page ≡ Answer'.Do
 unfolding report_answer report_leaves
 reported r page e = go (refuse (report_tests r page.sums page.largest page.smallest)) e
   where
-    go : (c : Check) → answer_by c ≡ Answer'.Done → Reported r (page_by c page (written r.rooms r.used r.along))
-    go Passed e = written-reports r
-    go (Refused why) e = let z : ◌≡◌ {A = ℕ} 0 1 = cc in absurd (omega arith)
+    go : (c : Result Unit Refusal) → answer_by c ≡ Answer'.Done → Reported r (page_by c page (written r.rooms r.used r.along))
+    go (Ok tt) e = written-reports r
+    go (Err why) e = let z : ◌≡◌ {A = ℕ} 0 1 = cc in absurd (omega arith)
 
 -- a refused one leaves the page as it was
 pub refused_stays : (r : Lines) (page : Page) (why : Refusal) → report_answer r page ≡ Answer'.Refused why → report_leaves r page ≡ page
 unfolding report_answer report_leaves
 refused_stays r page why e = go (refuse (report_tests r page.sums page.largest page.smallest)) e
   where
-    go : (c : Check) → answer_by c ≡ Answer'.Refused why → page_by c page (written r.rooms r.used r.along) ≡ page
-    go Passed e = let z : ◌≡◌ {A = ℕ} 0 1 = cc in absurd (omega arith)
-    go (Refused other) e = refl
+    go : (c : Result Unit Refusal) → answer_by c ≡ Answer'.Refused why → page_by c page (written r.rooms r.used r.along) ≡ page
+    go (Ok tt) e = let z : ◌≡◌ {A = ℕ} 0 1 = cc in absurd (omega arith)
+    go (Err other) e = refl

@@ -15,7 +15,7 @@ use Rattle.kerning.specs.Line.{is_taken}
 use Rattle.reel.specs.Parts.{place_of, part_of}
 use Rattle.reel.specs.Work.{Inside, span_line}
 use Rattle.reel.specs.declared.Span.{Span}
-use Rattle.reel.proofs.Parts.{place-first, place-next, part_inside}
+use Rattle.reel.proofs.Parts.{place_first, place_next, part_inside}
 use Rattle.report.specs.Report.{Lines, count_of, line_at, along_at, are_taken}
 use Rattle.report.specs.Work.{Cut, span_along}
 
@@ -63,8 +63,8 @@ module _ (r : Lines) where
         cut = c;
         within = omega arith;
         few = omega arith;
-        at_place = sym (place-first r.rooms);
-        from_place = sym (place-first r.characters);
+        at_place = sym (place_first r.rooms);
+        from_place = sym (place_first r.characters);
         all = every-none _;
       }
 
@@ -111,8 +111,8 @@ module _ (r : Lines) where
             cut = s.cut;
             within = omega arith;
             few = omega (arith, s.cut.few, h);
-            at_place = ap (λ (n : ℕ). n + get_or r.rooms i 0) s.at_place ∙ place-next r.rooms i;
-            from_place = ap (λ (n : ℕ). n + get_or r.characters i 0) s.from_place ∙ place-next r.characters i;
+            at_place = ap (λ (n : ℕ). n + get_or r.rooms i 0) s.at_place ∙ place_next r.rooms i;
+            from_place = ap (λ (n : ℕ). n + get_or r.characters i 0) s.from_place ∙ place_next r.characters i;
             all =
                 ap (every (λ k. is_taken (line_at r k) (along_at r k))) (add-one i)
                 ∙ every_more (λ k. is_taken (line_at r k) (along_at r k)) i s.all (sym (this e) ∙ not-false _ y);

@@ -18,6 +18,7 @@ use Rattle.laws.proofs.Lists.{every-at}
 use Rattle.kerning.specs.Line.{bound, is_modest}
 use Rattle.kerning.proofs.Signs.{size-sum, fits_64}
 use Rattle.report.specs.Numbers.{larger, smaller, sum_of, chosen_of, largest_of, smallest_of, has_some, chosen_beside}
+use Rattle.report.specs.Choices.{extreme_of}
 
 -- a number of 64 bits comes back from them
 pub back : {z : ℤ} → SFits w64 z → to_z w64 (of_z w64 z) ≡ z
@@ -205,41 +206,26 @@ module _ (choose : ℤ → ℤ → ℤ) (one : (a b : ℤ) → (choose a b ≡ a
         same : to_z w64 (of_z w64 result) ≡ choose z (get_or xs place (pos 0))
         same = back_result plainly (fits_64 (omega (arith, size)))
 
-pub larger-one : (a b : ℤ) → (larger a b ≡ a) ⊎ (larger a b ≡ b)
-larger-one a b = go (lt_z a b)
-  where
-    go : (t : Bool) → (cond t b a ≡ a) ⊎ (cond t b a ≡ b)
-    go true = inr refl
-    go false = inl refl
+pub extreme_none : (choose : ℤ → ℤ → ℤ) (xs : List ℤ) (used : ℕ) → used ≡ 0 → pos 0 ≡ extreme_of choose xs used
+unfolding extreme_of
+extreme_none choose xs used e = sym (ap (extreme_of choose xs) e)
 
-pub smaller-one : (a b : ℤ) → (smaller a b ≡ a) ⊎ (smaller a b ≡ b)
-smaller-one a b = go (lt_z b a)
-  where
-    go : (t : Bool) → (cond t b a ≡ a) ⊎ (cond t b a ≡ b)
-    go true = inr refl
-    go false = inl refl
-
-pub largest-none : (xs : List ℤ) (used : ℕ) → used ≡ 0 → pos 0 ≡ largest_of xs used
-unfolding largest_of
-largest-none xs used e = sym (ap (largest_of xs) e)
-
-pub smallest-none : (xs : List ℤ) (used : ℕ) → used ≡ 0 → pos 0 ≡ smallest_of xs used
-unfolding smallest_of
-smallest-none xs used e = sym (ap (smallest_of xs) e)
-
-pub largest-done : (xs : List ℤ) (used : ℕ) (z : ℤ) (place : ℕ) → Choosing larger xs used z place → used ≤ place → z ≡ largest_of xs used
-unfolding largest_of
-largest-done xs used z place c h = c.is ∙ sym (ap (largest_of xs) ended)
+pub extreme_done : (choose : ℤ → ℤ → ℤ) (xs : List ℤ) (used : ℕ) (z : ℤ) (place : ℕ) → Choosing choose xs used z place → used ≤ place → z ≡ extreme_of choose xs used
+unfolding extreme_of
+extreme_done choose xs used z place c h = c.is ∙ sym (ap (extreme_of choose xs) ended)
   where
     ended : used ≡ suc c.before
     ended = omega (arith, c.at, c.within, h)
 
-pub smallest-done : (xs : List ℤ) (used : ℕ) (z : ℤ) (place : ℕ) → Choosing smaller xs used z place → used ≤ place → z ≡ smallest_of xs used
-unfolding smallest_of
-smallest-done xs used z place c h = c.is ∙ sym (ap (smallest_of xs) ended)
-  where
-    ended : used ≡ suc c.before
-    ended = omega (arith, c.at, c.within, h)
+pub extreme_largest : (xs : List ℤ) (n : ℕ) → extreme_of larger xs n ≡ largest_of xs n
+unfolding extreme_of largest_of
+extreme_largest xs zero = refl
+extreme_largest xs (suc n) = refl
+
+pub extreme_smallest : (xs : List ℤ) (n : ℕ) → extreme_of smaller xs n ≡ smallest_of xs n
+unfolding extreme_of smallest_of
+extreme_smallest xs zero = refl
+extreme_smallest xs (suc n) = refl
 
 -- a sum is at most as many times 2^40 in size
 pub sum-small : (xs : List ℤ) → is_modest xs ≡ true → (n : ℕ) → n ≤ length xs → nat_abs (sum_of xs n) ≤ n * 1099511627776

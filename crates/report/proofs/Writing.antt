@@ -19,11 +19,12 @@ use Rattle.laws.proofs.Numbers.{eq-or-ne}
 use Rattle.kerning.specs.Line.{is_modest}
 use Rattle.kerning.proofs.Signs.{size-sum}
 use Rattle.reel.specs.Parts.{place_of, part_of}
-use Rattle.reel.proofs.Parts.{place-first, place-next, part_inside}
+use Rattle.reel.proofs.Parts.{place_first, place_next, part_inside}
+use Rattle.report.specs.Choices.{extreme_of, larger_one, smaller_one}
 use Rattle.report.specs.Numbers.{larger, smaller, sum_of, chosen_of, largest_of, smallest_of, has_some, chosen_beside}
 use Rattle.report.specs.Report.{sum_at, largest_at, smallest_at, some_of, sum_of_all, largest_of_all, smallest_of_all, written, page_of}
 use Rattle.report.specs.Work.{Sound, Ready}
-use Rattle.report.proofs.Sums.{back-small, modest-at, sum-small, larger-one, smaller-one}
+use Rattle.report.proofs.Sums.{extreme_largest, extreme_smallest, back-small, modest-at, sum-small}
 use Rattle.report.proofs.Calls.{Left}
 
 -- the first n of these numbers are so many
@@ -77,12 +78,12 @@ module _ (choose : ℤ → ℤ → ℤ) (one : (a b : ℤ) → (choose a b ≡ a
 largest-small : (xs : List ℤ) → is_modest xs ≡ true → (n : ℕ) → n ≤ length xs → nat_abs (largest_of xs n) ≤ 1099511627776
 unfolding largest_of
 largest-small xs m zero h = omega arith
-largest-small xs m (suc n) h = chosen_small larger larger-one xs m n h
+largest-small xs m (suc n) h = chosen_small larger larger_one xs m n h
 
 smallest-small : (xs : List ℤ) → is_modest xs ≡ true → (n : ℕ) → n ≤ length xs → nat_abs (smallest_of xs n) ≤ 1099511627776
 unfolding smallest_of
 smallest-small xs m zero h = omega arith
-smallest-small xs m (suc n) h = chosen_small smaller smaller-one xs m n h
+smallest-small xs m (suc n) h = chosen_small smaller smaller_one xs m n h
 
 -- the numbers of the first i lines are written
 pub record Filled (rooms used : List ℕ) (along sums largest smallest : List ℤ) (some : Bool) (whole most least : ℤ) (at i : ℕ) : Type 0 where
@@ -109,7 +110,7 @@ module _ (rooms used : List ℕ) (along sums largest smallest : List ℤ) where
         ready = r;
         within = omega arith;
         few = omega arith;
-        at_place = sym (place-first rooms);
+        at_place = sym (place_first rooms);
         sums_are = first-none _ _;
         largest_are = first-none _ _;
         smallest_are = first-none _ _;
@@ -184,17 +185,17 @@ module _ (rooms used : List ℕ) (along sums largest smallest : List ℤ) where
             omega (arith, same, sum-size, f.whole-small, h, f.ready.few)
 
         module _ {m l t m' l' : ℤ} {some' : Bool}
-            (em : m ≡ largest_of here places)
-            (el : l ≡ smallest_of here places)
+            (em : m ≡ extreme_of larger here places)
+            (el : l ≡ extreme_of smaller here places)
             (et : t ≡ whole +ℤ to_z w64 (of_z w64 s))
             (em' : m' ≡ chosen_beside larger some most places (to_z w64 (of_z w64 m)))
             (el' : l' ≡ chosen_beside smaller some least places (to_z w64 (of_z w64 l)))
             (eo : some' ≡ has_some some places) where
           largest-back : to_z w64 (of_z w64 m) ≡ largest_at rooms used along i
-          largest-back = returned (em ∙ ap (λ (xs : List ℤ). largest_of xs places) here_is) largest_size (omega arith)
+          largest-back = returned (em ∙ extreme_largest here places ∙ ap (λ (xs : List ℤ). largest_of xs places) here_is) largest_size (omega arith)
 
           smallest-back : to_z w64 (of_z w64 l) ≡ smallest_at rooms used along i
-          smallest-back = returned (el ∙ ap (λ (xs : List ℤ). smallest_of xs places) here_is) smallest-size (omega arith)
+          smallest-back = returned (el ∙ extreme_smallest here places ∙ ap (λ (xs : List ℤ). smallest_of xs places) here_is) smallest-size (omega arith)
 
           whole-size : nat_abs (whole +ℤ sum_at rooms used along i) ≤ (i + 1) * 36028797018963968
           whole-size = omega (arith, size-sum whole (sum_at rooms used along i), sum-size, f.whole-small)
@@ -203,13 +204,13 @@ module _ (rooms used : List ℕ) (along sums largest smallest : List ℤ) where
           whole_back = returned (et ∙ ap (λ (z : ℤ). whole +ℤ z) sum_back) whole-size (omega (arith, h, f.ready.few))
 
           most_size : nat_abs (chosen_beside larger some most places (largest_at rooms used along i)) ≤ 1099511627776
-          most_size = beside_small larger larger-one some most places (largest_at rooms used along i) f.most_small largest_size
+          most_size = beside_small larger larger_one some most places (largest_at rooms used along i) f.most_small largest_size
 
           most_back : to_z w64 (of_z w64 m') ≡ chosen_beside larger some most places (largest_at rooms used along i)
           most_back = returned (em' ∙ ap (λ (z : ℤ). chosen_beside larger some most places z) largest-back) most_size (omega arith)
 
           least_size : nat_abs (chosen_beside smaller some least places (smallest_at rooms used along i)) ≤ 1099511627776
-          least_size = beside_small smaller smaller-one some least places (smallest_at rooms used along i) f.least_small smallest-size
+          least_size = beside_small smaller smaller_one some least places (smallest_at rooms used along i) f.least_small smallest-size
 
           least_back : to_z w64 (of_z w64 l') ≡ chosen_beside smaller some least places (smallest_at rooms used along i)
           least_back = returned (el' ∙ ap (λ (z : ℤ). chosen_beside smaller some least places z) smallest-back) least_size (omega arith)
@@ -237,7 +238,7 @@ module _ (rooms used : List ℕ) (along sums largest smallest : List ℤ) where
                 ready = still_ready;
                 within = omega (arith, h);
                 few = omega (arith, h, f.ready.few);
-                at_place = ap (λ (n : ℕ). n + get_or rooms i 0) f.at_place ∙ place-next rooms i;
+                at_place = ap (λ (n : ℕ). n + get_or rooms i 0) f.at_place ∙ place_next rooms i;
                 sums_are = first_next _ sums i _ f.sums_are (omega (arith, h, f.ready.all-sums)) sum_back;
                 largest_are = first_next _ largest i _ f.largest_are (omega (arith, h, f.ready.all-largest)) largest-back;
                 smallest_are = first_next _ smallest i _ f.smallest_are (omega (arith, h, f.ready.all-smallest)) smallest-back;

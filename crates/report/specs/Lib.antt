@@ -3,3 +3,4 @@ pub mod Numbers
 pub mod Report
 pub mod Extremes
 pub mod Work
+pub mod Choices

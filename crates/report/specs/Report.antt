@@ -1,11 +1,10 @@
 -- The report: what is lent for it, its tests, and what it leaves.
-use Rattle.std.specs.Prelude.{ℕ, zero, suc, Bool, false, not, List, [], ◌∷◌, leb, eqb, ℤ, pos, ◌+ℤ◌, length, get_or}
+use Rattle.answers.specs.declared.Refusal.{Refusal}
+use Rattle.std.specs.Prelude.{ℕ, zero, suc, Bool, false, not, List, [], ◌∷◌, leb, eqb, ℤ, pos, ◌+ℤ◌, length, get_or, Result, Ok, Err}
 use Rattle.laws.specs.Lists.{tab, both, every}
 use Rattle.answers.specs.Refuse.{Test, refuse}
 use Rattle.answers.specs.declared.Answer.{Answer}
 use Rattle.answers.specs.declared.Answer.TheVariants as Answer'
-use Rattle.answers.specs.declared.Check.{Check}
-use Rattle.answers.specs.declared.Check.TheVariants.{Passed, Refused}
 use Rattle.answers.specs.declared.Refusal.TheVariants as Refusal'
 use Rattle.line.specs.Line.{Line, line_of}
 use Rattle.kerning.specs.Line.{is_taken}
@@ -122,13 +121,13 @@ module _ (rooms used : List ℕ) (along : List ℤ) where
       (sum_of_all (length rooms) ∷ largest_of_all (length rooms) ∷ smallest_of_all (length rooms) ∷ [])
 
 -- the report's answer, and what is left: a refused one writes nothing
-abbrev pub answer_by : Check → Answer
-answer_by Passed = Answer'.Done
-answer_by (Refused why) = Answer'.Refused why
+abbrev pub answer_by : Result Unit Refusal → Answer
+answer_by (Ok tt) = Answer'.Done
+answer_by (Err why) = Answer'.Refused why
 
-abbrev pub page_by : Check → (page new : Page) → Page
-page_by Passed page new = new
-page_by (Refused why) page new = page
+abbrev pub page_by : Result Unit Refusal → (page new : Page) → Page
+page_by (Ok tt) page new = new
+page_by (Err why) page new = page
 
 unfoldable pub report_answer : Lines → Page → Answer
 report_answer r page = answer_by (refuse (report_tests r page.sums page.largest page.smallest))

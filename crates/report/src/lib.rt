@@ -1,38 +1,54 @@
 // The report on kerned lines: of each line the sum of its used along numbers, the largest and the smallest, and the same of all lines together.
 #![tactic(auto)]
 
-ghost use Rattle.std.specs.Prelude.{◌≡◌, true, ◌+◌, ◌<◌, ◌≤◌, ◌^◌, nat_abs, ◌+ℤ◌, length};
+ghost use Rattle.std.specs.Prelude.{◌≡◌, true, ◌+◌, ◌<◌, ◌≤◌, ◌^◌, nat_abs, ℤ, ◌+ℤ◌, ◌⊎◌, length};
 ghost use Rattle.answers.specs.Refuse.{refuse};
 ghost use Rattle.kerning.specs.Line.{is_taken, is_modest};
 ghost use Rattle.reel.specs.Work.{Inside, span_line};
-ghost use Rattle.report.specs.Numbers.{larger, smaller, sum_of, largest_of, smallest_of, has_some, chosen_beside};
+ghost use Rattle.report.specs.Numbers.{larger, smaller, sum_of, has_some, chosen_beside};
+ghost use Rattle.report.specs.Choices.{extreme_of, larger_one, smaller_one};
 ghost use Rattle.report.specs.Report.{lines_of, page_of, is_lent, are_taken, report_tests, written, report_answer, report_leaves};
 ghost use Rattle.report.specs.Work.{Cut, Ready, span_along};
 
-use answers::{Answer, Check, Refusal};
+use answers::{Answer, Refusal};
 use reel::Span;
 
 // The most lines of a report.
 pub const LINES: usize = 255;
 
-// The larger of two numbers.
-fn larger(a: i64, b: i64) -> i64
-    ensures { result ≡ larger a b }
-{
-    if a < b {
-        return b;
-    }
-    a
+// Which of two numbers is kept.
+trait Choice {
+    ghost chosen: { ℤ → ℤ → ℤ };
+
+    // It is one of the two.
+    ghost one: { (a b : ℤ) → (chosen a b ≡ a) ⊎ (chosen a b ≡ b) };
+
+    fn choose(a: i64, b: i64) -> i64
+        ensures { result ≡ chosen a b };
 }
 
-// The smaller of two numbers.
-fn smaller(a: i64, b: i64) -> i64
-    ensures { result ≡ smaller a b }
-{
-    if b < a {
-        return b;
+struct Larger;
+
+struct Smaller;
+
+impl Choice for Larger {
+    ghost chosen = { larger };
+
+    ghost one = { larger_one };
+
+    fn choose(a: i64, b: i64) -> i64 {
+        if a < b { b } else { a }
     }
-    a
+}
+
+impl Choice for Smaller {
+    ghost chosen = { smaller };
+
+    ghost one = { smaller_one };
+
+    fn choose(a: i64, b: i64) -> i64 {
+        if b < a { b } else { a }
+    }
 }
 
 // The sum of two numbers.
@@ -49,85 +65,51 @@ fn sum_of(along: &[i64], used: usize) -> i64
     ensures { result ≡ sum_of along.now used }
 {
     let mut total: i64 = 0;
-    let mut place: usize = 0;
-    while place < used {
+    for place in 0..used {
         total = sum(total, along[place]);
-        place += 1;
     }
     total
 }
 
-// The largest of them; 0 of none.
-fn largest_of(along: &[i64], used: usize) -> i64
+// The one of them that is kept; 0 of none.
+fn extreme_of<C: Choice>(along: &[i64], used: usize) -> i64
     requires { (used ≤ length along.now) × (is_modest along.now ≡ true) }
-    ensures { result ≡ largest_of along.now used }
+    ensures { result ≡ extreme_of C.chosen along.now used }
 {
     if used == 0 {
         return 0;
     }
-    let mut most = along[0];
-    let mut place: usize = 1;
-    while place < used {
-        most = larger(most, along[place]);
-        place += 1;
+    let mut kept = along[0];
+    for place in 1..used {
+        kept = C::choose(kept, along[place]);
     }
-    most
-}
-
-// The smallest of them; 0 of none.
-fn smallest_of(along: &[i64], used: usize) -> i64
-    requires { (used ≤ length along.now) × (is_modest along.now ≡ true) }
-    ensures { result ≡ smallest_of along.now used }
-{
-    if used == 0 {
-        return 0;
-    }
-    let mut least = along[0];
-    let mut place: usize = 1;
-    while place < used {
-        least = smaller(least, along[place]);
-        place += 1;
-    }
-    least
+    kept
 }
 
 // Whether there are used places in a line, or were before it.
+#[tactic(auto, unfolding(crate::specs::Numbers::has_some))]
 fn has_some(some: bool, used: usize) -> bool
     ensures { result ≡ has_some some used }
 {
-    if used == 0 {
-        return some;
-    }
-    true
+    some || used != 0
 }
 
-// The largest of all lines so far, and of a line besides.
-fn largest_beside(some: bool, most: i64, used: usize, line: i64) -> i64
-    ensures { result ≡ chosen_beside larger some most used line }
+// The one that is kept of all lines so far, and of a line besides.
+#[tactic(auto, unfolding(crate::specs::Numbers::chosen_beside))]
+fn extreme_beside<C: Choice>(some: bool, kept: i64, used: usize, line: i64) -> i64
+    ensures { result ≡ chosen_beside C.chosen some kept used line }
 {
     if used == 0 {
-        return most;
+        kept
+    } else if some {
+        C::choose(kept, line)
+    } else {
+        line
     }
-    if !some {
-        return line;
-    }
-    larger(most, line)
-}
-
-// The smallest of all lines so far, and of a line besides.
-fn smallest_beside(some: bool, least: i64, used: usize, line: i64) -> i64
-    ensures { result ≡ chosen_beside smaller some least used line }
-{
-    if used == 0 {
-        return least;
-    }
-    if !some {
-        return line;
-    }
-    smaller(least, line)
 }
 
 // Whether what is lent is a reel, with as many along numbers as places, and a place for each number of the report.
+#[tactic(auto, unfolding(crate::specs::Report::is_lent, crate::specs::Report::line_limit))]
 fn is_lent(
     rooms: &[usize],
     characters: &[usize],
@@ -145,34 +127,16 @@ fn is_lent(
         sums.now largest.now smallest.now }
 {
     let lines = rooms.len();
-    if LINES < lines {
-        return false;
-    }
-    if characters.len() != lines {
-        return false;
-    }
-    if used.len() != lines {
-        return false;
-    }
-    if sums.len() != lines {
-        return false;
-    }
-    if largest.len() != lines {
-        return false;
-    }
-    if smallest.len() != lines {
-        return false;
-    }
-    if !reel::adds_up(rooms, glyphs.len()) {
-        return false;
-    }
-    if !reel::adds_up(rooms, tags.len()) {
-        return false;
-    }
-    if !reel::adds_up(rooms, along.len()) {
-        return false;
-    }
-    reel::adds_up(characters, homes.len())
+    lines <= LINES
+        && characters.len() == lines
+        && used.len() == lines
+        && sums.len() == lines
+        && largest.len() == lines
+        && smallest.len() == lines
+        && reel::adds_up(rooms, glyphs.len())
+        && reel::adds_up(rooms, tags.len())
+        && reel::adds_up(rooms, along.len())
+        && reel::adds_up(characters, homes.len())
 }
 
 // Whether LINE takes the line whose part lies there, as for a pass.
@@ -216,8 +180,7 @@ fn are_taken(
 {
     let mut at: usize = 0;
     let mut from: usize = 0;
-    let mut i: usize = 0;
-    while i < rooms.len() {
+    for i in 0..rooms.len() {
         let room = rooms[i];
         let count = characters[i];
         let span = Span {
@@ -231,7 +194,6 @@ fn are_taken(
         }
         at += room;
         from += count;
-        i += 1;
     }
     true
 }
@@ -248,7 +210,7 @@ fn refuse_report(
     sums: &[i64],
     largest: &[i64],
     smallest: &[i64],
-) -> Check
+) -> Result<(), Refusal>
     ensures { result ≡ refuse (report_tests (lines_of rooms.now characters.now used.now
         glyphs.now tags.now homes.now along.now)
         sums.now largest.now smallest.now) }
@@ -256,12 +218,12 @@ fn refuse_report(
     if !is_lent(
         rooms, characters, used, glyphs, tags, homes, along, sums, largest, smallest,
     ) {
-        return Check::Refused(Refusal::Reel);
+        return Err(Refusal::Reel);
     }
     if !are_taken(rooms, characters, used, glyphs, tags, homes, along) {
-        return Check::Refused(Refusal::Line);
+        return Err(Refusal::Line);
     }
-    Check::Passed
+    Ok(())
 }
 
 // The numbers of every line, and of all, written.
@@ -285,23 +247,21 @@ fn write_page(
     let mut most: i64 = 0;
     let mut least: i64 = 0;
     let mut at: usize = 0;
-    let mut line: usize = 0;
-    while line < rooms.len() {
+    for line in 0..rooms.len() {
         let end = at + rooms[line];
         let places = used[line];
         let part = &along[at..end];
         let line_sum = sum_of(part, places);
-        let line_most = largest_of(part, places);
-        let line_least = smallest_of(part, places);
+        let line_most = extreme_of::<Larger>(part, places);
+        let line_least = extreme_of::<Smaller>(part, places);
         sums[line] = line_sum;
         largest[line] = line_most;
         smallest[line] = line_least;
         total = sum(total, line_sum);
-        most = largest_beside(some, most, places, line_most);
-        least = smallest_beside(some, least, places, line_least);
+        most = extreme_beside::<Larger>(some, most, places, line_most);
+        least = extreme_beside::<Smaller>(some, least, places, line_least);
         some = has_some(some, places);
         at = end;
-        line += 1;
     }
     *totals = [total, most, least];
 }
@@ -336,7 +296,7 @@ pub fn report(
         glyphs.now tags.now homes.now along.now)
         (page_of sums.old largest.old smallest.old totals.old)).totals }
 {
-    if let Check::Refused(why) = refuse_report(
+    if let Err(why) = refuse_report(
         rooms, characters, used, glyphs, tags, homes, along, sums, largest, smallest,
     ) {
         return Answer::Refused(why);

@@ -1,4 +1,5 @@
 -- An input that is taken is shaped: TABLE and LINE are the input's own, and HEAD is never given.
+use Rattle.std.specs.Prelude.{Ok}
 use Prim.Native.Nat.{ℕ, ◌+◌, ◌-◌, ◌/◌, ◌≤◌}
 use mathlib.Core.Path.{◌≡◌, refl, sym, ◌∙◌, ap, subst}
 use mathlib.Core.Bool.{not}
@@ -12,7 +13,6 @@ use Rattle.answers.specs.Limits.{table_limit}
 use Rattle.answers.specs.Refuse.{refuse, table_test}
 use Rattle.answers.specs.declared.Answer.{Answer}
 use Rattle.answers.specs.declared.Answer.TheVariants as Answer'
-use Rattle.answers.specs.declared.Check.TheVariants as Check'
 use Rattle.answers.proofs.Refusals.{refuse-later, refuse-none}
 use Rattle.line.specs.Line.{Line, Valid}
 use Rattle.line.specs.Test.{line_test}
@@ -26,7 +26,6 @@ use Rattle.morx.specs.Calls.{request_limit, request_test, run_tests, run_call}
 use Rattle.morx.specs.declared.Choices.{Choices}
 use Rattle.morx.proofs.Heads.{heads-counted}
 use Rattle.shaper.specs.Shaper.{shaper_table, shaper_room, input_of, left_to_right, start_line, shaped_in, shaped_by, shaped}
-use Rattle.shaper.specs.declared.Input.TheVariants.{TableUntil}
 use Rattle.shaper.proofs.Shaping.{Taken, taken, shaper_room-fits}
 
 -- DONE, FULL or LIMIT
@@ -38,7 +37,7 @@ run_runs : (table : List ℕ) (choices : Choices) (l : Line) → length table �
 unfolding run_call run_tests table_test request_test request_limit line_test start_test
 run_runs table choices l h v =
     let n : ℕ = length table in
-    let passed : refuse (run_tests n 0 l []) ≡ Check'.Passed =
+    let passed : refuse (run_tests n 0 l []) ≡ Ok tt =
     refuse-later (table_test n) (request_test [] ∷ line_test l ∷ start_test n 0 ∷ []) (le-ltb _ _ h)
     ∙ refuse-later (request_test []) (line_test l ∷ start_test n 0 ∷ []) refl
     ∙ refuse-later (line_test l) (start_test n 0 ∷ []) (ap not (of_valid l v))
@@ -62,7 +61,7 @@ module _ (new glyphs tags homes : List ℕ) (few : length new / 2 ≤ shaper_roo
       (fresh-passed _ tags (take (length new / 2) homes) (t ∙ sym written) (omega (arith, written, shaper_room-fits))
       (omega (arith, written, length-take-le (length new / 2) homes (omega arith)))))
 
-pub shaped_runs : (input glyphs tags homes : List ℕ) (end : ℕ) → input_of input ≡ TableUntil end → length glyphs ≡ shaper_room
+pub shaped_runs : (input glyphs tags homes : List ℕ) (end : ℕ) → input_of input ≡ Ok end → length glyphs ≡ shaper_room
     → length tags ≡ shaper_room → length homes ≡ shaper_room → Runs (shaped input glyphs tags homes).reply.answer
 unfolding shaped shaped_by shaped_in table_limit shaper_table
 shaped_runs input glyphs tags homes end e g t h =

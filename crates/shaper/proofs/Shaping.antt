@@ -1,4 +1,5 @@
 -- An input that is taken, the line that it starts with, and the run over that.
+use Rattle.std.specs.Prelude.{Option, Some, None, Result, Ok, Err}
 use Prim.Native.Nat.{ℕ, ◌+◌, ◌-◌, ◌*◌, ◌/◌, ◌≤◌, min}
 use mathlib.Core.Path.{◌≡◌, refl, sym, ◌∙◌, ap, subst}
 use mathlib.Core.Bool.{Bool, true, false, cond}
@@ -17,10 +18,6 @@ use Rattle.answers.specs.declared.Refusal.{Refusal}
 use Rattle.answers.specs.declared.Refusal.TheVariants as Refusal'
 use Rattle.parse.specs.Reads.{read_u16, read_u32}
 use Rattle.parse.specs.Use.{on_u16, on_u32}
-use Rattle.parse.specs.declared.ReadU16.{ReadU16}
-use Rattle.parse.specs.declared.ReadU16.TheVariants as U16
-use Rattle.parse.specs.declared.ReadU32.{ReadU32}
-use Rattle.parse.specs.declared.ReadU32.TheVariants as U32
 use Rattle.line.specs.Line.{Line, line_of}
 use Rattle.line.specs.Changes.{glyphs_of, numbers_from, spliced}
 use Rattle.line.specs.Entries.{fresh_of}
@@ -30,8 +27,6 @@ use Rattle.morx.specs.Work.{run_reply_of}
 use Rattle.morx.specs.Calls.{run_call, run_leaves}
 use Rattle.morx.specs.declared.RunReply.{RunReply}
 use Rattle.shaper.specs.Shaper.{shaper_table, shaper_room, line_in, input_of, left_to_right, start_line, shaped_in, shaped_by, shaped}
-use Rattle.shaper.specs.declared.Input.{Input}
-use Rattle.shaper.specs.declared.Input.TheVariants.{TableUntil, Refused}
 use Rattle.shaper.specs.declared.Shaped.{Shaped}
 
 pub shaper_room-fits : shaper_room ≤ room_limit
@@ -45,12 +40,12 @@ pub record Taken (input : List ℕ) (end : ℕ) : Type 0 where
   pub fits : end + 2 ≤ length input
   pub few : length (drop (end + 2) input) / 2 ≤ shaper_room
 
-refused_not_taken : {why : Refusal} {end : ℕ} → Refused why ≡ TableUntil end → ⊥
+refused_not_taken : {why : Refusal} {end : ℕ} → Err why ≡ Ok end → ⊥
 refused_not_taken e = let z : ◌≡◌ {A = ℕ} 0 1 = cc in omega arith
 
 module _ (input : List ℕ) (end : ℕ) where
   by_count : (at count : ℕ) (above whole : Bool) → 4 ≤ at → at ≤ 4 + shaper_table → ltb shaper_room count ≡ above → eqb (length input) (at + 2 + count * 2) ≡ whole
-      → cond above (Refused Refusal'.Line) (cond whole (TableUntil at) (Refused Refusal'.Line)) ≡ TableUntil end → Taken input end
+      → cond above (Err Refusal'.Line) (cond whole (Ok at) (Err Refusal'.Line)) ≡ Ok end → Taken input end
   by_count at count true whole h k p q e = absurd (refused_not_taken e)
   by_count at count false false h k p q e = absurd (refused_not_taken e)
   by_count at count false true h k p q e =
@@ -59,30 +54,30 @@ module _ (input : List ℕ) (end : ℕ) where
       let few : count ≤ shaper_room = ltb-false _ _ p in
       record { behind = omega arith; short = omega arith; fits = omega arith; few = rw (length-drop (end + 2) input) (omega arith) }
 
-  by_size : (size : ℕ) (above : Bool) → ltb shaper_table size ≡ above → cond above (Refused Refusal'.Table) (line_in input (4 + size)) ≡ TableUntil end → Taken input end
+  by_size : (size : ℕ) (above : Bool) → ltb shaper_table size ≡ above → cond above (Err Refusal'.Table) (line_in input (4 + size)) ≡ Ok end → Taken input end
   by_size size true p e = absurd (refused_not_taken e)
   by_size size false p e = go (read_u16 input (4 + size)) e
     where
-      go : (u : ReadU16)
+      go : (u : Option ℕ)
           → on_u16 u
           (λ count.
-          if_lt shaper_room count (Refused Refusal'.Line)
-          (if_eq (length input) (4 + size + 2 + count * 2) (TableUntil (4 + size)) (Refused Refusal'.Line)))
-          (Refused Refusal'.Line)
-          ≡ TableUntil end → Taken input end
-      go (U16.Got count) e =
+          if_lt shaper_room count (Err Refusal'.Line)
+          (if_eq (length input) (4 + size + 2 + count * 2) (Ok (4 + size)) (Err Refusal'.Line)))
+          (Err Refusal'.Line)
+          ≡ Ok end → Taken input end
+      go (Some count) e =
           by_count (4 + size) count (ltb shaper_room count) (eqb (length input) (4 + size + 2 + count * 2)) (omega arith) (omega (arith, ltb-false shaper_table size p)) refl refl e
-      go U16.Short e = absurd (refused_not_taken e)
+      go None e = absurd (refused_not_taken e)
 
-  pub taken : input_of input ≡ TableUntil end → Taken input end
+  pub taken : input_of input ≡ Ok end → Taken input end
   unfolding input_of
   taken = go (read_u32 input 0)
     where
-      go : (u : ReadU32)
-          → on_u32 u (λ size. if_lt shaper_table size (Refused Refusal'.Table) (line_in input (4 + size))) (Refused Refusal'.Line) ≡ TableUntil end
+      go : (u : Option ℕ)
+          → on_u32 u (λ size. if_lt shaper_table size (Err Refusal'.Table) (line_in input (4 + size))) (Err Refusal'.Line) ≡ Ok end
           → Taken input end
-      go (U32.Got size) e = by_size size (ltb shaper_table size) refl e
-      go U32.Short e = absurd (refused_not_taken e)
+      go (Some size) e = by_size size (ltb shaper_table size) refl e
+      go None e = absurd (refused_not_taken e)
 
 -- glyphs put into a line of no places
 spliced-empty : (new xs : List ℕ) → spliced (min 0 0) 0 new xs ≡ new ++ drop (length new) xs
@@ -158,7 +153,7 @@ pub shapes : (input : List ℕ) (end : ℕ) (glyphs tags homes : List ℕ) {glyp
 shapes input end glyphs tags homes r = shapes_by input end glyphs tags homes (sym (part_is (end + 2) input)) r
 
 -- they are no more than the room, and there are places and homes for them
-module _ (input : List ℕ) (end : ℕ) (e : input_of input ≡ TableUntil end) where
+module _ (input : List ℕ) (end : ℕ) (e : input_of input ≡ Ok end) where
   lent_few : length (lent input end) / 2 ≤ shaper_room
   lent_few = rw (part_is (end + 2) input) (taken input end e).few
 
@@ -179,13 +174,13 @@ AllShapesTo input glyphs tags homes reply glyphs' tags' homes' =
     × ((tags' ≡ (shaped input glyphs tags homes).tags)
     × (homes' ≡ (shaped input glyphs tags homes).homes)))
 
-module _ (input glyphs tags homes : List ℕ) {i : Input} (e : i ≡ input_of input) where
-  pub shape_refused : {why : Refusal} → i ≡ Refused why
+module _ (input glyphs tags homes : List ℕ) {i : (Result ℕ Refusal)} (e : i ≡ input_of input) where
+  pub shape_refused : {why : Refusal} → i ≡ Err why
       → AllShapesTo input glyphs tags homes (record { answer = Answer'.Refused why; heads = 0; used = 0; characters = 0 }) glyphs tags homes
   unfolding shaped shaped_by
-  shape_refused {why} f = let k : input_of input ≡ Refused why = sym e ∙ f in rw k (refl, (refl, (refl, refl)))
+  shape_refused {why} f = let k : input_of input ≡ Err why = sym e ∙ f in rw k (refl, (refl, (refl, refl)))
 
-  pub shape_taken : {end : ℕ} {reply : Shaped} {glyphs' tags' homes' : List ℕ} → i ≡ TableUntil end
+  pub shape_taken : {end : ℕ} {reply : Shaped} {glyphs' tags' homes' : List ℕ} → i ≡ Ok end
       → ShapesTo input end glyphs tags homes reply glyphs' tags' homes' → AllShapesTo input glyphs tags homes reply glyphs' tags' homes'
   unfolding shaped shaped_by
-  shape_taken {end} f s = let k : input_of input ≡ TableUntil end = sym e ∙ f in rw k s
+  shape_taken {end} f s = let k : input_of input ≡ Ok end = sym e ∙ f in rw k s

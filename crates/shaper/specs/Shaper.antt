@@ -1,5 +1,6 @@
 -- The shaper: what its input says, the line it starts with, and what it answers and leaves.
-use Rattle.std.specs.Prelude.{ℕ, ◌+◌, ◌-◌, ◌*◌, ◌/◌, false, List, [], ◌++◌, length, take, drop}
+use Rattle.answers.specs.declared.Refusal.{Refusal}
+use Rattle.std.specs.Prelude.{ℕ, ◌+◌, ◌-◌, ◌*◌, ◌/◌, false, List, [], ◌++◌, length, take, drop, Result, Ok, Err}
 use Rattle.laws.specs.Choose.{if_lt, if_eq}
 use Rattle.answers.specs.declared.Answer.TheVariants as Answer'
 use Rattle.answers.specs.declared.Refusal.TheVariants as Refusal'
@@ -12,8 +13,6 @@ use Rattle.chains.specs.declared.Edition.TheVariants.{Morx}
 use Rattle.morx.specs.Run.{Ran}
 use Rattle.morx.specs.Calls.{run_call, run_leaves}
 use Rattle.morx.specs.declared.Choices.{Choices}
-use Rattle.shaper.specs.declared.Input.{Input}
-use Rattle.shaper.specs.declared.Input.TheVariants.{TableUntil, Refused}
 use Rattle.shaper.specs.declared.Shaped.{Shaped}
 
 -- the most bytes of the shaper's table
@@ -25,20 +24,20 @@ unfoldable pub shaper_room : ℕ
 shaper_room = 4096
 
 -- behind the table's end a 16-bit glyph count, then the glyphs, no byte more or less, and no more glyphs than room (else LINE)
-abbrev pub line_in : List ℕ → (end : ℕ) → Input
+abbrev pub line_in : List ℕ → (end : ℕ) → Result ℕ Refusal
 line_in input end =
     on_u16 (read_u16 input end)
     (λ count.
-    if_lt shaper_room count (Refused Refusal'.Line)
-    (if_eq (length input) (end + 2 + count * 2) (TableUntil end) (Refused Refusal'.Line)))
-    (Refused Refusal'.Line)
+    if_lt shaper_room count (Err Refusal'.Line)
+    (if_eq (length input) (end + 2 + count * 2) (Ok end) (Err Refusal'.Line)))
+    (Err Refusal'.Line)
 
 -- a 32-bit table length (above the limit: TABLE, whatever follows), then the table and the line
-unfoldable pub input_of : List ℕ → Input
+unfoldable pub input_of : List ℕ → Result ℕ Refusal
 input_of input =
     on_u32 (read_u32 input 0)
-    (λ size. if_lt shaper_table size (Refused Refusal'.Table) (line_in input (4 + size)))
-    (Refused Refusal'.Line)
+    (λ size. if_lt shaper_table size (Err Refusal'.Table) (line_in input (4 + size)))
+    (Err Refusal'.Line)
 
 -- left to right, by a morx table
 abbrev pub left_to_right : Choices
@@ -73,15 +72,15 @@ shaped_in input end glyphs tags homes =
     }
 
 -- an input that is refused leaves the room as it was
-unfoldable pub shaped_by : Input → (input glyphs tags homes : List ℕ) → Left
-shaped_by (Refused why) input glyphs tags homes =
+unfoldable pub shaped_by : Result ℕ Refusal → (input glyphs tags homes : List ℕ) → Left
+shaped_by (Err why) input glyphs tags homes =
     record {
       reply = record { answer = Answer'.Refused why; heads = 0; used = 0; characters = 0 };
       glyphs = glyphs;
       tags = tags;
       homes = homes;
     }
-shaped_by (TableUntil end) input glyphs tags homes = shaped_in input end glyphs tags homes
+shaped_by (Ok end) input glyphs tags homes = shaped_in input end glyphs tags homes
 
 -- the shaper, lent room for the line
 unfoldable pub shaped : (input glyphs tags homes : List ℕ) → Left

@@ -1,11 +1,10 @@
 // The shaper: takes its input apart into a morx table and a line of glyphs, and runs the one over the other.
 #![tactic(auto)]
 
-ghost use Rattle.std.specs.Prelude.{◌≡◌, [], ◌/◌, ◌≤◌, length};
+ghost use Rattle.std.specs.Prelude.{◌≡◌, [], ◌/◌, ◌≤◌, length, Ok};
 ghost use Rattle.answers.specs.Limits.{room_limit};
 ghost use Rattle.morx.specs.Work.{run_reply_of};
 ghost use Rattle.morx.specs.Calls.{run_call, run_leaves};
-ghost use Rattle.shaper.specs.declared.Input.TheVariants.{TableUntil};
 ghost use Rattle.shaper.specs.Shaper.{shaper_room, input_of, left_to_right, start_line, shaped_in, shaped};
 
 use answers::{Answer, Refusal};
@@ -18,13 +17,6 @@ pub const SHAPER_TABLE: u32 = 32_768;
 // The places of the shaper's line.
 pub const SHAPER_ROOM: usize = 4096;
 
-// What the input says: where its table ends, with the glyph count behind it, or why it is refused.
-#[derive(Clone, Copy)]
-pub enum Input {
-    TableUntil(usize),
-    Refused(Refusal),
-}
-
 // What the shaper answers: beside the answer how many heads were read, the used length and the number of characters, all 0 where
 // the input is refused.
 #[derive(Clone, Copy)]
@@ -36,26 +28,23 @@ pub struct Shaped {
 }
 
 // Takes the input apart.
-pub fn read_input(input: &[u8]) -> Input
+#[tactic(auto, unfolding(crate::specs::Shaper::input_of, crate::specs::Shaper::line_in, crate::specs::Shaper::shaper_table, crate::specs::Shaper::shaper_room))]
+pub fn read_input(input: &[u8]) -> Result<usize, Refusal>
     ensures { result ≡ input_of input.now }
 {
-    let parse::ReadU32::Got(size) = parse::read_u32(input, 0) else {
-        return Input::Refused(Refusal::Line);
-    };
+    let size = parse::read_u32(input, 0).ok_or(Refusal::Line)?;
     if SHAPER_TABLE < size {
-        return Input::Refused(Refusal::Table);
+        return Err(Refusal::Table);
     }
     let end = 4 + size as usize;
-    let parse::ReadU16::Got(count) = parse::read_u16(input, end) else {
-        return Input::Refused(Refusal::Line);
-    };
+    let count = parse::read_u16(input, end).ok_or(Refusal::Line)?;
     if SHAPER_ROOM < count as usize {
-        return Input::Refused(Refusal::Line);
+        return Err(Refusal::Line);
     }
     if input.len() != end + 2 + count as usize * 2 {
-        return Input::Refused(Refusal::Line);
+        return Err(Refusal::Line);
     }
-    Input::TableUntil(end)
+    Ok(end)
 }
 
 // Starts a line with the glyphs of `new`, two bytes and a home for each, and runs the table over it.
@@ -96,7 +85,7 @@ fn shape_input(
     tags: &mut [u16],
     homes: &mut [u16],
 ) -> Shaped
-    requires { (input_of input.now ≡ TableUntil end) × (length glyphs.old ≡ shaper_room) × (length tags.old ≡ shaper_room) ×
+    requires { (input_of input.now ≡ Ok end) × (length glyphs.old ≡ shaper_room) × (length tags.old ≡ shaper_room) ×
         (length homes.old ≡ shaper_room) }
     ensures reply { result ≡ (shaped_in input.now end glyphs.old tags.old homes.old).reply }
     ensures glyphs { glyphs.new ≡ (shaped_in input.now end glyphs.old tags.old homes.old).glyphs }
@@ -107,9 +96,8 @@ fn shape_input(
     let new = &input[end + 2..];
     let characters = new.len() / 2;
     let reply = shape_line(table, new, glyphs, tags, &mut homes[..characters]);
-    let answer = reply.answer;
     Shaped {
-        answer,
+        answer: reply.answer,
         heads: reply.heads,
         used: reply.used,
         characters,
@@ -129,16 +117,12 @@ pub fn shape(
     ensures homes { homes.new ≡ (shaped input.now glyphs.old tags.old homes.old).homes }
 {
     match read_input(input) {
-        Input::Refused(why) => {
-            return Shaped {
-                answer: Answer::Refused(why),
-                heads: 0,
-                used: 0,
-                characters: 0,
-            };
-        }
-        Input::TableUntil(end) => {
-            return shape_input(input, end, glyphs, tags, homes);
-        }
+        Ok(end) => shape_input(input, end, glyphs, tags, homes),
+        Err(why) => Shaped {
+            answer: Answer::Refused(why),
+            heads: 0,
+            used: 0,
+            characters: 0,
+        },
     }
 }

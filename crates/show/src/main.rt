@@ -3,10 +3,11 @@
 
 ghost use Rattle.std.specs.Prelude.{◌≤◌, length, IfOk};
 
-use answers::{Check, ROOM, TABLE_LIMIT};
+use answers::{ROOM, Refusal, TABLE_LIMIT};
+use printed::LineText;
 use std::io;
 use std::io::Read;
-use stored::{Lengths, ReadLine};
+use stored::Lengths;
 
 // The longest record: a head of 9 bytes, glyph and tag of each place, and no more homes than places.
 const LONGEST_RECORD: usize = 9 + 6 * ROOM;
@@ -18,6 +19,7 @@ const MOST_BYTES: usize = LONGEST_RECORD + 1;
 const PART: usize = 4096;
 
 // Reads until the room is full or the input ends, and returns how many bytes were read.
+// kept: one for the four programs would be public, and of that tools/firm wants an equation for what is read, which no clause can say of a reader.
 fn read_full(input: &mut impl Read, room: &mut [u8]) -> io::Result<usize>
     ensures { IfOk result (λ read. read ≤ length room.new) }
 {
@@ -32,90 +34,27 @@ fn read_full(input: &mut impl Read, room: &mut [u8]) -> io::Result<usize>
     Ok(read)
 }
 
-fn print_number(rt: &impl Print, name: &str, number: u64) -> io::Result<()> {
-    print!(rt; "{name}{number}")
-}
-
-fn print_answer(rt: &impl Print, answer: u32) -> io::Result<()> {
-    print_number(rt, "answer ", answer as u64)?;
-    println!(rt)
-}
-
-// Glyph, tag or home.
-fn print_word(rt: &impl Print, word: u16) -> io::Result<()> {
-    print_number(rt, " ", word as u64)
-}
-
-// The number at a place, which lies in the room.
-fn word_at(words: &[u16], place: usize) -> u16 {
-    if words.len() <= place {
-        return 0;
-    }
-    words[place]
-}
-
-// Each place of the line with its glyph and tag.
-fn print_places(rt: &impl Print, glyphs: &[u16], tags: &[u16], used: usize) -> io::Result<()> {
-    for place in 0..used {
-        print_number(rt, "", place as u64)?;
-        print_word(rt, word_at(glyphs, place))?;
-        print_word(rt, word_at(tags, place))?;
-        println!(rt)?;
-    }
-    Ok(())
-}
-
-// The home of each character.
-fn print_homes(rt: &impl Print, homes: &[u16], characters: usize) -> io::Result<()> {
-    print!(rt; "homes")?;
-    for character in 0..characters {
-        print_word(rt, word_at(homes, character))?;
-    }
-    println!(rt)
-}
-
-fn print_line(
-    rt: &impl Print,
-    lengths: Lengths,
-    glyphs: &[u16; ROOM],
-    tags: &[u16; ROOM],
-    homes: &[u16; ROOM],
-) -> io::Result<()> {
-    print_number(rt, "length ", lengths.used as u64)?;
-    println!(rt)?;
-    print_places(rt, glyphs, tags, lengths.used)?;
-    print_homes(rt, homes, lengths.characters)
-}
-
 // The answer; where the bytes were taken, also the line.
 fn print_read(
     rt: &impl Print,
-    reply: ReadLine,
-    glyphs: &[u16; ROOM],
-    tags: &[u16; ROOM],
-    homes: &[u16; ROOM],
+    reply: Result<Lengths, Refusal>,
+    glyphs: &[u16],
+    tags: &[u16],
+    homes: &[u16],
 ) -> io::Result<()> {
     match reply {
-        ReadLine::Lengths(lengths) => {
-            print_answer(rt, 0)?;
-            print_line(rt, lengths, glyphs, tags, homes)
+        Ok(lengths) => {
+            let line = LineText {
+                glyphs,
+                tags,
+                homes,
+                used: lengths.used,
+                characters: lengths.characters,
+            };
+            print!(rt; "answer 0\n{line}")
         }
-        ReadLine::Refused(why) => print_answer(rt, answers::refusal_number(why)),
+        Err(why) => println!(rt; "answer {}", u32::from(why)),
     }
-}
-
-// Reads the record in the first `length` bytes.
-fn read_bytes(
-    bytes: &[u8],
-    length: usize,
-    glyphs: &mut [u16; ROOM],
-    tags: &mut [u16; ROOM],
-    homes: &mut [u16; ROOM],
-) -> ReadLine {
-    if bytes.len() <= length {
-        return stored::read_line(bytes, glyphs, tags, homes);
-    }
-    stored::read_line(&bytes[..length], glyphs, tags, homes)
 }
 
 // How many bytes the input has where so many are read already; behind the limit no more are counted.
@@ -125,7 +64,7 @@ fn count_on(input: &mut impl Read, read: usize) -> io::Result<usize> {
     while total <= TABLE_LIMIT {
         let more = read_full(input, &mut rest)?;
         if more == 0 {
-            return Ok(total);
+            break;
         }
         total += more;
     }
@@ -143,13 +82,13 @@ fn total_of(input: &mut impl Read, read: usize) -> io::Result<usize> {
 fn main(rt: HostRuntime) -> io::Result<()> {
     let mut input = rt.stdin();
     let mut bytes = [0u8; MOST_BYTES];
-    let length = read_full(&mut input, &mut bytes)?;
-    if let Check::Refused(why) = answers::refuse_table(total_of(&mut input, length)?) {
-        return print_answer(&rt, answers::refusal_number(why));
-    }
+    let read = read_full(&mut input, &mut bytes)?;
     let mut glyphs = [0u16; ROOM];
     let mut tags = [0u16; ROOM];
     let mut homes = [0u16; ROOM];
-    let reply = read_bytes(&bytes, length, &mut glyphs, &mut tags, &mut homes);
+    let reply = match answers::refuse_table(total_of(&mut input, read)?) {
+        Ok(()) => stored::read_line(&bytes[..read], &mut glyphs, &mut tags, &mut homes),
+        Err(why) => Err(why),
+    };
     print_read(&rt, reply, &glyphs, &tags, &homes)
 }

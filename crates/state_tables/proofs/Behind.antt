@@ -1,4 +1,5 @@
 -- More bytes behind a state table change nothing for a head, a class or an entry that was read without them.
+use Rattle.std.specs.Prelude.{Option, Some, None}
 use Prim.Native.Nat.{ℕ, ◌+◌, ◌-◌, ◌*◌, ◌<◌, ◌≤◌}
 use mathlib.Core.Path.{◌≡◌, refl, ◌∙◌, ap, ap₂}
 use mathlib.Core.Bool.{Bool, true, false, cond}
@@ -8,9 +9,6 @@ use lib.Dec.{ltb, eqb}
 use lib.ListN.{length}
 use borrow.Author.Tests.{ltb-true, ltb-false, eqb-false}
 use Rattle.parse.specs.Reads.{read_u8}
-use Rattle.parse.specs.declared.ReadU8.{ReadU8}
-use Rattle.parse.specs.declared.ReadU8.TheVariants as U8
-use Rattle.parse.specs.declared.ReadU16.TheVariants as U16
 use Rattle.parse.proofs.Laws.{u8_read}
 use Rattle.parse.proofs.Behind.{Begins, Stays, begins_from, read_u8_stays, read_u16_stays, on_u32_stays, u16_stays}
 use Rattle.tables.specs.declared.units.Reading.{Reading}
@@ -22,13 +20,11 @@ use Rattle.state_tables.specs.Entries.{widened, read_narrow, number_in, entry_nu
 use Rattle.state_tables.specs.declared.Edition.{Edition}
 use Rattle.state_tables.specs.declared.Edition.TheVariants.{Extended, Classic}
 use Rattle.state_tables.specs.declared.States.{States}
-use Rattle.state_tables.specs.declared.Made.TheVariants.{Short}
 use Rattle.state_tables.specs.declared.entries.Entry.{Entry}
-use Rattle.state_tables.specs.declared.entries.Entered.TheVariants.{At}
 use Rattle.state_tables.proofs.Readings.{raw_at, Steps, entry_by, entry-steps}
 
 module _ {own whole : List ℕ} (b : Begins own whole) where
-  pub head_stays : (reading : Reading) → Stays Short (extended_by reading own) (extended_by reading whole)
+  pub head_stays : (reading : Reading) → Stays None (extended_by reading own) (extended_by reading whole)
   unfolding extended_by
   head_stays reading =
       on_u32_stays b 0 _ _
@@ -66,19 +62,19 @@ module _ {own whole : List ℕ} (b : Begins own whole) where
       go false e = class_in_stays states.edition glyph (reads (eqb-false glyph 65535 e))
 
   -- the entry of a state and a class
-  narrow_stays : (at : ℕ) → Stays U16.Short (read_narrow own at) (read_narrow whole at)
+  narrow_stays : (at : ℕ) → Stays None (read_narrow own at) (read_narrow whole at)
   unfolding read_narrow
   narrow_stays at = go (read_u8 own at) (read_u8_stays b at)
     where
-      go : (r : ReadU8) → Stays U8.Short r (read_u8 whole at) → Stays U16.Short (widened r) (widened (read_u8 whole at))
-      go (U8.Got n) e not = rw (e (λ p. let z : ◌≡◌ {A = ℕ} 0 1 = cc in omega arith))
-      go U8.Short e not = absurd (not refl)
+      go : (r : Option ℕ) → Stays None r (read_u8 whole at) → Stays None (widened r) (widened (read_u8 whole at))
+      go (Some n) e not = rw (e (λ p. let z : ◌≡◌ {A = ℕ} 0 1 = cc in omega arith))
+      go None e not = absurd (not refl)
 
-  number_stays : (states : States) (state class : ℕ) → Stays U16.Short (entry_number own states state class) (entry_number whole states state class)
+  number_stays : (states : States) (state class : ℕ) → Stays None (entry_number own states state class) (entry_number whole states state class)
   unfolding entry_number number_in
   number_stays states state class = go states.edition
     where
-      go : (edition : Edition) → Stays U16.Short (number_in own edition states.array (state * states.classes + class)) (number_in whole edition states.array (state * states.classes + class))
+      go : (edition : Edition) → Stays None (number_in own edition states.array (state * states.classes + class)) (number_in whole edition states.array (state * states.classes + class))
       go (Extended table reading) = read_u16_stays b (states.array + (state * states.classes + class) * 2)
       go (Classic place first count) = narrow_stays (states.array + (state * states.classes + class))
 
@@ -97,7 +93,7 @@ module _ {own whole : List ℕ} (b : Begins own whole) where
         leads = ap (resolved states) (raw_stays s.place payload s.whole) ∙ s.leads;
       }
 
-  pub entry_stays : (states : States) (state class payload : ℕ) {entry : Entry} → entry_of own states state class payload ≡ At entry
-      → entry_of whole states state class payload ≡ At entry
+  pub entry_stays : (states : States) (state class payload : ℕ) {entry : Entry} → entry_of own states state class payload ≡ Some entry
+      → entry_of whole states state class payload ≡ Some entry
   entry_stays states state class payload e =
       entry_by whole states state class payload (steps_stay states state class payload (entry-steps own states state class payload e))

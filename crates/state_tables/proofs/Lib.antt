@@ -1,6 +1,4 @@
 -- Laws that the proofs of this crate and of those above cite.
-mod Products
-mod Replies
 mod Heads
 mod Readings
 pub mod Rows

@@ -1,4 +1,5 @@
 -- The class and the entry that are read are the manual's.
+use Rattle.std.specs.Prelude.{Option, Some, None, Result, Ok, Err}
 use Prim.Native.Nat.{ℕ, ◌+◌, ◌-◌, ◌*◌, ◌/◌, ◌<◌, ◌≤◌}
 use mathlib.Core.Path.{◌≡◌, refl, sym, ◌∙◌, ap, subst⁻¹}
 use mathlib.Core.List.{List}
@@ -10,9 +11,6 @@ use borrow.Author.Tests.{lt-ltb, le-ltb, eq-eqb, ne_eqb}
 use Rattle.laws.proofs.Numbers.{lt-or-ge, eq-or-ne}
 use Rattle.laws.specs.Choose.{if_eq}
 use Rattle.parse.specs.Reads.{u8_at, u16_at, u32_at, read_u8, read_u16}
-use Rattle.parse.specs.declared.ReadU8.{ReadU8}
-use Rattle.parse.specs.declared.ReadU8.TheVariants as U8
-use Rattle.parse.specs.declared.ReadU16.TheVariants as U16
 use Rattle.parse.proofs.Laws.{u8_from, u16_from, u8_read, u8_value, u16_value, read_u16_got}
 use Rattle.tables.specs.Lookup.{lookup_at}
 use Rattle.tables.specs.Units.{lookup_by}
@@ -20,8 +18,6 @@ use Rattle.tables.specs.ManualLookup.{format_number, Alike}
 use Rattle.tables.specs.ManualLookup as Lookup
 use Rattle.tables.specs.declared.lookup.Why.{Why}
 use Rattle.tables.specs.declared.units.Reading.TheVariants.{Crate, Manual}
-use Rattle.tables.specs.declared.lookup.Found.{Found}
-use Rattle.tables.specs.declared.lookup.Found.TheVariants as Found'
 use Rattle.tables.proofs.ManualLookup.{lookup_as_manual}
 use Rattle.tables.proofs.Sizes.{in_crate, other_formats}
 use Rattle.state_tables.specs.States.{extended_by, extended_at, classic_at}
@@ -29,7 +25,6 @@ use Rattle.state_tables.specs.Classes.{found_class, class_by_lookup, class_by_ar
 use Rattle.state_tables.specs.Entries.{read_narrow, number_in, entry_number, by_row, resolved_in, resolved}
 use Rattle.state_tables.specs.Manual.{ClassIs, deleted, covered, uncovered, Layout, extended, classic, class_table, LookupGives, ArrayGives, class_count, cell_place, EntryLies, Names, head_at, IsEntry, AsManual}
 use Rattle.state_tables.specs.declared.States.{States}
-use Rattle.state_tables.specs.declared.Made.TheVariants.{Ready}
 use Rattle.state_tables.specs.declared.entries.Entry.{Entry}
 use Rattle.state_tables.proofs.Heads.{extended_states, classic_states, extended_by_lem, extended_is, classic_is}
 use Rattle.state_tables.proofs.Readings.{Steps, raw_at, entry_by, entry-steps, by_row_lem}
@@ -64,7 +59,7 @@ module _ (bytes : List ℕ) (table glyph : ℕ) (real : glyph ≡ 65535 → ⊥)
       (lt-or-ge glyph (u16_at bytes table))
 
 -- a classic class, of any glyph
-pub class_by_array_lem : (bytes : List ℕ) (glyph : ℕ) {states : States} → classic_at bytes ≡ Ready states
+pub class_by_array_lem : (bytes : List ℕ) (glyph : ℕ) {states : States} → classic_at bytes ≡ Some states
     → ClassIs (ArrayGives (drop (class_table classic bytes) bytes) glyph) glyph (class_of bytes states glyph)
 unfolding class_of class_in
 class_by_array_lem bytes glyph e =
@@ -77,14 +72,14 @@ class_by_array_lem bytes glyph e =
 
 -- an extended class, where the class table reads as the manual's lookup table
 in_lookup : (table : List ℕ) (layout : Lookup.Layout) (glyphs glyph : ℕ) → (glyph ≡ 65535 → ⊥) → Lookup.AsManual table glyphs glyph layout
-    → (found : Found) → lookup_at table glyph ≡ found → ClassIs (LookupGives table layout glyphs glyph) glyph (found_class found)
-in_lookup table layout glyphs glyph real m (Found'.At class) e = covered real (m.found class e)
-in_lookup table layout glyphs glyph real m (Found'.Nothing why) e =
+    → (found : Result ℕ Why) → lookup_at table glyph ≡ found → ClassIs (LookupGives table layout glyphs glyph) glyph (found_class found)
+in_lookup table layout glyphs glyph real m (Ok class) e = covered real (m.found class e)
+in_lookup table layout glyphs glyph real m (Err why) e =
     uncovered real
     (λ class g. let t = m.there g.0 g.1 g.2 in let z : ◌≡◌ {A = ℕ} 0 1 = cc in omega arith)
 
-pub class_by-lookup : (bytes : List ℕ) (layout : Lookup.Layout) (glyphs glyph : ℕ) {states : States} → extended_at bytes ≡ Ready states
-    → read_u16 (drop (class_table extended bytes) bytes) 0 ≡ U16.Got (format_number layout)
+pub class_by-lookup : (bytes : List ℕ) (layout : Lookup.Layout) (glyphs glyph : ℕ) {states : States} → extended_at bytes ≡ Some states
+    → read_u16 (drop (class_table extended bytes) bytes) 0 ≡ Some (format_number layout)
     → ((glyph ≡ 65535 → ⊥) → Alike (drop (class_table extended bytes) bytes) glyphs glyph layout)
     → ClassIs (LookupGives (drop (class_table extended bytes) bytes) layout glyphs glyph) glyph (class_of bytes states glyph)
 unfolding class_of class_in class_by_lookup
@@ -99,19 +94,19 @@ class_by-lookup bytes layout glyphs glyph e format alike =
     (eq-or-ne glyph 65535))
 
 -- a lookup that finds nothing gives class 1, whatever the reason
-pub class_drops : (bytes : List ℕ) (glyph : ℕ) (why : Why) {states : States} → extended_at bytes ≡ Ready states → (glyph ≡ 65535 → ⊥)
-    → lookup_at (drop (class_table extended bytes) bytes) glyph ≡ Found'.Nothing why → class_of bytes states glyph ≡ 1
+pub class_drops : (bytes : List ℕ) (glyph : ℕ) (why : Why) {states : States} → extended_at bytes ≡ Some states → (glyph ≡ 65535 → ⊥)
+    → lookup_at (drop (class_table extended bytes) bytes) glyph ≡ Err why → class_of bytes states glyph ≡ 1
 unfolding class_of class_in class_by_lookup
 class_drops bytes glyph why e real f = ap (λ (s : States). class_of bytes s glyph) (extended_is bytes e) ∙ rw (ne_eqb glyph 65535 real, in_crate (drop (class_table extended bytes) bytes) glyph, f)
 
 -- where the class table is not of format 10, both readings give the same classes
-pub readings_class : (bytes : List ℕ) (glyph : ℕ) → (read_u16 (drop (u32_at bytes 4) bytes) 0 ≡ U16.Got 10 → ⊥) → {crates manuals : States}
-    → extended_by Crate bytes ≡ Ready crates → extended_by Manual bytes ≡ Ready manuals → class_of bytes manuals glyph ≡ class_of bytes crates glyph
+pub readings_class : (bytes : List ℕ) (glyph : ℕ) → (read_u16 (drop (u32_at bytes 4) bytes) 0 ≡ Some 10 → ⊥) → {crates manuals : States}
+    → extended_by Crate bytes ≡ Some crates → extended_by Manual bytes ≡ Some manuals → class_of bytes manuals glyph ≡ class_of bytes crates glyph
 unfolding class_of class_in class_by_lookup
 readings_class bytes glyph other c m =
     let table = drop (u32_at bytes 4) bytes in
     ap (λ (s : States). class_of bytes s glyph) (extended_by_lem Manual bytes m)
-    ∙ ap (λ (f : Found). if_eq glyph 65535 2 (found_class f)) (other_formats table glyph other ∙ sym (in_crate table glyph))
+    ∙ ap (λ (f : Result ℕ Why). if_eq glyph 65535 2 (found_class f)) (other_formats table glyph other ∙ sym (in_crate table glyph))
     ∙ sym (ap (λ (s : States). class_of bytes s glyph) (extended_by_lem Crate bytes c))
 
 -- the cell that is read is the manual's
@@ -164,7 +159,7 @@ row_of_lem array classes number next some n = div-eq_of_eq-mul_left (omega (arit
 -- a classic entry
 module _ (bytes : List ℕ) (state class payload : ℕ) where
   classic-number : cell_place classic bytes state class + 1 ≤ length bytes
-      → entry_number bytes (classic_states bytes) state class ≡ U16.Got (u8_at bytes (cell_place classic bytes state class))
+      → entry_number bytes (classic_states bytes) state class ≡ Some (u8_at bytes (cell_place classic bytes state class))
   unfolding entry_number number_in read_narrow
   classic-number h = rw (classic-cell bytes state class, ← (u8_read bytes (cell_place classic bytes state class) (omega arith)))
 
@@ -186,15 +181,15 @@ module _ (bytes : List ℕ) (state class payload : ℕ) where
             );
       }
 
-  classic-value : {number : ℕ} → entry_number bytes (classic_states bytes) state class ≡ U16.Got number
+  classic-value : {number : ℕ} → entry_number bytes (classic_states bytes) state class ≡ Some number
       → (cell_place classic bytes state class + 1 ≤ length bytes) × (number ≡ u8_at bytes (cell_place classic bytes state class))
   unfolding entry_number number_in read_narrow
   classic-value {number} e = go (read_u8 bytes (u16_at bytes 4 + (state * u16_at bytes 0 + class))) refl
     where
-      go : (r : ReadU8) → read_u8 bytes (u16_at bytes 4 + (state * u16_at bytes 0 + class)) ≡ r
+      go : (r : Option ℕ) → read_u8 bytes (u16_at bytes 4 + (state * u16_at bytes 0 + class)) ≡ r
           → (cell_place classic bytes state class + 1 ≤ length bytes) × (number ≡ u8_at bytes (cell_place classic bytes state class))
-      go U8.Short p = let z : ◌≡◌ {A = ℕ} 0 1 = cc in absurd (omega arith)
-      go (U8.Got n) p =
+      go None p = let z : ◌≡◌ {A = ℕ} 0 1 = cc in absurd (omega arith)
+      go (Some n) p =
           let (inside, value) = u8_value bytes (u16_at bytes 4 + (state * u16_at bytes 0 + class)) p in
           let same : number ≡ n = cc in
           let cell = classic-cell bytes state class in
@@ -220,7 +215,7 @@ module _ (bytes : List ℕ) (state class payload : ℕ) where
       }
 
 -- in both layouts, whatever the state
-pub entry_as_manual : (layout : Layout) (bytes : List ℕ) (state class payload : ℕ) {states : States} → head_at layout bytes ≡ Ready states
+pub entry_as_manual : (layout : Layout) (bytes : List ℕ) (state class payload : ℕ) {states : States} → head_at layout bytes ≡ Some states
     → AsManual layout bytes states state class payload
 entry_as_manual extended bytes state class payload e =
     subst⁻¹ (λ (s : States). AsManual extended bytes s state class payload) (extended_is bytes e)

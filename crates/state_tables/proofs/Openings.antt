@@ -1,4 +1,6 @@
 -- A class table that was opened gives the classes that it gave before, and so does what is remembered of it.
+use Rattle.std.specs.Prelude.{Option, Some, None, Result, Ok, Err}
+use Rattle.tables.specs.declared.lookup.Why.{Why}
 use Prim.Native.Nat.{ℕ, ◌+◌, ◌-◌, ◌*◌, ◌/◌, ◌%◌, ◌<◌, ◌≤◌}
 use mathlib.Core.Path.{◌≡◌, refl, sym, ◌∙◌, ap, subst}
 use mathlib.Core.Bool.{Bool, true, false, cond}
@@ -12,19 +14,13 @@ use borrow.Author.Tests.{lt-ltb, le-ltb, ltb-true, ltb-false}
 use Rattle.laws.specs.Choose.{if_lt, if_eq}
 use Rattle.laws.proofs.Numbers.{eq-or-ne}
 use Rattle.parse.specs.Reads.{u8_at, u16_at, read_u8}
-use Rattle.parse.specs.declared.ReadU8.{ReadU8}
-use Rattle.parse.specs.declared.ReadU8.TheVariants as U8
 use Rattle.parse.proofs.Laws.{u8_from, u16_from, u8_read, inside_past}
 use Rattle.tables.specs.Lookup.{lookup_at}
 use Rattle.tables.specs.Units.{units_by, byte_found, byte_at, in_units}
 use Rattle.tables.specs.Opened as Lookup'
 use Rattle.tables.specs.Opened.{most_in, opened_of, plain, in_array, found_in}
-use Rattle.tables.specs.declared.lookup.Found.{Found}
-use Rattle.tables.specs.declared.lookup.Found.TheVariants as Found'
-use Rattle.tables.specs.declared.opened.Opened.{Opened}
-use Rattle.tables.specs.declared.opened.Opened.TheVariants as Opened'
+use Rattle.tables.specs.declared.opened.Array.{Array}
 use Rattle.tables.specs.declared.units.Reading.{Reading}
-use Rattle.tables.specs.declared.units.Reading.TheVariants.{Crate}
 use Rattle.tables.specs.declared.units.Units.{Units}
 use Rattle.tables.specs.declared.units.Units.TheVariants as Units'
 use Rattle.tables.proofs.Sizes.{by_units, in_words_lem, in_crate}
@@ -38,11 +34,11 @@ use Rattle.state_tables.specs.declared.opened.Classes.{Classes}
 use Rattle.state_tables.specs.declared.opened.Classes.TheVariants.{Words, Bytes, Searched}
 
 -- why nothing was found does not matter to a class
-class-plain : (found : Found) → found_class (plain found) ≡ found_class found
-class-plain (Found'.At class) = refl
-class-plain (Found'.Nothing why) = refl
+class-plain : (found : Result ℕ Why) → found_class (plain found) ≡ found_class found
+class-plain (Ok class) = refl
+class-plain (Err why) = refl
 
-class_choice : (a b : ℕ) (x y : Found) → found_class (if_lt a b x y) ≡ if_lt a b (found_class x) (found_class y)
+class_choice : (a b : ℕ) (x y : Result ℕ Why) → found_class (if_lt a b x y) ≡ if_lt a b (found_class x) (found_class y)
 class_choice a b x y = go (ltb a b)
   where
     go : (t : Bool) → found_class (cond t x y) ≡ cond t (found_class x) (found_class y)
@@ -51,39 +47,26 @@ class_choice a b x y = go (ltb a b)
 
 -- by a lookup table
 module _ (bytes : List ℕ) (table glyph : ℕ) where
-  pub crate_class : {part : List ℕ} {found : Found} → part ≡ drop table bytes → found ≡ lookup_at part glyph → found_class found ≡ class_by_lookup bytes table Crate glyph
-  unfolding class_by_lookup
-  crate_class p f = ap found_class (f ∙ ap (λ (b : List ℕ). lookup_at b glyph) p ∙ sym (in_crate (drop table bytes) glyph))
-
-  lookup_class : Opened → ℕ
+  lookup_class : Option Array → ℕ
   lookup_class opened = if_eq glyph 65535 2 (found_class (found_in (drop table bytes) opened glyph))
 
-  from_opened : (opened : Opened) → opened_of (drop table bytes) ≡ opened → class_by bytes (classes_from table opened) glyph ≡ lookup_class opened
+  from_opened : (opened : Option Array) → opened_of (drop table bytes) ≡ opened → class_by bytes (classes_from table opened) glyph ≡ lookup_class opened
   unfolding class_by word_class class_by_lookup found_in in_array lookup_class
-  from_opened (Opened'.Array base first count) e =
+  from_opened (Some array) e =
       rw (
-        class_choice glyph first (Found'.Nothing _) _,
-        class_choice (glyph - first) count (Found'.At (u16_at (drop table bytes) (base + (glyph - first) * 2))) _,
-        u16_from bytes table (base + (glyph - first) * 2),
-        (let e : table + (base + (glyph - first) * 2) ≡ table + base + (glyph - first) * 2 = omega arith in e),
+        class_choice glyph array.first (Err _) _,
+        class_choice (glyph - array.first) array.count (Ok (u16_at (drop table bytes) (array.base + (glyph - array.first) * 2))) _,
+        u16_from bytes table (array.base + (glyph - array.first) * 2),
+        (let e : table + (array.base + (glyph - array.first) * 2) ≡ table + array.base + (glyph - array.first) * 2 = omega arith in e),
       )
-  from_opened Opened'.Other e = rw (class-plain (lookup_at (drop table bytes) glyph), in_crate (drop table bytes) glyph)
+  from_opened None e = rw (class-plain (lookup_at (drop table bytes) glyph), in_crate (drop table bytes) glyph)
 
   words_same : class_by bytes (classes_from table (opened_of (drop table bytes))) glyph ≡ if_eq glyph 65535 2 (found_class (lookup_at (drop table bytes) glyph))
   unfolding lookup_class
   words_same =
       from_opened (opened_of (drop table bytes)) refl
-      ∙ ap (λ (found : Found). if_eq glyph 65535 2 (found_class found)) (opened-same (drop table bytes) glyph)
+      ∙ ap (λ (found : Result ℕ Why). if_eq glyph 65535 2 (found_class found)) (opened-same (drop table bytes) glyph)
       ∙ ap (λ (class : ℕ). if_eq glyph 65535 2 class) (class-plain (lookup_at (drop table bytes) glyph))
-
--- behind the table's end there are none
-pub cut_past : (bytes : List ℕ) (base count : ℕ) → length bytes < base → 0 ≡ cut_bytes bytes base count
-unfolding cut_bytes
-cut_past bytes base count h = go (ltb (length bytes - base) count) refl
-  where
-    go : (b : Bool) → ltb (length bytes - base) count ≡ b → 0 ≡ cond b (length bytes - base) count
-    go true e = omega arith
-    go false e = omega (arith, ltb-false (length bytes - base) count e)
 
 -- by an array of bytes: one of them can be read exactly when it lies in the table
 module _ (bytes : List ℕ) (place first count glyph : ℕ) where
@@ -134,9 +117,9 @@ found_byte : (bytes : List ℕ) (place : ℕ) → found_class (byte_at bytes pla
 unfolding byte_at
 found_byte bytes place = go (read_u8 bytes place)
   where
-    go : (r : ReadU8) → found_class (byte_found r) ≡ byte_class r
-    go (U8.Got n) = refl
-    go U8.Short = refl
+    go : (r : Option ℕ) → found_class (byte_found r) ≡ byte_class r
+    go (Some n) = refl
+    go None = refl
 
 byte_class_lem : (bytes : List ℕ) (table place : ℕ) → found_class (byte_at (drop table bytes) place) ≡ byte_class (read_u8 bytes (table + place))
 unfolding read_u8
@@ -151,11 +134,11 @@ byte_class_lem bytes table place = found_byte (drop table bytes) place ∙ go (l
         rw (inside_past (drop table bytes) place 1 (omega (arith, h, length-drop table bytes)), inside_past bytes (table + place) 1 (omega (arith, h)), read_u8)
 
 module _ (bytes : List ℕ) (table glyph : ℕ) where
-  bytes-found : (first count : ℕ) → class_by_array bytes (table + 8) first count glyph ≡ found_class (in_units (drop table bytes) (Units'.Bytes first count) glyph)
+  bytes-found : (first count : ℕ) → class_by_array bytes (table + 8) first count glyph ≡ found_class (in_units (drop table bytes) (Ok (Units'.Bytes first count)) glyph)
   unfolding class_by_array in_units
   bytes-found first count =
       rw (
-        class_choice glyph first (Found'.Nothing _) _,
+        class_choice glyph first (Err _) _,
         class_choice (glyph - first) count (byte_at (drop table bytes) (8 + (glyph - first))) _,
         byte_class_lem bytes table (8 + (glyph - first)),
         (let e : table + (8 + (glyph - first)) ≡ table + 8 + (glyph - first) = omega arith in e),
@@ -173,18 +156,18 @@ module _ (bytes : List ℕ) (table : ℕ) (reading : Reading) (glyph : ℕ) wher
       goal : Type 0
       goal = class_by bytes (opened_classes bytes (Extended table reading)) glyph ≡ if_eq glyph 65535 2 (class_by_lookup bytes table reading glyph)
 
-      found : {units : Units} → units_by reading (drop table bytes) ≡ units
+      found : {units : Result Units Why} → units_by reading (drop table bytes) ≡ units
           → if_eq glyph 65535 2 (found_class (in_units (drop table bytes) units glyph)) ≡ if_eq glyph 65535 2 (class_by_lookup bytes table reading glyph)
-      found e = ap (λ (f : Found). if_eq glyph 65535 2 (found_class f)) (sym (by_units reading (drop table bytes) glyph e))
+      found e = ap (λ (f : Result ℕ Why). if_eq glyph 65535 2 (found_class f)) (sym (by_units reading (drop table bytes) glyph e))
 
-      go : (units : Units) → units_by reading (drop table bytes) ≡ units → goal
-      go Units'.Words e = rw e (words_same bytes table glyph ∙ in_two e)
+      go : (units : Result Units Why) → units_by reading (drop table bytes) ≡ units → goal
+      go (Ok Units'.Words) e = rw e (words_same bytes table glyph ∙ in_two e)
         where
-          in_two : units_by reading (drop table bytes) ≡ Units'.Words
+          in_two : units_by reading (drop table bytes) ≡ Ok Units'.Words
               → if_eq glyph 65535 2 (found_class (lookup_at (drop table bytes) glyph)) ≡ if_eq glyph 65535 2 (class_by_lookup bytes table reading glyph)
-          in_two f = ap (λ (r : Found). if_eq glyph 65535 2 (found_class r)) (sym (in_words_lem reading (drop table bytes) glyph f))
-      go (Units'.Bytes first count) e = rw e (array_same bytes (table + 8) first count glyph ∙ ap (λ (n : ℕ). if_eq glyph 65535 2 n) (bytes-found bytes table glyph first count) ∙ found e)
-      go (Units'.None why) e = rw e (array_same bytes 0 0 0 glyph ∙ ap (λ (n : ℕ). if_eq glyph 65535 2 n) (none_found bytes table glyph) ∙ found e)
+          in_two f = ap (λ (r : Result ℕ Why). if_eq glyph 65535 2 (found_class r)) (sym (in_words_lem reading (drop table bytes) glyph f))
+      go (Ok (Units'.Bytes first count)) e = rw e (array_same bytes (table + 8) first count glyph ∙ ap (λ (n : ℕ). if_eq glyph 65535 2 n) (bytes-found bytes table glyph first count) ∙ found e)
+      go (Err why) e = rw e (array_same bytes 0 0 0 glyph ∙ ap (λ (n : ℕ). if_eq glyph 65535 2 n) (none_found bytes table glyph) ∙ found e)
 
 abbrev words-lie : List ℕ → Classes → Type 0
 words-lie bytes (Words base first count) = count ≤ most_in bytes base
@@ -222,22 +205,22 @@ pub classes-lie : (bytes : List ℕ) (edition : Edition) → LiesIn bytes (opene
 unfolding opened_classes classes_in most_in
 classes-lie bytes (Extended table reading) = by_units' (units_by reading (drop table bytes))
   where
-    go : (opened : Opened) → Lookup'.LiesIn (drop table bytes) opened → LiesIn bytes (classes_from table opened)
-    go (Opened'.Array base first count) h =
+    go : (opened : Option Array) → Lookup'.LiesIn (drop table bytes) opened → LiesIn bytes (classes_from table opened)
+    go (Some array) h =
         record {
-          words = λ b f n e. subst (λ (o : Classes). words-lie bytes o) e (omega (arith, h base first count refl, length-drop table bytes));
+          words = λ b f n e. subst (λ (o : Classes). words-lie bytes o) e (omega (arith, h array refl, length-drop table bytes));
           byte_classes = λ b f n e. subst (λ (o : Classes). bytes-lie bytes o) e (omega arith);
         }
-    go Opened'.Other h =
+    go None h =
         record {
           words = λ b f n e. subst (λ (o : Classes). words-lie bytes o) e (omega arith);
           byte_classes = λ b f n e. subst (λ (o : Classes). bytes-lie bytes o) e (omega arith);
         }
 
-    by_units' : (units : Units) → LiesIn bytes (classes_in bytes table units)
-    by_units' Units'.Words = go (opened_of (drop table bytes)) (opened-lies (drop table bytes))
-    by_units' (Units'.Bytes first count) = array_lies bytes (table + 8) first count
-    by_units' (Units'.None why) = array_lies bytes 0 0 0
+    by_units' : (units : Result Units Why) → LiesIn bytes (classes_in bytes table units)
+    by_units' (Ok Units'.Words) = go (opened_of (drop table bytes)) (opened-lies (drop table bytes))
+    by_units' (Ok (Units'.Bytes first count)) = array_lies bytes (table + 8) first count
+    by_units' (Err why) = array_lies bytes 0 0 0
 classes-lie bytes (Classic place first count) = array_lies bytes place first count
 
 -- the class in an array of words
@@ -268,9 +251,6 @@ module _ {classes : ℕ → ℕ} where
       }
 
   module _ {memo : List ℕ} (r : Remembers classes memo) {slot glyph : ℕ} (h : slot < 64) where
-    pub recalled : get_or memo slot 0 / 65536 ≡ glyph → get_or memo slot 0 % 65536 ≡ classes glyph
-    recalled e = sym (r.slots slot h) ∙ ap classes e
-
     remembers : {class : ℕ} → class < 65536 → class ≡ classes glyph → Remembers classes (set memo slot (glyph * 65536 + class))
     remembers {class} small e =
         record {

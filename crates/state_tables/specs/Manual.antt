@@ -1,15 +1,13 @@
 -- Apple's manual on state tables, extended and classic: the class of a glyph, where a state's row, an entry and its payload lie, and
 -- which state an entry leads to. The manual was not at hand: docs/DIFFERENCES.md says what these lines rest on.
-use Rattle.std.specs.Prelude.{ℕ, ◌+◌, ◌-◌, ◌*◌, ◌<◌, ◌≤◌, ◌≡◌, List, length}
+use Rattle.std.specs.Prelude.{ℕ, ◌+◌, ◌-◌, ◌*◌, ◌<◌, ◌≤◌, ◌≡◌, List, length, Option, Some}
 use Rattle.parse.specs.Reads.{u8_at, u16_at, u32_at}
 use Rattle.tables.specs.ManualLookup.{Lies, Spans}
 use Rattle.tables.specs.ManualLookup as Lookup
 use Rattle.state_tables.specs.States.{extended_at, classic_at}
 use Rattle.state_tables.specs.Entries.{entry_of}
 use Rattle.state_tables.specs.declared.States.{States}
-use Rattle.state_tables.specs.declared.Made.{Made}
 use Rattle.state_tables.specs.declared.entries.Entry.{Entry}
-use Rattle.state_tables.specs.declared.entries.Entered.TheVariants.{At}
 
 -- the predefined classes; the font's own come behind them
 pub data Predefined : Type 0 where
@@ -93,7 +91,7 @@ Names extended bytes number state = number ≡ state
 Names classic bytes number state = number ≡ row_place classic bytes state
 
 -- the crate's head
-abbrev pub head_at : Layout → List ℕ → Made
+abbrev pub head_at : Layout → List ℕ → Option States
 head_at extended bytes = extended_at bytes
 head_at classic bytes = classic_at bytes
 
@@ -107,7 +105,7 @@ pub record IsEntry (layout : Layout) (bytes : List ℕ) (state class payload : �
 
 -- of a class below the class count the crate finds the manual's entry, and that wherever it names a state
 pub record AsManual (layout : Layout) (bytes : List ℕ) (states : States) (state class payload : ℕ) : Type 0 where
-  pub found : (entry : Entry) → class < class_count layout bytes → entry_of bytes states state class payload ≡ At entry
+  pub found : (entry : Entry) → class < class_count layout bytes → entry_of bytes states state class payload ≡ Some entry
       → IsEntry layout bytes state class payload entry
   pub there : (place next : ℕ) → EntryLies layout bytes state class payload place → Names layout bytes (u16_at bytes place) next
-      → entry_of bytes states state class payload ≡ At (record { state = next; flags = u16_at bytes (place + 2); payload = place + 4 })
+      → entry_of bytes states state class payload ≡ Some (record { state = next; flags = u16_at bytes (place + 2); payload = place + 4 })

@@ -1,12 +1,12 @@
 -- For the code alone; no entry and no promise rests on it, and nobody has to believe it. What the code keeps of a class table that it opens once for
 -- many glyphs.
-use Rattle.std.specs.Prelude.{ℕ, ◌+◌, ◌-◌, ◌*◌, ◌/◌, ◌%◌, ◌<◌, ◌≤◌, ◌≡◌, List, length, get_or, set, drop, replicate}
+use Rattle.std.specs.Prelude.{ℕ, ◌+◌, ◌-◌, ◌*◌, ◌/◌, ◌%◌, ◌<◌, ◌≤◌, ◌≡◌, List, length, get_or, set, drop, replicate, Option, Some, None, Result, Ok, Err}
 use Rattle.laws.specs.Choose.{if_lt, if_eq}
 use Rattle.parse.specs.Reads.{u8_at, u16_at}
 use Rattle.tables.specs.Opened.{most_in, opened_of}
 use Rattle.tables.specs.Units.{units_by}
-use Rattle.tables.specs.declared.opened.Opened.{Opened}
-use Rattle.tables.specs.declared.opened.Opened.TheVariants as Opened'
+use Rattle.tables.specs.declared.lookup.Why.{Why}
+use Rattle.tables.specs.declared.opened.Array.{Array}
 use Rattle.tables.specs.declared.units.Reading.TheVariants.{Crate}
 use Rattle.tables.specs.declared.units.Units.{Units}
 use Rattle.tables.specs.declared.units.Units.TheVariants as Units'
@@ -20,18 +20,18 @@ use Rattle.state_tables.specs.declared.opened.Classes.TheVariants.{Words, Bytes,
 unfoldable pub cut_bytes : List ℕ → (base count : ℕ) → ℕ
 cut_bytes bytes base count = if_lt (length bytes - base) count (length bytes - base) count
 
-abbrev pub classes_from : (table : ℕ) → Opened → Classes
-classes_from table (Opened'.Array base first count) = Words (table + base) first count
-classes_from table Opened'.Other = Searched table
+abbrev pub classes_from : (table : ℕ) → Option Array → Classes
+classes_from table (Some array) = Words (table + array.base) array.first array.count
+classes_from table None = Searched table
 
 unfoldable pub opened_bytes : List ℕ → (base first count : ℕ) → Classes
 opened_bytes bytes base first count = Bytes base first (cut_bytes bytes base count)
 
 -- elements of one byte begin at 8; no elements are an array of none
-unfoldable pub classes_in : List ℕ → (table : ℕ) → Units → Classes
-classes_in bytes table Units'.Words = classes_from table (opened_of (drop table bytes))
-classes_in bytes table (Units'.Bytes first count) = opened_bytes bytes (table + 8) first count
-classes_in bytes table (Units'.None why) = opened_bytes bytes 0 0 0
+unfoldable pub classes_in : List ℕ → (table : ℕ) → Result Units Why → Classes
+classes_in bytes table (Ok Units'.Words) = classes_from table (opened_of (drop table bytes))
+classes_in bytes table (Ok (Units'.Bytes first count)) = opened_bytes bytes (table + 8) first count
+classes_in bytes table (Err why) = opened_bytes bytes 0 0 0
 
 unfoldable pub opened_classes : List ℕ → Edition → Classes
 opened_classes bytes (Extended table reading) = classes_in bytes table (units_by reading (drop table bytes))
@@ -68,3 +68,9 @@ pub record Remembers (classes : ℕ → ℕ) (memo : List ℕ) : Type 0 where
 -- what is remembered once the class of a glyph was asked for
 unfoldable pub noted : (classes : ℕ → ℕ) → (memo : List ℕ) → (glyph : ℕ) → List ℕ
 noted classes memo glyph = if_eq (get_or memo (glyph % 64) 0 / 65536) glyph memo (set memo (glyph % 64) (glyph * 65536 + classes glyph))
+
+-- an array's classes are not remembered
+unfoldable pub noted_now : (classes : ℕ → ℕ) → Classes → (memo : List ℕ) → (glyph : ℕ) → List ℕ
+noted_now classes (Words base first count) memo glyph = memo
+noted_now classes (Bytes base first count) memo glyph = noted classes memo glyph
+noted_now classes (Searched table) memo glyph = noted classes memo glyph

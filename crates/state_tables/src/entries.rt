@@ -5,7 +5,6 @@ ghost use Rattle.state_tables.specs.Entries.{read_narrow, entry_number, entry_at
 ghost use Rattle.state_tables.specs.Rows.{is_classic, reached_in};
 
 use crate::{Edition, States};
-use parse::ReadU16;
 
 // An entry: the state that it leads to, its flags, and where its payload begins.
 #[derive(Clone, Copy)]
@@ -15,18 +14,11 @@ pub struct Entry {
     pub payload: usize,
 }
 
-// What a state and a class give. `Ended` is the crate's None, and class count 0, where the crate panics.
-#[derive(Clone, Copy)]
-pub enum Entered {
-    At(Entry),
-    Ended,
-}
-
 // What a row and a class of a classic table give: the row that the entry leads to, by the number of its first cell, and the entry's flags.
 #[derive(Clone, Copy)]
-pub enum Reached {
-    At { row: u32, flags: u16 },
-    Ended,
+pub struct Reached {
+    pub row: u32,
+    pub flags: u16,
 }
 
 // The two numbers of a payload.
@@ -37,13 +29,11 @@ pub struct Two {
 }
 
 // A byte, as a 16-bit number.
-fn read_narrow(bytes: &[u8], at: usize) -> ReadU16
+#[tactic(auto, unfolding(crate::specs::Entries::read_narrow))]
+fn read_narrow(bytes: &[u8], at: usize) -> Option<u16>
     ensures { result ≡ read_narrow bytes.now at }
 {
-    let parse::ReadU8::Got(number) = parse::read_u8(bytes, at) else {
-        return ReadU16::Short;
-    };
-    ReadU16::Got(number as u16)
+    Some(parse::read_u8(bytes, at)? as u16)
 }
 
 // The number of a state's cell for a class, counted over all rows; a class at or above the class count reaches into a later row.
@@ -54,15 +44,15 @@ fn cell_of(classes: u32, state: u16, class: u16) -> usize
 }
 
 // The number of the entry that stands in a cell: 16 bits in an extended table, a byte in a classic one.
-fn entry_number(bytes: &[u8], states: States, state: u16, class: u16) -> ReadU16
+#[tactic(auto, unfolding(crate::specs::Entries::entry_number, crate::specs::Entries::number_in))]
+fn entry_number(bytes: &[u8], states: States, state: u16, class: u16) -> Option<u16>
     ensures { result ≡ entry_number bytes.now states state class }
 {
     let cell = cell_of(states.classes, state, class);
-    let array = states.array;
-    let edition = states.edition;
-    match edition {
-        Edition::Extended { .. } => parse::read_u16(bytes, array as usize + cell * 2),
-        Edition::Classic { .. } => read_narrow(bytes, array as usize + cell),
+    let array = states.array as usize;
+    match states.edition {
+        Edition::Extended { .. } => parse::read_u16(bytes, array + cell * 2),
+        Edition::Classic { .. } => read_narrow(bytes, array + cell),
     }
 }
 
@@ -74,13 +64,12 @@ fn entry_place(entries: u32, number: u16, payload: u16) -> usize
 }
 
 // The entry at a place, where all of it lies in the table.
-fn entry_at(bytes: &[u8], place: usize, payload: u16) -> Entered
+#[tactic(auto, unfolding(crate::specs::Entries::entry_at, parse::specs::Parts::read_part, parse::specs::Reads::inside))]
+fn entry_at(bytes: &[u8], place: usize, payload: u16) -> Option<Entry>
     ensures { result ≡ entry_at bytes.now place payload }
 {
-    let parse::ReadPart::Until(_) = parse::read_part(bytes, place, 4 + payload as usize) else {
-        return Entered::Ended;
-    };
-    Entered::At(Entry {
+    parse::read_part(bytes, place, 4 + payload as usize)?;
+    Some(Entry {
         state: parse::u16_at(bytes, place),
         flags: parse::u16_at(bytes, place + 2),
         payload: place + 4,
@@ -88,45 +77,37 @@ fn entry_at(bytes: &[u8], place: usize, payload: u16) -> Entered
 }
 
 // A classic entry names its new state by the byte offset of its row.
-fn by_row(entry: Entry, array: u32, classes: u32) -> Entered
+#[tactic(auto, unfolding(crate::specs::Entries::by_row))]
+fn by_row(entry: Entry, array: u32, classes: u32) -> Option<Entry>
     ensures { result ≡ by_row entry array classes }
 {
-    let offset = entry.state as u32;
-    if offset < array {
-        return Entered::Ended;
-    }
-    if classes == 0 {
-        return Entered::Ended;
-    }
-    Entered::At(Entry {
-        state: ((offset - array) / classes) as u16,
-        flags: entry.flags,
-        payload: entry.payload,
+    let offset = (entry.state as u32).checked_sub(array)?;
+    let state = offset.checked_div(classes)?;
+    Some(Entry {
+        state: state as u16,
+        ..entry
     })
 }
 
 // The entry with the number of its new state.
-fn resolved(states: States, entry: Entry) -> Entered
+#[tactic(auto, unfolding(crate::specs::Entries::resolved, crate::specs::Entries::resolved_in))]
+fn resolved(states: States, entry: Entry) -> Option<Entry>
     ensures { result ≡ resolved states entry }
 {
-    let edition = states.edition;
-    match edition {
-        Edition::Extended { .. } => Entered::At(entry),
+    match states.edition {
+        Edition::Extended { .. } => Some(entry),
         Edition::Classic { .. } => by_row(entry, states.array, states.classes),
     }
 }
 
 // The entry of a state and a class, where each entry has `payload` bytes of payload: 0, 2 or 4.
-pub fn entry_of(bytes: &[u8], states: States, state: u16, class: u16, payload: u16) -> Entered
+#[tactic(auto, unfolding(crate::specs::Entries::entry_of))]
+pub fn entry_of(bytes: &[u8], states: States, state: u16, class: u16, payload: u16) -> Option<Entry>
     ensures { result ≡ entry_of bytes.now states state class payload }
 {
-    let ReadU16::Got(number) = entry_number(bytes, states, state, class) else {
-        return Entered::Ended;
-    };
+    let number = entry_number(bytes, states, state, class)?;
     let place = entry_place(states.entries, number, payload);
-    let Entered::At(entry) = entry_at(bytes, place, payload) else {
-        return Entered::Ended;
-    };
+    let entry = entry_at(bytes, place, payload)?;
     resolved(states, entry)
 }
 
@@ -149,8 +130,8 @@ pub fn two_numbers(bytes: &[u8], payload: usize) -> Two
     }
 }
 
-// The first cell of the row that a cell is in. One turn is enough; as a loop it is a branch, which is foretold where entries name the first
-// cell, as they should, so that nobody waits for the division.
+// The first cell of the row that a cell is in.
+// kept: one turn is enough, but as an `if` a step took 13 ns and so 5: a loop is a branch, foretold, so that nobody waits for the division
 fn row_of(cell: u32, classes: u32) -> u32
     requires { 0 < classes }
     ensures { result ≡ cell / classes * classes }
@@ -166,36 +147,24 @@ fn row_of(cell: u32, classes: u32) -> u32
 pub fn is_classic(states: States) -> bool
     ensures { result ≡ is_classic states.edition }
 {
-    let edition = states.edition;
-    match edition {
-        Edition::Extended { .. } => false,
-        Edition::Classic { .. } => true,
-    }
+    matches!(states.edition, Edition::Classic { .. })
 }
 
 // The entry of a row and a class, in a classic table whose entries have no payload: what `entry_of` gives for the row's state.
-pub fn reach(bytes: &[u8], states: States, row: u32, class: u16) -> Reached
+#[tactic(auto, unfolding(crate::specs::Rows::reached_in, crate::specs::Rows::row_of))]
+pub fn reach(bytes: &[u8], states: States, row: u32, class: u16) -> Option<Reached>
     ensures { result ≡ reached_in bytes.now states row class }
 {
-    let array = states.array;
-    let classes = states.classes;
     let cell = row as usize + class as usize;
-    let ReadU16::Got(number) = read_narrow(bytes, array as usize + cell) else {
-        return Reached::Ended;
-    };
+    let number = read_narrow(bytes, states.array as usize + cell)?;
     let place = entry_place(states.entries, number, 0);
-    let Entered::At(entry) = entry_at(bytes, place, 0) else {
-        return Reached::Ended;
-    };
-    let begins = entry.state as u32;
-    if begins < array {
-        return Reached::Ended;
+    let entry = entry_at(bytes, place, 0)?;
+    let offset = (entry.state as u32).checked_sub(states.array)?;
+    if states.classes == 0 {
+        return None;
     }
-    if classes == 0 {
-        return Reached::Ended;
-    }
-    Reached::At {
-        row: row_of(begins - array, classes),
+    Some(Reached {
+        row: row_of(offset, states.classes),
         flags: entry.flags,
-    }
+    })
 }

@@ -28,30 +28,16 @@ pub struct States {
     entries: u32,
 }
 
-// What a head gives, where it can be read.
-#[derive(Clone, Copy)]
-pub enum Made {
-    Ready(States),
-    Short,
-}
-
 // The crate's `ExtendedStateTable::new`, with a class table that is read by a reading.
-pub fn extended_by(bytes: &[u8], reading: Reading) -> Made
+#[tactic(auto, unfolding(crate::specs::States::extended_by))]
+pub fn extended_by(bytes: &[u8], reading: Reading) -> Option<States>
     ensures { result ≡ extended_by reading bytes.now }
 {
-    let parse::ReadU32::Got(classes) = parse::read_u32(bytes, 0) else {
-        return Made::Short;
-    };
-    let parse::ReadU32::Got(table) = parse::read_u32(bytes, 4) else {
-        return Made::Short;
-    };
-    let parse::ReadU32::Got(array) = parse::read_u32(bytes, 8) else {
-        return Made::Short;
-    };
-    let parse::ReadU32::Got(entries) = parse::read_u32(bytes, 12) else {
-        return Made::Short;
-    };
-    Made::Ready(States {
+    let classes = parse::read_u32(bytes, 0)?;
+    let table = parse::read_u32(bytes, 4)?;
+    let array = parse::read_u32(bytes, 8)?;
+    let entries = parse::read_u32(bytes, 12)?;
+    Some(States {
         edition: Edition::Extended { table, reading },
         classes,
         array,
@@ -60,42 +46,29 @@ pub fn extended_by(bytes: &[u8], reading: Reading) -> Made
 }
 
 // The same in the crate's reading.
-pub fn extended(bytes: &[u8]) -> Made
+#[tactic(auto, unfolding(crate::specs::States::extended_at))]
+pub fn extended(bytes: &[u8]) -> Option<States>
     ensures { result ≡ extended_at bytes.now }
 {
     extended_by(bytes, Reading::Crate)
 }
 
 // The crate's `StateTable::new`: the class array lies in the table, and the state array does not begin past its end.
-pub fn classic(bytes: &[u8]) -> Made
+#[tactic(auto, unfolding(crate::specs::States::classic_at, parse::specs::Parts::read_part))]
+pub fn classic(bytes: &[u8]) -> Option<States>
     ensures { result ≡ classic_at bytes.now }
 {
-    let parse::ReadU16::Got(classes) = parse::read_u16(bytes, 0) else {
-        return Made::Short;
-    };
-    let parse::ReadU16::Got(table) = parse::read_u16(bytes, 2) else {
-        return Made::Short;
-    };
-    let parse::ReadU16::Got(array) = parse::read_u16(bytes, 4) else {
-        return Made::Short;
-    };
-    let parse::ReadU16::Got(entries) = parse::read_u16(bytes, 6) else {
-        return Made::Short;
-    };
-    let parse::ReadU16::Got(first) = parse::read_u16(bytes, table as usize) else {
-        return Made::Short;
-    };
-    let parse::ReadU16::Got(count) = parse::read_u16(bytes, table as usize + 2) else {
-        return Made::Short;
-    };
-    let parse::ReadPart::Until(_) = parse::read_part(bytes, table as usize + 4, count as usize)
-    else {
-        return Made::Short;
-    };
+    let classes = parse::read_u16(bytes, 0)?;
+    let table = parse::read_u16(bytes, 2)?;
+    let array = parse::read_u16(bytes, 4)?;
+    let entries = parse::read_u16(bytes, 6)?;
+    let first = parse::read_u16(bytes, table as usize)?;
+    let count = parse::read_u16(bytes, table as usize + 2)?;
+    parse::read_part(bytes, table as usize + 4, count as usize)?;
     if bytes.len() < array as usize {
-        return Made::Short;
+        return None;
     }
-    Made::Ready(States {
+    Some(States {
         edition: Edition::Classic {
             place: table as u32 + 4,
             first,

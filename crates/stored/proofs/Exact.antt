@@ -1,4 +1,5 @@
 -- Bytes are accepted exactly when they are a record, and the line that is then read is valid.
+use Rattle.std.specs.Prelude.{Ok}
 use Prim.Native.Nat.{ℕ, ◌<◌, ◌≤◌}
 use mathlib.Core.Path.{◌≡◌, refl, ◌∙◌, sym, ap}
 use mathlib.Core.Bool.{true, false, not}
@@ -10,7 +11,6 @@ use borrow.Author.Tests.{le-ltb, le-leb, leb-true, eqb-true, eq-eqb, not-false}
 use Rattle.answers.proofs.Refusals.{refuse-later, refuse-none, passed_here, passed_later}
 use Rattle.answers.specs.Limits.{table_limit, room_limit}
 use Rattle.answers.specs.Refuse.{refuse, table_test}
-use Rattle.answers.specs.declared.Check.TheVariants.{Passed}
 use Rattle.laws.specs.Lists.{both}
 use Rattle.laws.proofs.Lists.{both_left, both_right, get_d_first}
 use Rattle.line.specs.Line.{Valid, OnceEach}
@@ -19,7 +19,7 @@ use Rattle.line.proofs.Once.{shuffled_once}
 use Rattle.stored.specs.Record.{mark, version_of, size_of}
 use Rattle.stored.specs.Reading.{version_in, length_in, characters_in, glyphs_in, tags_in, homes_in, read_line, Known, Accepted, is_marked, is_known, is_other, is_own, is_record}
 use Rattle.stored.specs.Entries.{record_tests, read_tests}
-use Rattle.stored.proofs.Tests.{length-homes_in}
+use Rattle.stored.proofs.Tests.{length_homes_in}
 use Rattle.stored.proofs.Got.{length-glyphs_in, length-tags_in}
 use Rattle.stored.proofs.Calls.{record_whole, passed_record, passed-paired, passed-limited, passed-within}
 
@@ -110,11 +110,11 @@ module _ (newest : ℕ) (bytes : List ℕ) where
     accepted_short =
         let w = record_whole bytes accepted_record in
         let few = a.legal.enough in
-        omega (arith, w, a.within, few, length-homes_in bytes (length_in bytes) (characters_in bytes))
+        omega (arith, w, a.within, few, length_homes_in bytes (length_in bytes) (characters_in bytes))
 
 -- none of TABLE, VERSION and RECORD is given exactly when the bytes are a record
 pub accepted_exact : (newest : ℕ) (bytes : List ℕ)
-    → (refuse (record_tests newest bytes []) ≡ Passed → Accepted newest bytes) × (Accepted newest bytes → refuse (record_tests newest bytes []) ≡ Passed)
+    → (refuse (record_tests newest bytes []) ≡ Ok tt → Accepted newest bytes) × (Accepted newest bytes → refuse (record_tests newest bytes []) ≡ (Ok tt))
 unfolding record_tests table_test
 accepted_exact newest bytes = (
   λ p.
@@ -136,7 +136,7 @@ same_once n before after is =
     is
 
 -- a line that is read is valid, in any room that is not refused
-pub read_valid : (newest : ℕ) (bytes glyphs tags homes : List ℕ) → refuse (read_tests newest bytes glyphs tags homes) ≡ Passed → Valid (read_line bytes glyphs tags)
+pub read_valid : (newest : ℕ) (bytes glyphs tags homes : List ℕ) → refuse (read_tests newest bytes glyphs tags homes) ≡ Ok tt → Valid (read_line bytes glyphs tags)
 unfolding read_line is_record
 read_valid newest bytes glyphs tags homes p =
     let n : ℕ = length_in bytes in

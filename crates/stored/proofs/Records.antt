@@ -17,7 +17,7 @@ use Rattle.stored.specs.Record.{mark, version_of, longest1, word, joined, place_
 use Rattle.stored.specs.Reading.{version_in, length_in, characters_in, glyphs_in, tags_in, homes_in, AreBytes, read_line, Known, Accepted}
 use Rattle.stored.specs.Entries.{newest_version}
 use Rattle.stored.proofs.Written.{length-places, length-homes, record_size}
-use Rattle.stored.proofs.Tests.{length-homes_in, get_d_homes_in, get_d_tags_in}
+use Rattle.stored.proofs.Tests.{length_homes_in, get_d_homes_in, get_d_tags_in}
 use Rattle.stored.proofs.Got.{length-glyphs_in, get_d_glyphs_in, length-tags_in}
 use Rattle.stored.proofs.Exact.{same_once}
 
@@ -132,9 +132,9 @@ module _ (glyphs tags homes : List ℕ) (used : ℕ) where
 
   homes-back : homes_in whole used (length homes) ≡ homes
   homes-back =
-      ext_get_or 0 (homes_in whole used (length homes)) homes (length-homes_in whole used (length homes))
+      ext_get_or 0 (homes_in whole used (length homes)) homes (length_homes_in whole used (length homes))
       (λ c i.
-      let k : c < length homes = rw (length-homes_in whole used (length homes)) at i in
+      let k : c < length homes = rw (length_homes_in whole used (length homes)) at i in
       get_d_homes_in whole used (length homes) c k ∙ home-back c k)
 
   mark-back : take 3 whole ≡ mark
@@ -263,7 +263,7 @@ module _ (bytes : List ℕ) (small : AreBytes bytes) where
     pub record_read : record_of (read_line bytes glyphs tags) ≡ bytes
     unfolding record_of read_line
     record_read =
-        rw (length-homes_in bytes n c)
+        rw (length_homes_in bytes n c)
         (behind (9 + n * 4) (c * 2)
         (behind 9 (n * 4) head-same (parts4 (place_bytes (glyphs_in bytes n ++ drop n glyphs) (tags_in bytes n ++ drop n tags)) 9 n place_same))
         (parts2 (home_bytes (homes_in bytes n c)) (9 + n * 4) c home_same)

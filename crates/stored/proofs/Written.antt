@@ -82,16 +82,16 @@ pub length-homes : (homes : List ℕ) (count : ℕ) → length (joined (home_byt
 length-homes homes count = length-joined (home_bytes homes) 2 (λ k. refl) count
 
 -- the two loops
-pub place-next : (before glyphs tags : List ℕ) (used : ℕ) {after after' : List ℕ} {p : ℕ} → 9 + used * 4 ≤ length before
+pub place_next : (before glyphs tags : List ℕ) (used : ℕ) {after after' : List ℕ} {p : ℕ} → 9 + used * 4 ≤ length before
     → Filling before 9 (place_bytes glyphs tags) used after p → p < used → after' ≡ put_at (9 + p * 4) (place_bytes glyphs tags p) after
     → Filling before 9 (place_bytes glyphs tags) used after' (p + 1)
-place-next before glyphs tags used {p = p} fits g h w =
+place_next before glyphs tags used {p = p} fits g h w =
     filling_next before 9 (place_bytes glyphs tags) used g h (rw (length-places glyphs tags p)) (omega arith) w
 
-pub home-next : (before : List ℕ) (at : ℕ) (homes : List ℕ) {after after' : List ℕ} {c : ℕ} → at + length homes * 2 ≤ length before
+pub home_next : (before : List ℕ) (at : ℕ) (homes : List ℕ) {after after' : List ℕ} {c : ℕ} → at + length homes * 2 ≤ length before
     → Filling before at (home_bytes homes) (length homes) after c → c < length homes → after' ≡ put_at (at + c * 2) (home_bytes homes c) after
     → Filling before at (home_bytes homes) (length homes) after' (c + 1)
-home-next before at homes {c = c} fits g h w =
+home_next before at homes {c = c} fits g h w =
     filling_next before at (home_bytes homes) (length homes) g h (rw (length-homes homes c)) (omega arith) w
 
 -- glyph and tag of a place

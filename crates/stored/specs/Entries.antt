@@ -1,17 +1,12 @@
 -- What the entries that store and read a line answer and leave.
-use Rattle.std.specs.Prelude.{ℕ, not, List, [], ◌∷◌, ◌++◌, ltb, eqb, length, drop}
+use Rattle.stored.specs.declared.Lengths.{Lengths}
+use Rattle.answers.specs.declared.Refusal.{Refusal}
+use Rattle.std.specs.Prelude.{ℕ, not, List, [], ◌∷◌, ◌++◌, ltb, eqb, length, drop, Result, Ok, Err}
 use Rattle.answers.specs.Limits.{room_limit}
 use Rattle.answers.specs.Refuse.{Test, refuse, table_test}
-use Rattle.answers.specs.declared.Refusal.TheVariants as Refusal
 use Rattle.answers.specs.declared.Answer.{Answer}
-use Rattle.answers.specs.declared.Check.{Check}
-use Rattle.answers.specs.declared.Check.TheVariants.{Passed, Refused}
 use Rattle.line.specs.Line.{Line}
 use Rattle.line.specs.Test.{line_test}
-use Rattle.stored.specs.declared.StoredLine.{StoredLine}
-use Rattle.stored.specs.declared.StoredLine.TheVariants as Stored
-use Rattle.stored.specs.declared.ReadLine.{ReadLine}
-use Rattle.stored.specs.declared.ReadLine.TheVariants as Read
 use Rattle.stored.specs.Record.{record_of}
 use Rattle.stored.specs.Reading.{length_in, characters_in, read_line, is_other, is_record}
 
@@ -24,26 +19,26 @@ store_tests l buffer =
 
 -- the reply of `store_line`, and the buffer that it was lent
 pub record StoreLeft : Type 0 where
-  pub reply : StoredLine
+  pub reply : Result ℕ Refusal
   pub buffer : List ℕ
 
 -- refused: all as it was; passed: the record at the buffer's start, and what is behind it as it was
-unfoldable pub store_by : Check → Line → (buffer : List ℕ) → StoreLeft
-store_by Passed l buffer =
-    record { reply = Stored.Size (length (record_of l)); buffer = record_of l ++ drop (length (record_of l)) buffer }
-store_by (Refused why) l buffer = record { reply = Stored.Refused why; buffer = buffer }
+unfoldable pub store_by : Result Unit Refusal → Line → (buffer : List ℕ) → StoreLeft
+store_by (Ok tt) l buffer =
+    record { reply = Ok (length (record_of l)); buffer = record_of l ++ drop (length (record_of l)) buffer }
+store_by (Err why) l buffer = record { reply = Err why; buffer = buffer }
 
 unfoldable pub store_call : Line → (buffer : List ℕ) → StoreLeft
 store_call l buffer = store_by (refuse (store_tests l buffer)) l buffer
 
 -- the answer of a reply, and the number lent for the size afterwards
-abbrev pub store_answer : StoredLine → Answer
-store_answer (Stored.Size size) = Answer.Done
-store_answer (Stored.Refused why) = Answer.Refused why
+abbrev pub store_answer : Result ℕ Refusal → Answer
+store_answer (Ok size) = Answer.Done
+store_answer (Err why) = Answer.Refused why
 
-abbrev pub store_size : StoredLine → (was : ℕ) → ℕ
-store_size (Stored.Size size) was = size
-store_size (Stored.Refused why) was = was
+abbrev pub store_size : Result ℕ Refusal → (was : ℕ) → ℕ
+store_size (Ok size) was = size
+store_size (Err why) was = was
 
 -- the newest version that the entry knows
 unfoldable pub newest_version : ℕ
@@ -71,36 +66,36 @@ read_tests newest bytes glyphs tags homes = record_tests newest bytes (room_test
 
 -- the reply of `read_line`, and the slices that it was lent
 pub record ReadLeft : Type 0 where
-  pub reply : ReadLine
+  pub reply : Result Lengths Refusal
   pub glyphs : List ℕ
   pub tags : List ℕ
   pub homes : List ℕ
 
 -- refused: all as it was; passed: the line that is read, and what is behind it as it was
-unfoldable pub read_by : Check → (bytes glyphs tags homes : List ℕ) → ReadLeft
-read_by Passed bytes glyphs tags homes =
+unfoldable pub read_by : Result Unit Refusal → (bytes glyphs tags homes : List ℕ) → ReadLeft
+read_by (Ok tt) bytes glyphs tags homes =
     let l : Line = read_line bytes glyphs tags in
     record {
-      reply = Read.Lengths (record { used = l.used; characters = characters_in bytes });
+      reply = Ok (record { used = l.used; characters = characters_in bytes });
       glyphs = l.glyphs;
       tags = l.tags;
       homes = l.homes ++ drop (characters_in bytes) homes;
     }
-read_by (Refused why) bytes glyphs tags homes = record { reply = Read.Refused why; glyphs = glyphs; tags = tags; homes = homes }
+read_by (Err why) bytes glyphs tags homes = record { reply = Err why; glyphs = glyphs; tags = tags; homes = homes }
 
 -- a box that knows the versions to the newest
 unfoldable pub read_call : (newest : ℕ) → (bytes glyphs tags homes : List ℕ) → ReadLeft
 read_call newest bytes glyphs tags homes = read_by (refuse (read_tests newest bytes glyphs tags homes)) bytes glyphs tags homes
 
 -- the answer of a reply, and the numbers lent for the used length and the characters afterwards
-abbrev pub read_answer : ReadLine → Answer
-read_answer (Read.Lengths lengths) = Answer.Done
-read_answer (Read.Refused why) = Answer.Refused why
+abbrev pub read_answer : Result Lengths Refusal → Answer
+read_answer (Ok lengths) = Answer.Done
+read_answer (Err why) = Answer.Refused why
 
-abbrev pub read_used : ReadLine → (was : ℕ) → ℕ
-read_used (Read.Lengths lengths) was = lengths.used
-read_used (Read.Refused why) was = was
+abbrev pub read_used : Result Lengths Refusal → (was : ℕ) → ℕ
+read_used (Ok lengths) was = lengths.used
+read_used (Err why) was = was
 
-abbrev pub read_characters : ReadLine → (was : ℕ) → ℕ
-read_characters (Read.Lengths lengths) was = lengths.characters
-read_characters (Read.Refused why) was = was
+abbrev pub read_characters : Result Lengths Refusal → (was : ℕ) → ℕ
+read_characters (Ok lengths) was = lengths.characters
+read_characters (Err why) was = was

@@ -1,4 +1,6 @@
 -- More bytes behind a table change nothing for a search or a lookup that was not cut short without them.
+use Rattle.std.specs.Prelude.{Option, Some, Result, Ok, Err, None}
+use Rattle.tables.specs.declared.lookup.Why.{Why}
 use Prim.Native.Nat.{ℕ, zero, suc, ◌+◌, ◌-◌, ◌*◌, ◌<◌, ◌≤◌}
 use mathlib.Core.Path.{◌≡◌, refl, sym, ◌∙◌}
 use mathlib.Core.List.{List}
@@ -9,10 +11,6 @@ use Rattle.laws.specs.Choose.{if_lt, if_eq}
 use Rattle.laws.proofs.Numbers.{lt-or-ge}
 use Rattle.parse.specs.Reads.{read_u8, read_u16}
 use Rattle.parse.specs.Use.{on_u16}
-use Rattle.parse.specs.declared.ReadU8.{ReadU8}
-use Rattle.parse.specs.declared.ReadU8.TheVariants as U8
-use Rattle.parse.specs.declared.ReadU16.{ReadU16}
-use Rattle.parse.specs.declared.ReadU16.TheVariants as U16
 use Rattle.parse.proofs.Behind.{Begins, Stays, choice_stays, read_u8_stays, read_u16_stays, on_u16_stays, on_u32_stays}
 use Rattle.tables.specs.Records.{record_place, pair_place, format_of}
 use Rattle.tables.specs.Search.{against, side_of_range, side_of_array, side_of_single, side_of_pair, side_of_record, side_of, find, searched}
@@ -29,12 +27,10 @@ use Rattle.tables.specs.declared.records.Side.TheVariants as Side'
 use Rattle.tables.specs.declared.records.Spot.{Spot}
 use Rattle.tables.specs.declared.records.Spot.TheVariants as Spot'
 use Rattle.tables.specs.declared.lookup.Why.TheVariants.{NotCovered, CutShort, UnknownFormat}
-use Rattle.tables.specs.declared.lookup.Found.{Found}
-use Rattle.tables.specs.declared.lookup.Found.TheVariants.{At, Nothing}
 use Rattle.tables.specs.declared.units.Reading.{Reading}
 use Rattle.tables.specs.declared.units.Reading.TheVariants.{Crate, Manual}
 use Rattle.tables.specs.declared.units.Units.{Units}
-use Rattle.tables.specs.declared.units.Units.TheVariants.{Words, Bytes, None}
+use Rattle.tables.specs.declared.units.Units.TheVariants.{Words, Bytes}
 use Rattle.tables.proofs.Halving.{middle, find-left, find_right, find-here, find-cut, find-done}
 
 find_none : (side : ℕ → Side) (lo hi : ℕ) → find side 0 lo hi ≡ Spot'.Absent
@@ -101,12 +97,12 @@ module _ {own whole : List ℕ} (b : Begins own whole) where
   unfolding searched
   search_stays base keys count key = find_stays (side_of own base keys key) (side_of whole base keys key) (side_stays base keys key) count 0 count
 
-  abbrev Finds : (own whole : Found) → Type 0
-  Finds own whole = Stays (Nothing CutShort) own whole
+  abbrev Finds : (own whole : Result ℕ Why) → Type 0
+  Finds own whole = Stays (Err CutShort) own whole
 
   element_stays : (place : ℕ) → Finds (element_at own place) (element_at whole place)
   unfolding element_at
-  element_stays place = on_u16_stays b place _ _ (λ n. same_stays (Nothing CutShort) (At n))
+  element_stays place = on_u16_stays b place _ _ (λ n. same_stays (Err CutShort) (Ok n))
 
   record_stays : (kind : Kind) (place glyph : ℕ) → Finds (element_of own kind place glyph) (element_of whole kind place glyph)
   unfolding element_of
@@ -131,52 +127,52 @@ module _ {own whole : List ℕ} (b : Begins own whole) where
   trimmed_stays head glyph =
       on_u16_stays b head _ _
       (λ first. on_u16_stays b (head + 2) _ _
-      (λ count. choice_stays (ltb glyph first) (same_stays (Nothing CutShort) (Nothing NotCovered))
-      (choice_stays (ltb (glyph - first) count) (element_stays (head + 4 + (glyph - first) * 2)) (same_stays (Nothing CutShort) (Nothing NotCovered)))))
+      (λ count. choice_stays (ltb glyph first) (same_stays (Err CutShort) (Err NotCovered))
+      (choice_stays (ltb (glyph - first) count) (element_stays (head + 4 + (glyph - first) * 2)) (same_stays (Err CutShort) (Err NotCovered)))))
 
   format_stays : (format : Format) (glyph : ℕ) → Finds (in_format own format glyph) (in_format whole format glyph)
   unfolding in_format
   format_stays Simple glyph = element_stays (2 + glyph * 2)
   format_stays (Records kind) glyph = records_stay kind glyph
   format_stays (Trimmed head) glyph = trimmed_stays head glyph
-  format_stays Unknown glyph = same_stays (Nothing CutShort) (Nothing UnknownFormat)
+  format_stays Unknown glyph = same_stays (Err CutShort) (Err UnknownFormat)
 
   words_stay : (glyph : ℕ) → Finds (lookup_at own glyph) (lookup_at whole glyph)
   unfolding lookup_at
   words_stay glyph = on_u16_stays b 0 _ _ (λ number. format_stays (format_of number) glyph)
 
   -- the elements of format 10 in the manual's reading
-  bytes_stay : Stays (None CutShort) (byte_units own) (byte_units whole)
+  bytes_stay : Stays (Err CutShort) (byte_units own) (byte_units whole)
   unfolding byte_units
-  bytes_stay = on_u16_stays b 4 _ _ (λ first. on_u16_stays b 6 _ _ (λ count. same_stays (None CutShort) (Bytes first count)))
+  bytes_stay = on_u16_stays b 4 _ _ (λ first. on_u16_stays b 6 _ _ (λ count. same_stays (Err CutShort) (Ok (Bytes first count))))
 
-  sizes_stay : Stays (None CutShort) (sized_units own) (sized_units whole)
+  sizes_stay : Stays (Err CutShort) (sized_units own) (sized_units whole)
   unfolding sized_units
   sizes_stay =
       on_u16_stays b 2 _ _
-      (λ size. choice_stays (eqb size 1) bytes_stay (choice_stays (eqb size 2) (same_stays (None CutShort) Words) (same_stays (None CutShort) (None UnknownFormat))))
+      (λ size. choice_stays (eqb size 1) bytes_stay (choice_stays (eqb size 2) (same_stays (Err CutShort) (Ok Words)) (same_stays (Err CutShort) (Err UnknownFormat))))
 
   byte_stays : (place : ℕ) → Finds (byte_at own place) (byte_at whole place)
   unfolding byte_at
   byte_stays place = go (read_u8 own place) (read_u8_stays b place)
     where
-      go : (r : ReadU8) → Stays U8.Short r (read_u8 whole place) → Finds (byte_found r) (byte_found (read_u8 whole place))
-      go (U8.Got n) e not = rw (e (λ p. let z : ◌≡◌ {A = ℕ} 0 1 = cc in omega arith))
-      go U8.Short e not = absurd (not refl)
+      go : (r : Option ℕ) → Stays None r (read_u8 whole place) → Finds (byte_found r) (byte_found (read_u8 whole place))
+      go (Some n) e not = rw (e (λ p. let z : ◌≡◌ {A = ℕ} 0 1 = cc in omega arith))
+      go None e not = absurd (not refl)
 
-  units_stay : (units units' : Units) (glyph : ℕ) → Stays (None CutShort) units units' → Finds (in_units own units glyph) (in_units whole units' glyph)
+  units_stay : (units units' : Result Units Why) (glyph : ℕ) → Stays (Err CutShort) units units' → Finds (in_units own units glyph) (in_units whole units' glyph)
   unfolding in_units
-  units_stay Words units' glyph e not = rw (e (λ p. let z : ◌≡◌ {A = ℕ} 0 1 = cc in omega arith)) (words_stay glyph not)
-  units_stay (Bytes first count) units' glyph e not =
+  units_stay (Ok Words) units' glyph e not = rw (e (λ p. let z : ◌≡◌ {A = ℕ} 0 1 = cc in omega arith)) (words_stay glyph not)
+  units_stay (Ok (Bytes first count)) units' glyph e not =
       rw (e (λ p. let z : ◌≡◌ {A = ℕ} 0 1 = cc in omega arith))
-      (choice_stays (ltb glyph first) (same_stays (Nothing CutShort) (Nothing NotCovered))
-      (choice_stays (ltb (glyph - first) count) (byte_stays (8 + (glyph - first))) (same_stays (Nothing CutShort) (Nothing NotCovered))) not)
-  units_stay (None CutShort) units' glyph e not = absurd (not refl)
-  units_stay (None NotCovered) units' glyph e not = rw (e (λ p. let z : ◌≡◌ {A = ℕ} 0 1 = cc in omega arith))
-  units_stay (None UnknownFormat) units' glyph e not = rw (e (λ p. let z : ◌≡◌ {A = ℕ} 0 1 = cc in omega arith))
+      (choice_stays (ltb glyph first) (same_stays (Err CutShort) (Err NotCovered))
+      (choice_stays (ltb (glyph - first) count) (byte_stays (8 + (glyph - first))) (same_stays (Err CutShort) (Err NotCovered))) not)
+  units_stay (Err CutShort) units' glyph e not = absurd (not refl)
+  units_stay (Err NotCovered) units' glyph e not = rw (e (λ p. let z : ◌≡◌ {A = ℕ} 0 1 = cc in omega arith))
+  units_stay (Err UnknownFormat) units' glyph e not = rw (e (λ p. let z : ◌≡◌ {A = ℕ} 0 1 = cc in omega arith))
 
   -- a lookup by either reading
-  lookup-cut : (glyph : ℕ) → read_u16 own 0 ≡ U16.Short → lookup_at own glyph ≡ Nothing CutShort
+  lookup-cut : (glyph : ℕ) → read_u16 own 0 ≡ None → lookup_at own glyph ≡ Err CutShort
   unfolding lookup_at
   lookup-cut glyph e = rw e
 
@@ -184,16 +180,16 @@ module _ {own whole : List ℕ} (b : Begins own whole) where
   unfolding lookup_by units_by in_units
   manual_stays glyph = go (read_u16 own 0) refl (read_u16_stays b 0)
     where
-      by_format : ReadU16 → List ℕ → Units
-      by_format r bytes = on_u16 r (λ format. if_eq format 10 (sized_units bytes) Words) Words
+      by_format : Option ℕ → List ℕ → Result Units Why
+      by_format r bytes = on_u16 r (λ format. if_eq format 10 (sized_units bytes) (Ok Words)) (Ok Words)
 
-      go : (r : ReadU16) → read_u16 own 0 ≡ r → Stays U16.Short r (read_u16 whole 0) → Finds (in_units own (by_format r own) glyph) (in_units whole (by_format (read_u16 whole 0) whole) glyph)
-      go (U16.Got format) q e not =
+      go : (r : Option ℕ) → read_u16 own 0 ≡ r → Stays None r (read_u16 whole 0) → Finds (in_units own (by_format r own) glyph) (in_units whole (by_format (read_u16 whole 0) whole) glyph)
+      go (Some format) q e not =
           rw (e (λ p. let z : ◌≡◌ {A = ℕ} 0 1 = cc in omega arith))
-          (units_stay _ _ glyph (choice_stays (eqb format 10) sizes_stay (same_stays (None CutShort) Words)) not)
-      go U16.Short q e not = absurd (not (lookup-cut glyph q))
+          (units_stay _ _ glyph (choice_stays (eqb format 10) sizes_stay (same_stays (Err CutShort) (Ok Words))) not)
+      go None q e not = absurd (not (lookup-cut glyph q))
 
-  pub lookup_stays : (reading : Reading) (glyph : ℕ) → Stays (Nothing CutShort) (lookup_by reading own glyph) (lookup_by reading whole glyph)
+  pub lookup_stays : (reading : Reading) (glyph : ℕ) → Stays (Err CutShort) (lookup_by reading own glyph) (lookup_by reading whole glyph)
   unfolding lookup_by units_by in_units
   lookup_stays Crate glyph = words_stay glyph
   lookup_stays Manual glyph = manual_stays glyph

@@ -36,16 +36,15 @@ find-done side zero lo hi h = refl
 find-done side (suc turns) lo hi h = rw (le-ltb lo hi h, find)
 
 -- between lo and hi the search goes on, with enough turns left, and gives what the whole gives
-pub record Going (side : ℕ → Side) (count : ℕ) (whole : Spot) (lo hi : ℕ) : Type 0 where
+pub record Going (side : ℕ → Side) (whole : Spot) (lo hi : ℕ) : Type 0 where
   pub turns : ℕ
   pub enough : hi ≤ lo + turns
-  pub within : hi ≤ count
   pub same : find side turns lo hi ≡ whole
 
-pub going_start : (side : ℕ → Side) (count : ℕ) → Going side count (find side count 0 count) 0 count
-going_start side count = record { turns = count; enough = omega arith; within = omega arith; same = refl }
+pub going_start : (side : ℕ → Side) (count : ℕ) → Going side (find side count 0 count) 0 count
+going_start side count = record { turns = count; enough = omega arith; same = refl }
 
-module _ {side : ℕ → Side} {count lo hi : ℕ} {whole : Spot} (g : Going side count whole lo hi) where
+module _ {side : ℕ → Side} {lo hi : ℕ} {whole : Spot} (g : Going side whole lo hi) where
   -- a turn is left where lo is below hi
   one_more : lo < hi → (n : ℕ) × (g.turns ≡ suc n)
   one_more h = go g.turns refl
@@ -57,23 +56,21 @@ module _ {side : ℕ → Side} {count lo hi : ℕ} {whole : Spot} (g : Going sid
   turned : (n : ℕ) → g.turns ≡ suc n → find side (suc n) lo hi ≡ whole
   turned n e = rw e at g.same
 
-  pub going_left : lo < hi → side (middle lo hi) ≡ Left → Going side count whole lo (middle lo hi)
+  pub going_left : lo < hi → side (middle lo hi) ≡ Left → Going side whole lo (middle lo hi)
   going_left h s =
       let (n, e) = one_more h in
       record {
         turns = n;
         enough = omega (arith, g.enough);
-        within = omega (arith, g.within);
         same = sym (find-left side n lo hi h s) ∙ turned n e;
       }
 
-  pub going_right : lo < hi → side (middle lo hi) ≡ Right → Going side count whole (middle lo hi + 1) hi
+  pub going_right : lo < hi → side (middle lo hi) ≡ Right → Going side whole (middle lo hi + 1) hi
   going_right h s =
       let (n, e) = one_more h in
       record {
         turns = n;
         enough = omega (arith, g.enough);
-        within = g.within;
         same = sym (find_right side n lo hi h s) ∙ turned n e;
       }
 

@@ -1,4 +1,5 @@
 -- The element that a lookup reads is the manual's, in all six formats.
+use Rattle.std.specs.Prelude.{Option, Some, None, Ok, Err}
 use Prim.Native.Nat.{ℕ, ◌+◌, ◌-◌, ◌*◌, ◌<◌, ◌≤◌}
 use mathlib.Core.Path.{◌≡◌, refl, sym, ◌∙◌, ap, subst, subst⁻¹}
 use mathlib.Core.List.{List}
@@ -8,8 +9,6 @@ use lib.ListN.{length}
 use borrow.Author.Tests.{lt-ltb, le-ltb}
 use Rattle.laws.proofs.Numbers.{lt-or-ge}
 use Rattle.parse.specs.Reads.{u16_at, read_u16}
-use Rattle.parse.specs.declared.ReadU16.{ReadU16}
-use Rattle.parse.specs.declared.ReadU16.TheVariants.{Got, Short}
 use Rattle.parse.proofs.Laws.{read_u16_got, read_u16-short}
 use Rattle.tables.specs.Records.{stride_of, record_place, first_at, last_at, format_of}
 use Rattle.tables.specs.Search.{searched}
@@ -23,26 +22,25 @@ use Rattle.tables.specs.declared.records.Kind.{Kind}
 use Rattle.tables.specs.declared.records.Kind.TheVariants.{Ranges, Arrays, Singles}
 use Rattle.tables.specs.declared.records.Spot.{Spot}
 use Rattle.tables.specs.declared.records.Spot.TheVariants as Spot'
-use Rattle.tables.specs.declared.survey.Surveyed.TheVariants.{Sorted, Nothing as Nothing'}
+use Rattle.tables.specs.declared.survey.Surveyed.TheVariants.{Sorted, Nothing}
 use Rattle.tables.specs.declared.lookup.Why.{Why}
 use Rattle.tables.specs.declared.lookup.Why.TheVariants.{NotCovered, CutShort}
-use Rattle.tables.specs.declared.lookup.Found.TheVariants.{At, Nothing}
 use Rattle.tables.proofs.Surveys.{same_size, says_in}
 use Rattle.tables.proofs.Finding.{search_finds}
 
 -- an element is there exactly when its two bytes are
-element_there : (bytes : List ℕ) (place : ℕ) → place + 2 ≤ length bytes → element_at bytes place ≡ At (u16_at bytes place)
+element_there : (bytes : List ℕ) (place : ℕ) → place + 2 ≤ length bytes → element_at bytes place ≡ Ok (u16_at bytes place)
 unfolding element_at
 element_there bytes place h = rw (read_u16_got bytes place h, element_at)
 
-element_found : (bytes : List ℕ) (place element : ℕ) → element_at bytes place ≡ At element
+element_found : (bytes : List ℕ) (place element : ℕ) → element_at bytes place ≡ Ok element
     → (place + 2 ≤ length bytes) × (element ≡ u16_at bytes place)
 unfolding element_at
 element_found bytes place element e =
     ⊎_elim
     (λ (h : length bytes < place + 2).
     let s = read_u16-short bytes place h in
-    let n : Nothing CutShort ≡ At element = sym (rw (s, element_at)) ∙ e in
+    let n : Err CutShort ≡ Ok element = sym (rw (s, element_at)) ∙ e in
     let z : ◌≡◌ {A = ℕ} 0 1 = cc in absurd (omega arith))
     (λ (h : place + 2 ≤ length bytes). let t = element_there bytes place h in (h, cc))
     (lt-or-ge (length bytes) (place + 2))
@@ -58,11 +56,11 @@ module _ (bytes : List ℕ) (glyphs glyph : ℕ) (layout : Layout) where
             (at, lies, h, v);
         there = λ place l h.
             let p = only place l in
-            e ∙ subst (λ (n : ℕ). element_at bytes n ≡ At (u16_at bytes place)) p (element_there bytes place h);
+            e ∙ subst (λ (n : ℕ). element_at bytes n ≡ Ok (u16_at bytes place)) p (element_there bytes place h);
       }
 
   -- the lookup finds nothing, and no element lies in the table
-  no_place : (why : Why) → lookup_at bytes glyph ≡ Nothing why
+  no_place : (why : Why) → lookup_at bytes glyph ≡ Err why
       → ((place : ℕ) → Lies bytes glyphs glyph layout place → place + 2 ≤ length bytes → ⊥) → AsManual bytes glyphs glyph layout
   no_place why e none =
       record {
@@ -71,7 +69,7 @@ module _ (bytes : List ℕ) (glyphs glyph : ℕ) (layout : Layout) where
       }
 
 -- format 0
-simple_as_manual : (bytes : List ℕ) (glyphs glyph : ℕ) → read_u16 bytes 0 ≡ Got 0 → glyph < glyphs → AsManual bytes glyphs glyph simple_array
+simple_as_manual : (bytes : List ℕ) (glyphs glyph : ℕ) → read_u16 bytes 0 ≡ Some 0 → glyph < glyphs → AsManual bytes glyphs glyph simple_array
 unfolding lookup_at in_format format_of Lies
 simple_as_manual bytes glyphs glyph e h =
     one_place bytes glyphs glyph simple_array (2 + glyph * 2) (rw (e, lookup_at)) (h, refl) (λ place l. l.1)
@@ -113,18 +111,18 @@ module _ (bytes : List ℕ) (glyphs glyph head : ℕ) (layout : Layout) where
       (lt-or-ge glyph (u16_at bytes head)))
       (lt-or-ge (length bytes) (head + 4))
     where
-      got : head + 4 ≤ length bytes → read_u16 bytes head ≡ Got (u16_at bytes head)
+      got : head + 4 ≤ length bytes → read_u16 bytes head ≡ Some (u16_at bytes head)
       got h = read_u16_got bytes head (omega arith)
 
-      got2 : head + 4 ≤ length bytes → read_u16 bytes (head + 2) ≡ Got (u16_at bytes (head + 2))
+      got2 : head + 4 ≤ length bytes → read_u16 bytes (head + 2) ≡ Some (u16_at bytes (head + 2))
       got2 h = read_u16_got bytes (head + 2) (omega arith)
 
-      short : length bytes < head + 4 → trimmed_at bytes head glyph ≡ Nothing CutShort
+      short : length bytes < head + 4 → trimmed_at bytes head glyph ≡ Err CutShort
       short h = go (read_u16 bytes head) refl
         where
-          go : (r : ReadU16) → read_u16 bytes head ≡ r → trimmed_at bytes head glyph ≡ Nothing CutShort
-          go Short f = rw (f, trimmed_at)
-          go (Got n) f = rw (f, read_u16-short bytes (head + 2) (omega arith), trimmed_at)
+          go : (r : Option ℕ) → read_u16 bytes head ≡ r → trimmed_at bytes head glyph ≡ Err CutShort
+          go None f = rw (f, trimmed_at)
+          go (Some n) f = rw (f, read_u16-short bytes (head + 2) (omega arith), trimmed_at)
 
 -- formats 2, 4 and 6: the manual's units are the crate's records
 kind_of : Units → Kind
@@ -187,7 +185,7 @@ element_of_lem bytes segment_arrays glyph i g =
     )
 
 module _ (bytes : List ℕ) (glyphs glyph : ℕ) (u : Units) (e : lookup_at bytes glyph ≡ in_records bytes (kind_of u) glyph)
-    (sizes : unit_size bytes ≡ stride_of (kind_of u)) (small : glyph < 65535) (count : read_u16 bytes 4 ≡ Got (unit_count bytes))
+    (sizes : unit_size bytes ≡ stride_of (kind_of u)) (small : glyph < 65535) (count : read_u16 bytes 4 ≡ Some (unit_count bytes))
     (all : InOrder bytes (kind_of u) (unit_count bytes)) where
   abbrev kind : Kind
   kind = kind_of u
@@ -220,33 +218,33 @@ module _ (bytes : List ℕ) (glyphs glyph : ℕ) (u : Units) (e : lookup_at byte
 
 -- a survey that passes has read the count, found the unit size that the records have, and all of them in order
 pub passed : (bytes : List ℕ) (kind : Kind) → survey_in bytes (Records kind) ≡ Sorted
-    → (read_u16 bytes 4 ≡ Got (unit_count bytes)) × (unit_size bytes ≡ stride_of kind) × InOrder bytes kind (unit_count bytes)
+    → (read_u16 bytes 4 ≡ Some (unit_count bytes)) × (unit_size bytes ≡ stride_of kind) × InOrder bytes kind (unit_count bytes)
 unfolding survey_in
 passed bytes kind e =
     ⊎_elim
     (λ (h : length bytes < 6).
     let s = read_u16-short bytes 4 (omega arith) in
-    let n : survey_in bytes (Records kind) ≡ Nothing' = rw (s, survey_in) in
+    let n : survey_in bytes (Records kind) ≡ Nothing = rw (s, survey_in) in
     let z : ◌≡◌ {A = ℕ} 0 1 = cc in absurd (omega arith))
     (λ (h : 6 ≤ length bytes).
     let p = subst (Says bytes kind) e (says_in bytes kind h) in
     (read_u16_got bytes 4 (omega arith), p.0 ∙ sym (same_size kind), p.1))
     (lt-or-ge (length bytes) 6)
 
-survey_of : (bytes : List ℕ) (u : Units) → read_u16 bytes 0 ≡ Got (format_number (units u)) → survey_at bytes ≡ survey_in bytes (Records (kind_of u))
+survey_of : (bytes : List ℕ) (u : Units) → read_u16 bytes 0 ≡ Some (format_number (units u)) → survey_at bytes ≡ survey_in bytes (Records (kind_of u))
 unfolding kind_of survey_at format_of
 survey_of bytes segments e = rw (e, survey_at)
 survey_of bytes segment_arrays e = rw (e, survey_at)
 survey_of bytes singles e = rw (e, survey_at)
 
-records_of_lem : (bytes : List ℕ) (u : Units) (glyph : ℕ) → read_u16 bytes 0 ≡ Got (format_number (units u)) → lookup_at bytes glyph ≡ in_records bytes (kind_of u) glyph
+records_of_lem : (bytes : List ℕ) (u : Units) (glyph : ℕ) → read_u16 bytes 0 ≡ Some (format_number (units u)) → lookup_at bytes glyph ≡ in_records bytes (kind_of u) glyph
 unfolding kind_of lookup_at in_format format_of
 records_of_lem bytes segments glyph e = rw (e, lookup_at)
 records_of_lem bytes segment_arrays glyph e = rw (e, lookup_at)
 records_of_lem bytes singles glyph e = rw (e, lookup_at)
 
 -- in every format, where crate and manual read alike
-pub lookup_as_manual : (layout : Layout) (bytes : List ℕ) (glyphs glyph : ℕ) → read_u16 bytes 0 ≡ Got (format_number layout)
+pub lookup_as_manual : (layout : Layout) (bytes : List ℕ) (glyphs glyph : ℕ) → read_u16 bytes 0 ≡ Some (format_number layout)
     → Alike bytes glyphs glyph layout → AsManual bytes glyphs glyph layout
 unfolding Alike Lies lookup_at in_format format_of
 lookup_as_manual simple_array bytes glyphs glyph e a = simple_as_manual bytes glyphs glyph e a

@@ -1,4 +1,5 @@
 -- The loop of the survey, and what makes a record bad.
+use Rattle.std.specs.Prelude.{Option, Some, None}
 use Prim.Native.Nat.{ℕ, zero, suc, ◌+◌, ◌<◌, ◌≤◌}
 use mathlib.Core.Path.{◌≡◌, refl, sym, ◌∙◌, ap}
 use mathlib.Core.Bool.{Bool, true, false}
@@ -6,19 +7,15 @@ use mathlib.Core.List.{List}
 use native.Mathlib.Numerals.{add-one}
 use native.Mathlib.Omega.{arith}
 use lib.Dec.{leb}
-use borrow.Author.Tests.{le-leb, lt-leb, eq-eqb, ne_eqb}
+use borrow.Author.Tests.{le-leb, lt-leb}
 use Rattle.laws.specs.Lists.{both}
-use Rattle.parse.specs.Reads.{inside, u16_at, read_u16}
-use Rattle.parse.specs.declared.ReadU16.{ReadU16}
-use Rattle.parse.specs.declared.ReadU16.TheVariants.{Got, Short}
+use Rattle.parse.specs.Reads.{inside}
 use Rattle.tables.specs.Records.{stride_of, record_place, last_at}
-use Rattle.tables.specs.Survey.{record_in, record_at, floor_of, in_order, scan, scanned, survey_in}
-use Rattle.tables.specs.declared.records.Format.TheVariants.{Records}
+use Rattle.tables.specs.Survey.{record_in, record_at, floor_of, in_order, scan, scanned}
 use Rattle.tables.specs.declared.records.Kind.{Kind}
 use Rattle.tables.specs.declared.survey.Record.{Record}
-use Rattle.tables.specs.declared.survey.Record.TheVariants.{Whole, Cut}
 use Rattle.tables.specs.declared.survey.Surveyed.{Surveyed}
-use Rattle.tables.specs.declared.survey.Surveyed.TheVariants.{Sorted, Bad, UnitSize, Nothing}
+use Rattle.tables.specs.declared.survey.Surveyed.TheVariants.{Sorted, Bad}
 
 -- what is left to scan gives what the whole scan gives
 pub record Scanning (good : ℕ → Bool) (count : ℕ) (whole : Surveyed) (i : ℕ) : Type 0 where
@@ -67,12 +64,12 @@ module _ {good : ℕ → Bool} {count i : ℕ} {whole : Surveyed} (s : Scanning 
   pub scan-done : count ≤ i → Sorted ≡ whole
   scan-done h = sym (scan-none good i) ∙ at_last 0 (omega (arith, s.exactly))
 
--- a whole record has the numbers that stand there
-pub whole-last : (bytes : List ℕ) (kind : Kind) (place first last : ℕ) → record_in bytes kind place ≡ Whole first last → last ≡ last_at bytes place
+-- a record that was read has the last glyph that stands there
+whole-last : (bytes : List ℕ) (kind : Kind) (place : ℕ) {r : Record} → record_in bytes kind place ≡ Some r → r.last ≡ last_at bytes place
 unfolding record_in
-whole-last bytes kind place first last e = go (inside bytes place (stride_of kind)) refl
+whole-last bytes kind place {r} e = go (inside bytes place (stride_of kind)) refl
   where
-    go : (t : Bool) → inside bytes place (stride_of kind) ≡ t → last ≡ last_at bytes place
+    go : (t : Bool) → inside bytes place (stride_of kind) ≡ t → r.last ≡ last_at bytes place
     go true i = cc
     go false i = cc
 
@@ -80,56 +77,37 @@ whole-last bytes kind place first last e = go (inside bytes place (stride_of kin
 pub record Surveying (bytes : List ℕ) (kind : Kind) (count floor i : ℕ) : Type 0 where
   pub scanning : Scanning (in_order bytes kind) count (scanned bytes kind count) i
   pub at_floor : floor ≡ floor_of bytes kind i
-  pub within : i ≤ count
 
 pub surveying_start : (bytes : List ℕ) (kind : Kind) (count : ℕ) → Surveying bytes kind count 0 0
 unfolding scanned floor_of
-surveying_start bytes kind count =
-    record { scanning = scan-start (in_order bytes kind) count; at_floor = refl; within = omega arith }
+surveying_start bytes kind count = record { scanning = scan-start (in_order bytes kind) count; at_floor = refl }
 
 both_false : (t : Bool) → both t false ≡ false
 both_false true = refl
 both_false false = refl
 
-module _ {bytes : List ℕ} {kind : Kind} {count floor i : ℕ} (s : Surveying bytes kind count floor i) (h : i < count) {r : Record} where
-  pub bad-cut : r ≡ record_at bytes kind i → r ≡ Cut → Bad i ≡ scanned bytes kind count
+module _ {bytes : List ℕ} {kind : Kind} {count floor i : ℕ} (s : Surveying bytes kind count floor i) (h : i < count) {o : Option Record} (e : o ≡ record_at bytes kind i) where
+  pub bad_cut : o ≡ None → Bad i ≡ scanned bytes kind count
   unfolding in_order
-  bad-cut e f = scan-bad s.scanning h (rw (sym e ∙ f, in_order))
+  bad_cut f = scan-bad s.scanning h (rw (sym e ∙ f, in_order))
 
-  module _ {first last : ℕ} (e : r ≡ record_at bytes kind i) (f : r ≡ Whole first last) where
-    pub bad_low : first < floor → Bad i ≡ scanned bytes kind count
+  module _ {r : Record} (f : o ≡ Some r) where
+    pub bad_low : r.first < floor → Bad i ≡ scanned bytes kind count
     unfolding in_order
-    bad_low k = scan-bad s.scanning h (rw (sym e ∙ f, ← s.at_floor, lt-leb floor first k, in_order))
+    bad_low k = scan-bad s.scanning h (rw (sym e ∙ f, ← s.at_floor, lt-leb floor r.first k, in_order))
 
-    pub bad-turned : last < first → Bad i ≡ scanned bytes kind count
+    pub bad_turned : r.last < r.first → Bad i ≡ scanned bytes kind count
     unfolding in_order
-    bad-turned k = scan-bad s.scanning h (rw (sym e ∙ f, lt-leb first last k, in_order) (both_false (leb (floor_of bytes kind i) first)))
+    bad_turned k = scan-bad s.scanning h (rw (sym e ∙ f, lt-leb r.first r.last k, in_order) (both_false (leb (floor_of bytes kind i) r.first)))
 
-    pub surveying_next : floor ≤ first → first ≤ last → Surveying bytes kind count (last + 1) (i + 1)
+    pub surveying_next : floor ≤ r.first → r.first ≤ r.last → Surveying bytes kind count (r.last + 1) (i + 1)
     unfolding in_order floor_of record_at
     surveying_next k l =
         record {
-          scanning = scan-next s.scanning h (rw (sym e ∙ f, ← s.at_floor, le-leb floor first k, le-leb first last l, in_order));
-          at_floor =
-              rw (add-one i, add-one last) (ap suc (whole-last bytes kind (record_place 12 kind i) first last (sym e ∙ f)));
-          within = omega arith;
+          scanning = scan-next s.scanning h (rw (sym e ∙ f, ← s.at_floor, le-leb floor r.first k, le-leb r.first r.last l, in_order));
+          at_floor = rw (add-one i, add-one r.last) (ap suc (whole-last bytes kind (record_place 12 kind i) (sym e ∙ f)));
         }
 
 pub surveying_done : {bytes : List ℕ} {kind : Kind} {count floor i : ℕ} → Surveying bytes kind count floor i → count ≤ i
     → Sorted ≡ scanned bytes kind count
 surveying_done s h = scan-done s.scanning h
-
--- the survey by the count and the unit size that were read
-module _ (bytes : List ℕ) (kind : Kind) {read : ReadU16} (e : read ≡ read_u16 bytes 4) where
-  pub survey_uncounted : read ≡ Short → Nothing ≡ survey_in bytes (Records kind)
-  unfolding survey_in
-  survey_uncounted f = rw (sym e ∙ f, survey_in)
-
-  module _ {count size stride : ℕ} (f : read ≡ Got count) (g : size ≡ u16_at bytes 2) (h : stride ≡ stride_of kind) where
-    pub survey_other_size : (size ≡ stride → ⊥) → UnitSize size ≡ survey_in bytes (Records kind)
-    unfolding survey_in
-    survey_other_size n = rw (sym e ∙ f, ← g, ← h, ne_eqb size stride n, survey_in)
-
-    pub survey_counted : {s : Surveyed} → size ≡ stride → s ≡ scanned bytes kind count → s ≡ survey_in bytes (Records kind)
-    unfolding survey_in
-    survey_counted n k = k ∙ rw (sym e ∙ f, ← g, ← h, eq-eqb size stride n, survey_in)

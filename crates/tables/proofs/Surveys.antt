@@ -1,4 +1,5 @@
 -- The survey says "sorted" exactly when the records have the stated size and are in order, and else names that size or the first that is not.
+use Rattle.std.specs.Prelude.{Some, None}
 use Prim.Native.Nat.{ℕ, zero, suc, ◌+◌, ◌<◌, ◌≤◌}
 use mathlib.Core.Path.{◌≡◌, refl, sym, ◌∙◌, ap, subst, subst⁻¹}
 use mathlib.Core.Bool.{Bool, true, false, cond}
@@ -12,7 +13,6 @@ use borrow.Author.Tests.{le-leb, leb-true, eq-eqb, ne_eqb}
 use Rattle.laws.proofs.Lists.{both_left, both_right}
 use Rattle.laws.proofs.Numbers.{lt-or-ge, eq-or-ne}
 use Rattle.parse.specs.Reads.{inside, u16_at, read_u16}
-use Rattle.parse.specs.declared.ReadU16.TheVariants.{Got}
 use Rattle.parse.proofs.Laws.{inside-fits, inside_yes, read_u16_got}
 use Rattle.tables.specs.Records.{stride_of, record_place, format_of}
 use Rattle.tables.specs.Survey.{record_in, record_at, floor_of, ordered, in_order, scan, scanned, survey_in, survey_at}
@@ -20,9 +20,8 @@ use Rattle.tables.specs.Order.{Good, InOrder, FirstBad, passed_size, Says, first
 use Rattle.tables.specs.declared.records.Format.TheVariants.{Records}
 use Rattle.tables.specs.declared.records.Kind.{Kind}
 use Rattle.tables.specs.declared.records.Kind.TheVariants.{Ranges, Arrays, Singles}
-use Rattle.tables.specs.declared.survey.Record.TheVariants.{Whole, Cut}
 use Rattle.tables.specs.declared.survey.Surveyed.{Surveyed}
-use Rattle.tables.specs.declared.survey.Surveyed.TheVariants.{Sorted, Bad, UnitSize, NoRecords, Nothing, Refused}
+use Rattle.tables.specs.declared.survey.Surveyed.TheVariants.{Sorted, Bad, UnitSize, NoRecords, Nothing}
 
 -- what a scan of any test says: that it holds at all of the numbers, or the first at which it fails
 module _ (good : ℕ → Bool) where
@@ -32,7 +31,6 @@ module _ (good : ℕ → Bool) where
   Said i left (UnitSize n) = ⊥
   Said i left NoRecords = ⊥
   Said i left Nothing = ⊥
-  Said i left (Refused why) = ⊥
 
   from_here : (i k : ℕ) → good i ≡ true → i ≤ k → (suc i ≤ k → good k ≡ true) → good k ≡ true
   from_here i k e h f = ⊎_elim (λ (p : k ≡ i). ap good p ∙ e) (λ (ne : k ≡ i → ⊥). f (omega (arith, ne))) (eq-or-ne k i)
@@ -45,7 +43,6 @@ module _ (good : ℕ → Bool) where
   one_further i left e (UnitSize n) f = f
   one_further i left e NoRecords f = f
   one_further i left e Nothing f = f
-  one_further i left e (Refused why) f = f
 
   scan-said : (left i : ℕ) → Said i left (scan good left i)
   unfolding Said scan
@@ -89,7 +86,7 @@ module _ (bytes : List ℕ) (kind : Kind) where
   passes_good i e = go (inside bytes (record_place 12 kind i) (stride_of kind)) refl e
     where
       go : (t : Bool) → inside bytes (record_place 12 kind i) (stride_of kind) ≡ t
-          → ordered (floor_of bytes kind i) (cond t (Whole (first_of bytes kind i) (last_of bytes kind i)) Cut) ≡ true → Good bytes kind i
+          → ordered (floor_of bytes kind i) (cond t (Some (record { first = first_of bytes kind i; last = last_of bytes kind i })) None) ≡ true → Good bytes kind i
       go false p f = let z : ◌≡◌ {A = ℕ} 0 1 = cc in absurd (omega arith)
       go true p f =
           let low = leb (floor_of bytes kind i) (first_of bytes kind i) in
@@ -124,7 +121,6 @@ module _ (bytes : List ℕ) (kind : Kind) where
       go (UnitSize n) e = absurd (said count (UnitSize n) e)
       go NoRecords e = absurd (said count NoRecords e)
       go Nothing e = absurd (said count Nothing e)
-      go (Refused why) e = absurd (said count (Refused why) e)
 
   -- and else the record named is the first that is not
   pub survey_bad : (count i : ℕ) → scanned bytes kind count ≡ Bad i → FirstBad bytes kind count i
@@ -152,7 +148,6 @@ module _ (bytes : List ℕ) (kind : Kind) where
   says_scanned e (UnitSize n) f = absurd (said bytes kind (u16_at bytes 4) (UnitSize n) f)
   says_scanned e NoRecords f = absurd (said bytes kind (u16_at bytes 4) NoRecords f)
   says_scanned e Nothing f = absurd (said bytes kind (u16_at bytes 4) Nothing f)
-  says_scanned e (Refused why) f = absurd (said bytes kind (u16_at bytes 4) (Refused why) f)
 
   pub says_in : 6 ≤ length bytes → Says bytes kind (survey_in bytes (Records kind))
   unfolding survey_in
@@ -177,7 +172,6 @@ module _ (bytes : List ℕ) (kind : Kind) where
   one_answer Sorted (UnitSize m) a b = absurd (b.1 (sym b.0 ∙ a.0))
   one_answer Sorted NoRecords a b = absurd b
   one_answer Sorted Nothing a b = absurd b
-  one_answer Sorted (Refused why) a b = absurd b
   one_answer (Bad i) Sorted a b = absurd (a.1.bad (b.1 i a.1.counted))
   one_answer (Bad i) (Bad j) a b =
       ⊎_elim
@@ -188,18 +182,15 @@ module _ (bytes : List ℕ) (kind : Kind) where
   one_answer (Bad i) (UnitSize m) a b = absurd (b.1 (sym b.0 ∙ a.0))
   one_answer (Bad i) NoRecords a b = absurd b
   one_answer (Bad i) Nothing a b = absurd b
-  one_answer (Bad i) (Refused why) a b = absurd b
   one_answer (UnitSize n) Sorted a b = absurd (a.1 (sym a.0 ∙ b.0))
   one_answer (UnitSize n) (Bad j) a b = absurd (a.1 (sym a.0 ∙ b.0))
   one_answer (UnitSize n) (UnitSize m) a b = ap UnitSize (sym a.0 ∙ b.0)
   one_answer (UnitSize n) NoRecords a b = absurd b
   one_answer (UnitSize n) Nothing a b = absurd b
-  one_answer (UnitSize n) (Refused why) a b = absurd b
   one_answer NoRecords t a b = absurd a
   one_answer Nothing t a b = absurd a
-  one_answer (Refused why) t a b = absurd a
 
-  pub survey_exact : {number : ℕ} → read_u16 bytes 0 ≡ Got number → format_of number ≡ Records kind → 6 ≤ length bytes → (s : Surveyed)
+  pub survey_exact : {number : ℕ} → read_u16 bytes 0 ≡ Some number → format_of number ≡ Records kind → 6 ≤ length bytes → (s : Surveyed)
       → (survey_at bytes ≡ s → Says bytes kind s) × (Says bytes kind s → survey_at bytes ≡ s)
   unfolding survey_at
   survey_exact {number} e f h s =

@@ -1,4 +1,5 @@
 -- A lookup table whose records all lie in it finds by them what the lookup finds.
+use Rattle.std.specs.Prelude.{Option, Some, None}
 use Prim.Native.Nat.{ℕ, ◌+◌, ◌<◌, ◌≤◌}
 use mathlib.Core.Path.{◌≡◌, refl, sym, ◌∙◌, ap, subst}
 use mathlib.Core.Bool.{Bool, true, false}
@@ -8,8 +9,6 @@ use lib.Dec.{ltb}
 use lib.ListN.{length}
 use borrow.Author.Tests.{lt-ltb, le-ltb, ltb-false}
 use Rattle.parse.specs.Reads.{u16_at, read_u16}
-use Rattle.parse.specs.declared.ReadU16.{ReadU16}
-use Rattle.parse.specs.declared.ReadU16.TheVariants as U16
 use Rattle.parse.proofs.Laws.{read_u16_got}
 use Rattle.tables.specs.Records.{format_of, record_place, first_at, last_at}
 use Rattle.tables.specs.Search.{against, side_of_record, side_of_range, side_of_array, side_of_single, searched}
@@ -23,16 +22,15 @@ use Rattle.tables.specs.declared.records.Side.TheVariants as Side'
 use Rattle.tables.specs.declared.records.Spot.{Spot}
 use Rattle.tables.specs.Whole.{whole_of, records_of, becomes}
 use Rattle.tables.specs.declared.whole.Records.{Records}
-use Rattle.tables.specs.declared.whole.Records.TheVariants.{Whole, Other}
 
 -- what is known of a table whose records all lie in it
 pub record Lies (bytes : List ℕ) (kind : Kind) (count : ℕ) : Type 0 where
   pub inside : record_place 12 kind count ≤ length bytes
   pub found : (glyph : ℕ) → lookup_at bytes glyph ≡ element_in bytes kind glyph (searched bytes 12 (Glyphs kind) count glyph)
 
-abbrev Lying : List ℕ → Records → Type 0
-Lying bytes (Whole kind count) = Lies bytes kind count
-Lying bytes Other = 0 ≤ 0
+abbrev Lying : List ℕ → Option Records → Type 0
+Lying bytes (Some records) = Lies bytes records.kind records.count
+Lying bytes None = 0 ≤ 0
 
 lying : (bytes : List ℕ) → Lying bytes (records_of bytes)
 unfolding records_of whole_of lookup_at in_format in_records
@@ -41,17 +39,17 @@ lying bytes = by_read (read_u16 bytes 0) refl
     goal : Type 0
     goal = Lying bytes (records_of bytes)
 
-    by_read : (r : ReadU16) → read_u16 bytes 0 ≡ r → goal
-    by_read U16.Short e = rw e (omega arith)
-    by_read (U16.Got n) e = by_format_lem (format_of n) refl
+    by_read : (r : Option ℕ) → read_u16 bytes 0 ≡ r → goal
+    by_read None e = rw e (omega arith)
+    by_read (Some n) e = by_format_lem (format_of n) refl
       where
         by_format_lem : (f : Format) → format_of n ≡ f → goal
         by_format_lem Format'.Simple g = rw (e, g) (omega arith)
         by_format_lem (Format'.Records kind) g = by_count (read_u16 bytes 4) refl
           where
-            by_count : (r : ReadU16) → read_u16 bytes 4 ≡ r → goal
-            by_count U16.Short h = rw (e, g, h) (omega arith)
-            by_count (U16.Got count) h = by_test (ltb (length bytes) (record_place 12 kind count)) refl
+            by_count : (r : Option ℕ) → read_u16 bytes 4 ≡ r → goal
+            by_count None h = rw (e, g, h) (omega arith)
+            by_count (Some count) h = by_test (ltb (length bytes) (record_place 12 kind count)) refl
               where
                 by_test : (b : Bool) → ltb (length bytes) (record_place 12 kind count) ≡ b → goal
                 by_test true t = rw (e, g, h, t) (omega arith)
@@ -61,8 +59,8 @@ lying bytes = by_read (read_u16 bytes 0) refl
         by_format_lem (Format'.Trimmed head) g = rw (e, g) (omega arith)
         by_format_lem Format'.Unknown g = rw (e, g) (omega arith)
 
-pub records_lie : (bytes : List ℕ) {kind : Kind} {count : ℕ} → records_of bytes ≡ Whole kind count → Lies bytes kind count
-records_lie bytes e = subst (λ (r : Records). Lying bytes r) e (lying bytes)
+pub records_lie : (bytes : List ℕ) {kind : Kind} {count : ℕ} → records_of bytes ≡ Some (record { kind = kind; count = count }) → Lies bytes kind count
+records_lie bytes e = subst (λ (r : Option Records). Lying bytes r) e (lying bytes)
 
 -- each of them
 pub record_lies : (kind : Kind) {index count n : ℕ} → index < count → record_place 12 kind count ≤ n → record_place 12 kind index + 4 ≤ n
@@ -101,6 +99,6 @@ module _ (bytes : List ℕ) (glyph index : ℕ) where
           rw (le-ltb _ glyph (subst (λ (n : ℕ). glyph ≤ n) last_is a), le-ltb glyph _ (subst (λ (n : ℕ). n ≤ glyph) first-is b)) at (side_is kind h)
 
 -- what a search finds is what becomes of the glyph
-pub sought_spot : (bytes : List ℕ) {kind : Kind} {count : ℕ} → records_of bytes ≡ Whole kind count → (glyph : ℕ) {spot : Spot}
+pub sought_spot : (bytes : List ℕ) {kind : Kind} {count : ℕ} → records_of bytes ≡ Some (record { kind = kind; count = count }) → (glyph : ℕ) {spot : Spot}
     → spot ≡ searched bytes 12 (Glyphs kind) count glyph → becomes glyph (element_in bytes kind glyph spot) ≡ becomes glyph (lookup_at bytes glyph)
 sought_spot bytes {kind} e glyph s = ap (λ (x : Spot). becomes glyph (element_in bytes kind glyph x)) s ∙ ap (becomes glyph) (sym ((records_lie bytes e).found glyph))

@@ -1,11 +1,10 @@
 -- Apple's manual on lookup tables of 16-bit values: which unit holds a glyph, and where its element lies in each of the six formats.
 -- The manual was not at hand: docs/DIFFERENCES.md says what these lines rest on.
-use Rattle.std.specs.Prelude.{ℕ, ◌+◌, ◌-◌, ◌*◌, ◌<◌, ◌≤◌, ◌≡◌, List, length}
+use Rattle.std.specs.Prelude.{ℕ, ◌+◌, ◌-◌, ◌*◌, ◌<◌, ◌≤◌, ◌≡◌, List, length, Ok}
 use Rattle.parse.specs.Reads.{u16_at}
 use Rattle.tables.specs.Survey.{survey_at}
 use Rattle.tables.specs.Lookup.{lookup_at}
 use Rattle.tables.specs.declared.survey.Surveyed.TheVariants.{Sorted}
-use Rattle.tables.specs.declared.lookup.Found.TheVariants.{At}
 
 -- the formats by name; three of them are sorted units behind a search header
 pub data Units : Type 0 where
@@ -86,7 +85,7 @@ Alike bytes glyphs glyph extended_trimmed_array = unit_size bytes ≡ 2
 
 -- the crate's lookup finds just the manual's element, where that lies in the table
 pub record AsManual (bytes : List ℕ) (glyphs glyph : ℕ) (layout : Layout) : Type 0 where
-  pub found : (element : ℕ) → lookup_at bytes glyph ≡ At element
+  pub found : (element : ℕ) → lookup_at bytes glyph ≡ Ok element
       → (place : ℕ) × Lies bytes glyphs glyph layout place × (place + 2 ≤ length bytes) × (element ≡ u16_at bytes place)
   pub there : (place : ℕ) → Lies bytes glyphs glyph layout place → place + 2 ≤ length bytes
-      → lookup_at bytes glyph ≡ At (u16_at bytes place)
+      → lookup_at bytes glyph ≡ Ok (u16_at bytes place)

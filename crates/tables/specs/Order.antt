@@ -7,7 +7,7 @@ use Rattle.tables.specs.declared.records.Kind.TheVariants.{Ranges, Arrays, Singl
 use Rattle.tables.specs.declared.records.Spot.{Spot}
 use Rattle.tables.specs.declared.records.Spot.TheVariants.{At, Absent, Cut}
 use Rattle.tables.specs.declared.survey.Surveyed.{Surveyed}
-use Rattle.tables.specs.declared.survey.Surveyed.TheVariants.{Sorted, Bad, UnitSize, NoRecords, Nothing, Refused}
+use Rattle.tables.specs.declared.survey.Surveyed.TheVariants.{Sorted, Bad, UnitSize, NoRecords, Nothing}
 
 -- the first and last glyph of record i
 abbrev pub first_of : List ℕ → Kind → ℕ → ℕ
@@ -45,7 +45,6 @@ Says bytes kind (Bad i) = (u16_at bytes 2 ≡ passed_size kind) × FirstBad byte
 Says bytes kind (UnitSize n) = (u16_at bytes 2 ≡ n) × (n ≡ passed_size kind → ⊥)
 Says bytes kind NoRecords = ⊥
 Says bytes kind Nothing = ⊥
-Says bytes kind (Refused why) = ⊥
 
 -- one of so many records, the i-th, holds a key; of each is told the first and the last that it holds
 pub record Holds (first last : ℕ → ℕ) (count key i : ℕ) : Type 0 where

@@ -1,5 +1,5 @@
 -- Why a lookup finds nothing: what each reason says, by the reads that the crate's lookup tries.
-use Rattle.std.specs.Prelude.{ℕ, zero, suc, ◌+◌, ◌-◌, ◌*◌, ◌/◌, ◌<◌, ◌≤◌, ◌≡◌, List, [], ◌∷◌, ◌⊎◌, length}
+use Rattle.std.specs.Prelude.{ℕ, zero, suc, ◌+◌, ◌-◌, ◌*◌, ◌/◌, ◌<◌, ◌≤◌, ◌≡◌, List, [], ◌∷◌, ◌⊎◌, length, Ok}
 use Rattle.laws.specs.Choose.{if_lt}
 use Rattle.parse.specs.Reads.{u16_at, read_u16}
 use Rattle.parse.specs.Use.{on_u16}
@@ -12,7 +12,6 @@ use Rattle.tables.specs.declared.records.Kind.{Kind}
 use Rattle.tables.specs.declared.records.Kind.TheVariants.{Ranges, Arrays, Singles}
 use Rattle.tables.specs.declared.lookup.Why.{Why}
 use Rattle.tables.specs.declared.lookup.Why.TheVariants.{NotCovered, CutShort, UnknownFormat}
-use Rattle.tables.specs.declared.lookup.Found.TheVariants.{At}
 
 -- reads are told as the places of the 16-bit numbers tried, in the crate's order. One that fails is the last; behind one that succeeds are those that
 -- follow from its number
@@ -73,4 +72,4 @@ unfoldable pub Because : List ℕ → (glyph : ℕ) → Why → Type 0
 Because bytes glyph UnknownFormat = NoneOfSix bytes
 Because bytes glyph CutShort = SomeFails bytes (lookup_reads bytes glyph)
 Because bytes glyph NotCovered =
-    (NoneOfSix bytes → ⊥) × (SomeFails bytes (lookup_reads bytes glyph) → ⊥) × ((element : ℕ) → lookup_at bytes glyph ≡ At element → ⊥)
+    (NoneOfSix bytes → ⊥) × (SomeFails bytes (lookup_reads bytes glyph) → ⊥) × ((element : ℕ) → lookup_at bytes glyph ≡ Ok element → ⊥)

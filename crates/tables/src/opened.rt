@@ -1,19 +1,21 @@
 // A lookup table opened once for many glyphs.
 ghost use Rattle.std.specs.Prelude.{◌≡◌, ◌≤◌};
-ghost use Rattle.tables.specs.Opened.{most_in, opened_array, opened_trimmed, opened_of, in_array, found_in, LiesIn};
+ghost use Rattle.tables.specs.Opened.{most_in, opened_trimmed, opened_of, in_array, found_in, LiesIn};
 
-use crate::lookup::{Found, Why};
+use crate::lookup;
+use crate::lookup::Why;
 use crate::records::Format;
-use crate::{lookup, records};
 
-// An array, of which so many elements lie in the table, or anything else.
+// An array, of which so many elements lie in the table.
 #[derive(Clone, Copy)]
-pub enum Opened {
-    Array { base: u32, first: u16, count: usize },
-    Other,
+pub struct Array {
+    pub base: u32,
+    pub first: u16,
+    pub count: usize,
 }
 
 // How many elements of an array at `base` can lie in the table.
+#[tactic(auto, unfolding(crate::specs::Opened::most_in))]
 fn most_in(bytes: &[u8], base: u32) -> usize
     ensures { result ≡ most_in bytes.now base }
 {
@@ -23,82 +25,56 @@ fn most_in(bytes: &[u8], base: u32) -> usize
     (bytes.len() - base as usize) / 2
 }
 
-fn open_array(bytes: &[u8], base: u32, first: u16, count: usize) -> Opened
-    ensures { result ≡ opened_array bytes.now base first count }
-{
-    let most = most_in(bytes, base);
-    if most < count {
-        return Opened::Array {
-            base,
-            first,
-            count: most,
-        };
-    }
-    Opened::Array { base, first, count }
-}
-
-fn open_trimmed(bytes: &[u8], head: u16) -> Opened
+#[tactic(auto, unfolding(crate::specs::Opened::opened_trimmed, crate::specs::Opened::opened_array))]
+fn open_trimmed(bytes: &[u8], head: u16) -> Option<Array>
     ensures { result ≡ opened_trimmed bytes.now head }
 {
-    let parse::ReadU16::Got(first) = parse::read_u16(bytes, head as usize) else {
-        return Opened::Other;
-    };
-    let parse::ReadU16::Got(count) = parse::read_u16(bytes, head as usize + 2) else {
-        return Opened::Other;
-    };
-    open_array(bytes, head as u32 + 4, first, count as usize)
+    let first = parse::read_u16(bytes, head as usize)?;
+    let count = parse::read_u16(bytes, head as usize + 2)?;
+    let base = head as u32 + 4;
+    let most = most_in(bytes, base);
+    Some(Array {
+        base,
+        first,
+        count: most.min(count as usize),
+    })
 }
 
-// The lookup table that begins with `bytes`.
-pub fn open(bytes: &[u8]) -> Opened
+// The lookup table that begins with `bytes`, where it is an array.
+#[tactic(auto, unfolding(crate::specs::Opened::opened_of))]
+pub fn open(bytes: &[u8]) -> Option<Array>
     ensures { result ≡ opened_of bytes.now }
 {
-    let parse::ReadU16::Got(number) = parse::read_u16(bytes, 0) else {
-        return Opened::Other;
-    };
-    let format = records::format_of(number);
-    match format {
-        Format::Simple => {
-            let count = most_in(bytes, 2);
-            Opened::Array {
-                base: 2,
-                first: 0,
-                count,
-            }
-        }
-        Format::Records(_) => Opened::Other,
+    let number = parse::read_u16(bytes, 0)?;
+    match Format::from(number) {
+        Format::Simple => Some(Array {
+            base: 2,
+            first: 0,
+            count: most_in(bytes, 2),
+        }),
         Format::Trimmed(head) => open_trimmed(bytes, head),
-        Format::Unknown => Opened::Other,
+        Format::Records(_) | Format::Unknown => None,
     }
 }
 
 // The element of a glyph in an array; why there is none is not told apart.
-fn in_array(bytes: &[u8], base: u32, first: u16, count: usize, glyph: u16) -> Found
-    requires { count ≤ most_in bytes.now base }
-    ensures { result ≡ in_array bytes.now base first count glyph }
+#[tactic(auto, unfolding(crate::specs::Opened::in_array, crate::specs::Opened::most_in))]
+fn in_array(bytes: &[u8], array: Array, glyph: u16) -> Result<u16, Why>
+    requires { array.count ≤ most_in bytes.now array.base }
+    ensures { result ≡ in_array bytes.now array.base array.first array.count glyph }
 {
-    if glyph < first {
-        return Found::Nothing(Why::NotCovered);
-    }
-    let index = (glyph - first) as usize;
-    if index < count {
-        return Found::At(parse::u16_at(bytes, base as usize + index * 2));
-    }
-    Found::Nothing(Why::NotCovered)
+    let index = lookup::index_in(array.first, array.count, glyph)?;
+    Ok(parse::u16_at(bytes, array.base as usize + index * 2))
 }
 
 // The element of a glyph; why there is none is not told apart.
-pub fn found_in(bytes: &[u8], opened: Opened, glyph: u16) -> Found
+#[tactic(auto, unfolding(crate::specs::Opened::found_in))]
+pub fn found_in(bytes: &[u8], opened: Option<Array>, glyph: u16) -> Result<u16, Why>
     requires { LiesIn bytes.now opened }
     ensures { result ≡ found_in bytes.now opened glyph }
 {
     match opened {
-        Opened::Array { base, first, count } => in_array(bytes, base, first, count, glyph),
-        Opened::Other => {
-            let Found::At(element) = lookup::lookup_at(bytes, glyph) else {
-                return Found::Nothing(Why::NotCovered);
-            };
-            Found::At(element)
-        }
+        Some(array) => in_array(bytes, array, glyph),
+        None => lookup::lookup_at(bytes, glyph).or(Err(Why::NotCovered)),
     }
 }

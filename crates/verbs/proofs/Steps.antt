@@ -6,6 +6,7 @@ use mathlib.Core.Logic.{◌⊎◌, inl, inr, ⊎_elim}
 use native.Mathlib.Omega.{arith}
 use lib.ListN.{length, get_or, set, length-set}
 use lib.Seq.{get_or-set_same, get_or-set_other, ext_get_or}
+use Rattle.std.specs.List.{CopiedTo, SameBelow, SameFrom}
 use Rattle.laws.proofs.Choices.{if_eq_yes, if_eq_no}
 use Rattle.laws.proofs.Lists.{length-tab, get_d_tab}
 use Rattle.laws.proofs.Numbers.{lt-or-ge, eq-or-ne}
@@ -50,24 +51,16 @@ module _ (held : Held) (at : ℕ) (xs : List ℕ) where
       filled_more (put_one (omega arith)) (at + 1) held.1 (omega arith) (sym (if_eq_no _ _ {a = at + 1} {b = at} (omega arith))) at (at + 2)
       (omega arith) (omega arith) (omega arith) (omega arith) (λ k ne h i. omega (arith, ne))
 
--- a place is filled with what slides there, from the first on where it slides down, and from the last on where it slides up
-module _ (xs : List ℕ) (from to until : ℕ) {ys : List ℕ} {k : ℕ} where
-  pub slid_down : to < from → to ≤ k → k < until → from + (until - to) ≤ length xs → Filled (slid_at xs from to) to k xs ys
-      → Filled (slid_at xs from to) to (k + 1) xs (set ys k (slid_at ys from to k))
-  slid_down way h i fits filled =
-      filled_more filled k _ (omega arith) (filled.above (from + (k - to)) (omega arith)) to (k + 1) (omega arith) (omega arith) (omega arith)
-      (omega arith) (λ j ne p q. omega (arith, ne))
-
-  pub slid_up : from < to → to < k → k ≤ until → until ≤ length xs → Filled (slid_at xs from to) k until xs ys
-      → Filled (slid_at xs from to) (k - 1) until xs (set ys (k - 1) (slid_at ys from to (k - 1)))
-  slid_up way h i fits filled =
-      filled_more filled (k - 1) _ (omega arith) (filled.below (from + (k - 1 - to)) (omega arith)) (k - 1) until (omega arith) (omega arith)
-      (omega arith) (omega arith) (λ j ne p q. omega (arith, ne))
-
--- what slides nowhere stays
-pub slid_none : (xs : List ℕ) (from to until : ℕ) → to ≤ from → from ≤ to → Filled (slid_at xs from to) to until xs xs
-slid_none xs from to until h i =
-    record { long = refl; inside = λ k p q. ap (λ (n : ℕ). get_or xs n 0) (omega arith); below = λ k p. refl; above = λ k p. refl }
+-- what stands between the groups slides
+pub slid_over : {xs ys : List ℕ} (from end to until : ℕ) → until ≡ to + (end - from) → length ys ≡ length xs
+    → CopiedTo xs ys from to (end - from) × SameBelow xs ys to × SameFrom xs ys (to + (end - from)) → Filled (slid_at xs from to) to until xs ys
+slid_over from end to until u long slid =
+    record {
+      long = long;
+      inside = λ k h i. slid.0 k 0 h (omega arith);
+      below = λ k h. slid.1 k 0 h;
+      above = λ k h. slid.2 k 0 (omega arith);
+    }
 
 -- what a group leaves at a place of it is what stood at a place of its own, turned where the verb flips it
 of_two : (xs : List ℕ) (at k p q n : ℕ) → (k ≡ at → p ≡ n) → ((k ≡ at → ⊥) → q ≡ n) → held_at (get_or xs p 0, get_or xs q 0) at k ≡ get_or xs n 0

@@ -3,7 +3,7 @@
 
 ghost use Rattle.std.specs.Prelude.{◌≡◌, ◌+◌, ◌-◌, ◌≤◌, ◌<◌, min, length};
 ghost use Rattle.verbs.specs.Verbs.{groups_of, size_of, moved, taken, rearranged};
-ghost use Rattle.verbs.specs.Steps.{Filled, pair_at, flipped, lifted, held_at, slid_at};
+ghost use Rattle.verbs.specs.Steps.{Filled, lifted, held_at};
 
 // What stands at one end of a verb's window: no glyph, one, two, or two that change places.
 #[derive(Clone, Copy)]
@@ -43,6 +43,7 @@ const TABLE: [Groups; 16] = [
 ];
 
 // A verb's row of the table.
+#[tactic(auto, unfolding(crate::specs::Verbs::groups_of))]
 fn groups_of(verb: u16) -> Groups
     ensures { result ≡ groups_of verb }
 {
@@ -56,31 +57,8 @@ fn size_of(group: Group) -> usize
     match group {
         Group::Absent => 0,
         Group::One => 1,
-        Group::Two => 2,
-        Group::Flipped => 2,
+        Group::Two | Group::Flipped => 2,
     }
-}
-
-// The smaller of two numbers.
-fn least(a: usize, b: usize) -> usize
-    ensures { result ≡ min a b }
-{
-    if a < b { a } else { b }
-}
-
-// The two that stand from `at` on.
-fn pair(part: &[u16], at: usize) -> Held
-    requires { at + 2 ≤ length part.now }
-    ensures { result ≡ pair_at part.now at }
-{
-    Held(part[at], part[at + 1])
-}
-
-// The two exchanged.
-fn flip(held: Held) -> Held
-    ensures { result ≡ flipped held }
-{
-    Held(held.1, held.0)
 }
 
 // Takes out the group that starts at `at`, in the order in which the verb puts it down.
@@ -91,12 +69,13 @@ fn lift(part: &[u16], at: usize, group: Group) -> Held
     match group {
         Group::Absent => Held(0, 0),
         Group::One => Held(part[at], 0),
-        Group::Two => pair(part, at),
-        Group::Flipped => flip(pair(part, at)),
+        Group::Two => Held(part[at], part[at + 1]),
+        Group::Flipped => Held(part[at + 1], part[at]),
     }
 }
 
 // Puts a group of `size` down at `at`.
+#[tactic(auto, using(crate::proofs::Steps::put_one, crate::proofs::Steps::put_two))]
 fn put(part: &mut [u16], at: usize, size: usize, held: Held)
     requires { (size ≤ 2) × (at + size ≤ length part.old) }
     ensures { Filled (held_at held at) at (at + size) part.old part.new }
@@ -111,42 +90,6 @@ fn put(part: &mut [u16], at: usize, size: usize, held: Held)
     part[at + 1] = held.1;
 }
 
-// What stands from `from` on moves down to the places from `to` up to `until`.
-fn slide_down(part: &mut [u16], from: usize, to: usize, until: usize)
-    requires { (to < from) × (to ≤ until) × (from + (until - to) ≤ length part.old) }
-    ensures { Filled (slid_at part.old from to) to until part.old part.new }
-{
-    let mut k = to;
-    while k < until {
-        part[k] = part[from + (k - to)];
-        k += 1;
-    }
-}
-
-// What stands from `from` on moves up to the places from `to` up to `until`.
-fn slide_up(part: &mut [u16], from: usize, to: usize, until: usize)
-    requires { (from < to) × (to ≤ until) × (until ≤ length part.old) }
-    ensures { Filled (slid_at part.old from to) to until part.old part.new }
-{
-    let mut k = until;
-    while to < k {
-        k -= 1;
-        part[k] = part[from + (k - to)];
-    }
-}
-
-// What stands between the groups moves by the difference of their sizes.
-fn slide(part: &mut [u16], from: usize, to: usize, until: usize)
-    requires { (to ≤ until) × (until ≤ length part.old) × (from + (until - to) ≤ length part.old) }
-    ensures { Filled (slid_at part.old from to) to until part.old part.new }
-{
-    if to < from {
-        slide_down(part, from, to, until);
-    } else if from < to {
-        slide_up(part, from, to, until);
-    }
-}
-
 // Exchanges the groups at the ends of a window that has room for both.
 fn exchange(part: &mut [u16], end: usize, left: Group, right: Group)
     requires { (size_of left + size_of right ≤ end) × (end ≤ length part.old) }
@@ -156,19 +99,18 @@ fn exchange(part: &mut [u16], end: usize, left: Group, right: Group)
     let right_size = size_of(right);
     let first = lift(part, 0, left);
     let last = lift(part, end - right_size, right);
-    slide(part, left_size, right_size, end - left_size);
+    part.copy_within(left_size..end - right_size, right_size);
     put(part, 0, right_size, last);
     put(part, end - left_size, left_size, first);
 }
 
 // Rearranges one list: `part` starts with the window, whose end is first cut to the part's.
+#[tactic(auto, using(crate::proofs::Steps::stayed, crate::proofs::Steps::carried))]
 fn rearrange_part(part: &mut [u16], width: usize, verb: u16)
     ensures { part.new ≡ rearranged verb (min width (length part.old)) part.old }
 {
-    let groups = groups_of(verb);
-    let left = groups.0;
-    let right = groups.1;
-    let end = least(width, part.len());
+    let Groups(left, right) = groups_of(verb);
+    let end = width.min(part.len());
     if end < size_of(left) + size_of(right) {
         return;
     }

@@ -6,8 +6,8 @@ use Rattle.kern.specs.Kern.{kern}
 use Rattle.kerning_lists.proofs.Families.{runs_refused, runs_passed}
 use Rattle.kern.proofs.run_by.Goals as goal
 
-pub returns-in-Refused : goal.returns-in-Refused
-returns-in-Refused c = let r = runs_refused kern _ _ false (line_of _ _ _ _) _ _ c.refuse_run.ensures c.in-Refused.is in
+pub returns-in-Err : goal.returns-in-Err
+returns-in-Err c = let r = runs_refused kern _ _ false (line_of _ _ _ _) _ _ c.refuse_run.ensures c.in-Err.is in
     record { answer = r.answers; heads = r.counts; along = r.leaves }
 
 pub slice_bounds-run_part-end : goal.slice_bounds-run_part-end

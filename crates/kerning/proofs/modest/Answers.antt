@@ -1,19 +1,13 @@
-use Prim.Native.Nat.{◌-◌}
-use Rattle.kerning.proofs.Scans.{small_of}
-use mathlib.Core.Path.{sym, ◌∙◌}
-use Rattle.kerning.proofs.Scans.{modest-start, scanning_next, scanning_fails, scanning_done}
+use Prim.Native.Nat.{◌<◌, ◌≤◌}
+use borrow.Author.Tests.{tests}
+use Rattle.std.proofs.Common.{rules, ℤ, nat_abs}
+use Rattle.std.proofs.lemmas.Iterator.{cases_from_all, YieldsList-from_slice}
+use Rattle.kerning.specs.Line.{bound}
+use Rattle.kerning.proofs.Scans.{modest_is}
 use Rattle.kerning.proofs.modest.Goals as goal
 
-pub loop-left-init : goal.loop-left-init
-loop-left-init c = modest-start _
-
-pub returns-then-not-is_small : goal.returns-then-not-is_small
-returns-then-not-is_small c =
-    scanning_fails _ c.loop-left.invariant c.loop-left-test.true (sym (small_of c.args.along.now (c.loop-left.left - 1) c.is_small-arg-1.given c.is_small.ensures) ∙ c.if-not-is_small.true)
-
-pub loop-left-preserved : goal.loop-left-preserved
-loop-left-preserved c =
-    scanning_next _ c.loop-left.invariant c.loop-left-test.true (sym (small_of c.args.along.now (c.loop-left.left - 1) c.is_small-arg-1.given c.is_small.ensures) ∙ c.if-not-is_small.false)
-
 pub returns : goal.returns
-returns c = scanning_done _ c.loop-left.invariant c.loop-left-test.false
+returns c =
+    modest_is _
+    (cases_from_all _ _ _ (λ (z : ℤ). nat_abs z ≤ bound) (λ (z : ℤ). bound < nat_abs z) c.all.ensures.ran (YieldsList-from_slice c.args.along.now cc)
+    (λ x q k. search (rules, tests)) (λ x q k. search (rules, tests)))

@@ -1,12 +1,7 @@
-use mathlib.Core.Path.{sym, refl}
+use mathlib.Core.Path.{sym}
 use Rattle.line.specs.Line.{line_of}
-use Rattle.kerx.proofs.Called.{run_lies, part_length, lies_lent, run_refused, run-passed}
+use Rattle.kerx.proofs.Called.{run_lies, part_length, lies_lent, run-passed}
 use Rattle.kerx.proofs.run_anchored.Goals as goal
-
-pub returns-in-Refused : goal.returns-in-Refused
-returns-in-Refused c =
-    let r = run_refused _ _ _ _ (line_of _ _ _ _) _ _ _ _ _ c.takes_run-takes.ensures c.refuse_run.ensures c.in-Refused.is in
-    record { answer = r.plain.answers; heads = r.plain.counts; glyphs = refl; tags = refl; along = r.plain.leaves; x = r.xs; y = r.ys; back = r.backs }
 
 pub slice_bounds-run_part-end : goal.slice_bounds-run_part-end
 slice_bounds-run_part-end c =

@@ -1,19 +1,10 @@
 use mathlib.Core.Path.{sym, refl}
 use Rattle.line.specs.Line.{line_of}
 use Rattle.kerning_lists.proofs.Calls.{run_ready, lent_length, lent_ready_line}
-use Rattle.kerning_lists.proofs.Families.{runs_refused, runs_passed}
+use Rattle.kerning_lists.proofs.Families.{runs_passed}
 use Rattle.kerx.specs.Kerx.{kerx}
 use Rattle.kerx.proofs.Marking.{lent_empty}
 use Rattle.kerx.proofs.run_by.Goals as goal
-
-pub returns-in-Refused : goal.returns-in-Refused
-returns-in-Refused c =
-    let r = runs_refused kerx _ _ _ (line_of _ _ _ _) _ _ c.refuse_run.ensures c.in-Refused.is in
-    record { answer = r.answers; heads = r.counts; glyphs = refl; tags = refl; along = r.leaves }
-
-pub slice_bounds-run_part-end : goal.slice_bounds-run_part-end
-slice_bounds-run_part-end c =
-    (run_ready _ _ _ _ _ _ _ c.refuse_run.ensures c.in_default.is).long
 
 pub slice_bounds-run_part-end-2 : goal.slice_bounds-run_part-end-2
 slice_bounds-run_part-end-2 c =

@@ -1,123 +1,112 @@
-use mathlib.Core.Path.{sym, ◌∙◌, ap}
+use mathlib.Core.Path.{◌≡◌, sym, ◌∙◌, ap}
 use native.Mathlib.Omega.{arith}
 use lib.ListN.{length}
-use Rattle.kerning_lists.proofs.Runs.{running_limit, running_cut, running_done, limit-small, limit-reached, limit_ahead}
+use Rattle.kerning_lists.proofs.Runs.{running_limit, running_cut, running_done, limit-reached, limit_ahead}
 use Rattle.anchor_machine.proofs.Writing.{wrote_long}
 use Rattle.kerx.proofs.Marking.{on-start, on-next, on_ready, marking-limit, marking-cut, marking-done}
 use Rattle.kerx.proofs.run_list.Goals as goal
 
-pub loop-left-init : goal.loop-left-init
-loop-left-init c =
+pub loop-heads-init : goal.loop-heads-init
+loop-heads-init c =
     on-start _ _ _ _ _ _ _ _ _ _ _ _ c.requires.4
 
 pub shape_of-glyphs-in_default : goal.shape_of-glyphs-in_default
 shape_of-glyphs-in_default c =
-    ap length c.loop-left.invariant.plain.same_glyphs
+    ap length c.loop-heads.invariant.plain.same_glyphs
 
 pub shape_of-tags-in_default : goal.shape_of-tags-in_default
 shape_of-tags-in_default c =
-    ap length c.loop-left.invariant.plain.same_tags
+    ap length c.loop-heads.invariant.plain.same_tags
 
 pub shape_of-along-in_default : goal.shape_of-along-in_default
 shape_of-along-in_default c =
-    c.loop-left.invariant.plain.running.long
+    c.loop-heads.invariant.plain.running.long
 
 pub shape_of-x-in_default : goal.shape_of-x-in_default
 shape_of-x-in_default c =
-    (wrote_long c.loop-left.invariant.beside.wrote).0
+    (wrote_long c.loop-heads.invariant.beside.wrote).0
 
 pub shape_of-y-in_default : goal.shape_of-y-in_default
 shape_of-y-in_default c =
-    (wrote_long c.loop-left.invariant.beside.wrote).1
+    (wrote_long c.loop-heads.invariant.beside.wrote).1
 
 pub shape_of-back-in_default : goal.shape_of-back-in_default
 shape_of-back-in_default c =
-    (wrote_long c.loop-left.invariant.beside.wrote).2
+    (wrote_long c.loop-heads.invariant.beside.wrote).2
 
 pub returns-in_default : goal.returns-in_default
 returns-in_default c =
     let cut = sym c.head_at.ensures ∙ c.in_default.is in
-    let e = running_cut _ _ _ _ _ _ c.loop-left.invariant.plain.running cut in
-    let w = marking-cut _ _ _ _ _ _ _ _ _ _ c.loop-left.invariant.beside cut in
-    record { answer = e.answers; heads = e.counts; glyphs = c.loop-left.invariant.plain.same_glyphs; tags = c.loop-left.invariant.plain.same_tags; along = e.leaves; x = w.xs; y = w.ys; back = w.backs }
+    let e = running_cut _ _ _ _ _ _ c.loop-heads.invariant.plain.running cut in
+    let w = marking-cut _ _ _ _ _ _ _ _ _ _ c.loop-heads.invariant.beside cut in
+    record { answer = e.answers; heads = e.counts; glyphs = c.loop-heads.invariant.plain.same_glyphs; tags = c.loop-heads.invariant.plain.same_tags; along = e.leaves; x = w.xs; y = w.ys; back = w.backs }
 
 pub shape_of-glyphs-then-heads-eq-HEADS : goal.shape_of-glyphs-then-heads-eq-HEADS
 shape_of-glyphs-then-heads-eq-HEADS c =
-    ap length c.loop-left.invariant.plain.same_glyphs
+    ap length c.loop-heads.invariant.plain.same_glyphs
 
 pub shape_of-tags-then-heads-eq-HEADS : goal.shape_of-tags-then-heads-eq-HEADS
 shape_of-tags-then-heads-eq-HEADS c =
-    ap length c.loop-left.invariant.plain.same_tags
+    ap length c.loop-heads.invariant.plain.same_tags
 
 pub shape_of-along-then-heads-eq-HEADS : goal.shape_of-along-then-heads-eq-HEADS
 shape_of-along-then-heads-eq-HEADS c =
-    c.loop-left.invariant.plain.running.long
+    c.loop-heads.invariant.plain.running.long
 
 pub shape_of-x-then-heads-eq-HEADS : goal.shape_of-x-then-heads-eq-HEADS
 shape_of-x-then-heads-eq-HEADS c =
-    (wrote_long c.loop-left.invariant.beside.wrote).0
+    (wrote_long c.loop-heads.invariant.beside.wrote).0
 
 pub shape_of-y-then-heads-eq-HEADS : goal.shape_of-y-then-heads-eq-HEADS
 shape_of-y-then-heads-eq-HEADS c =
-    (wrote_long c.loop-left.invariant.beside.wrote).1
+    (wrote_long c.loop-heads.invariant.beside.wrote).1
 
 pub shape_of-back-then-heads-eq-HEADS : goal.shape_of-back-then-heads-eq-HEADS
 shape_of-back-then-heads-eq-HEADS c =
-    (wrote_long c.loop-left.invariant.beside.wrote).2
+    (wrote_long c.loop-heads.invariant.beside.wrote).2
 
 pub returns-then-heads-eq-HEADS : goal.returns-then-heads-eq-HEADS
 returns-then-heads-eq-HEADS c =
     let full = limit-reached c.if-heads-eq-HEADS.true in
-    let e = running_limit _ _ _ _ _ _ c.loop-left.invariant.plain.running c.loop-left-test.true (sym c.head_at.ensures ∙ c.in-At.is) full in
-    let w = marking-limit _ _ _ _ _ _ _ _ _ _ c.loop-left.invariant.beside full in
-    record { answer = e.answers; heads = e.counts; glyphs = c.loop-left.invariant.plain.same_glyphs; tags = c.loop-left.invariant.plain.same_tags; along = e.leaves; x = w.xs; y = w.ys; back = w.backs }
+    let e = running_limit _ _ _ _ _ _ c.loop-heads.invariant.plain.running (omega arith) (sym c.head_at.ensures ∙ c.in-Some.is) full in
+    let w = marking-limit _ _ _ _ _ _ _ _ _ _ c.loop-heads.invariant.beside full in
+    record { answer = e.answers; heads = e.counts; glyphs = c.loop-heads.invariant.plain.same_glyphs; tags = c.loop-heads.invariant.plain.same_tags; along = e.leaves; x = w.xs; y = w.ys; back = w.backs }
 
 pub visit-requires : goal.visit-requires
 visit-requires c =
-    on_ready _ _ _ _ _ _ _ _ _ _ _ _ c.loop-left.invariant c.requires.0 c.requires.1 c.requires.2 c.requires.3 c.requires.5
+    on_ready _ _ _ _ _ _ _ _ _ _ _ _ c.loop-heads.invariant c.requires.0 c.requires.1 c.requires.2 c.requires.3 c.requires.5
 
-pub overflow_add-heads : goal.overflow_add-heads
-overflow_add-heads c =
-    omega (arith, limit-small, limit_ahead c.loop-left.invariant.plain.running.within c.if-heads-eq-HEADS.false)
-
-pub overflow_sub-left : goal.overflow_sub-left
-overflow_sub-left c =
-    omega (arith, c.loop-left-test.true)
-
-pub loop-left-smaller : goal.loop-left-smaller
-loop-left-smaller c =
-    omega (arith, c.loop-left-test.true)
-
-pub loop-left-preserved : goal.loop-left-preserved
-loop-left-preserved c =
-    on-next _ _ _ _ _ _ _ _ _ _ _ _ c.loop-left.invariant c.requires.3 c.requires.2 c.loop-left-test.true (sym c.head_at.ensures ∙ c.in-At.is) (limit_ahead c.loop-left.invariant.plain.running.within c.if-heads-eq-HEADS.false) c.visit.ensures.glyphs c.visit.ensures.tags c.visit.ensures.along (record { xs = c.visit.ensures.x; ys = c.visit.ensures.y; backs = c.visit.ensures.back })
+pub loop-heads-preserved : goal.loop-heads-preserved
+loop-heads-preserved c =
+    on-next _ _ _ _ _ _ _ _ _ _ _ _ _ c.loop-heads.invariant c.requires.3 c.requires.2 (omega arith) (sym c.head_at.ensures ∙ c.in-Some.is) (limit_ahead c.loop-heads.invariant.plain.running.within c.if-heads-eq-HEADS.false) c.visit.ensures.glyphs c.visit.ensures.tags c.visit.ensures.along (record { xs = c.visit.ensures.x; ys = c.visit.ensures.y; backs = c.visit.ensures.back })
 
 pub shape_of-glyphs : goal.shape_of-glyphs
 shape_of-glyphs c =
-    ap length c.loop-left.invariant.plain.same_glyphs
+    ap length c.loop-heads.invariant.plain.same_glyphs
 
 pub shape_of-tags : goal.shape_of-tags
 shape_of-tags c =
-    ap length c.loop-left.invariant.plain.same_tags
+    ap length c.loop-heads.invariant.plain.same_tags
 
 pub shape_of-along : goal.shape_of-along
 shape_of-along c =
-    c.loop-left.invariant.plain.running.long
+    c.loop-heads.invariant.plain.running.long
 
 pub shape_of-x : goal.shape_of-x
 shape_of-x c =
-    (wrote_long c.loop-left.invariant.beside.wrote).0
+    (wrote_long c.loop-heads.invariant.beside.wrote).0
 
 pub shape_of-y : goal.shape_of-y
 shape_of-y c =
-    (wrote_long c.loop-left.invariant.beside.wrote).1
+    (wrote_long c.loop-heads.invariant.beside.wrote).1
 
 pub shape_of-back : goal.shape_of-back
 shape_of-back c =
-    (wrote_long c.loop-left.invariant.beside.wrote).2
+    (wrote_long c.loop-heads.invariant.beside.wrote).2
 
 pub returns : goal.returns
 returns c =
-    let e = running_done _ _ _ _ _ _ c.loop-left.invariant.plain.running c.loop-left-test.false in
-    let w = marking-done _ _ _ _ _ _ _ _ _ _ c.loop-left.invariant.beside c.loop-left-test.false in
-    record { answer = e.answers; heads = e.counts; glyphs = c.loop-left.invariant.plain.same_glyphs; tags = c.loop-left.invariant.plain.same_tags; along = e.leaves; x = w.xs; y = w.ys; back = w.backs }
+    let e = running_done _ _ _ _ _ _ c.loop-heads.invariant.plain.running (omega arith) in
+    let w = marking-done _ _ _ _ _ _ _ _ _ _ c.loop-heads.invariant.beside (omega arith) in
+    let all : c.args.list.count ≡ c.loop-heads.heads = omega arith in
+    record { answer = e.answers; heads = all ∙ e.counts; glyphs = c.loop-heads.invariant.plain.same_glyphs; tags = c.loop-heads.invariant.plain.same_tags; along = e.leaves; x = w.xs; y = w.ys; back = w.backs }

@@ -1,6 +1,6 @@
 use mathlib.Core.Path.{◌∙◌}
 use Rattle.kerx.proofs.Marking.{lent_none}
-use Rattle.kerx.proofs.Anchoring.{adds-here}
+use Rattle.kerx.proofs.Anchoring.{adds_here}
 use Rattle.kerx.proofs.work_in_run.Goals as goal
 
 pub returns-then-x-used : goal.returns-then-x-used
@@ -10,4 +10,4 @@ returns-then-x-used c =
 
 pub returns : goal.returns
 returns c =
-    record { along = c.work_with.ensures.along ∙ adds-here _ _ _ _ _ _ _ _; x = c.work_with.ensures.x; y = c.work_with.ensures.y; back = c.work_with.ensures.back }
+    record { along = c.work_with.ensures.along ∙ adds_here _ _ _ _ _ _ _ _; x = c.work_with.ensures.x; y = c.work_with.ensures.y; back = c.work_with.ensures.back }

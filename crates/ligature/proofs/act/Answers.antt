@@ -1,52 +1,36 @@
-use Rattle.ligature.proofs.Acting.{acting_since, acting_start, acting_out, acting_ended, acting_left, acting_number, acting_stops, acting_goes, stops_last, stops_spent, stops_not}
+use Prim.Native.Nat.{suc}
+use mathlib.Core.Path.{◌≡◌}
 use native.Mathlib.Omega.{arith}
+use borrow.Author.Tests.{lt-ltb}
+use Rattle.ligature.proofs.Acting.{acting_start, acting_out, acting_ended, acting_number, acting_stops}
 use Rattle.ligature.proofs.act.Goals as goal
+use Rattle.ligature.proofs.act.Goals.{else-loop-number-test, then-loop-number-test+in_default, then-loop-number-test+in-Some+in_ok-action+then-turn, then-turn-via-then-turn, then-turn-via-else-turn+then-cycles-gt-ACTIONS, then-loop-number-test+in-Some+in_ok-action+else-turn+else-cycles-gt-ACTIONS+else-number-lt65535}
 
-pub loop-at-init : goal.loop-at-init
-loop-at-init c = acting_start _ _ _ _ _ _ _ _ _ _ c.requires.1 c.ranges.first.fits
+pub loop-number-init : goal.loop-number-init
+loop-number-init c = acting_start _ _ _ _ _ c.requires.1 c.ranges.first.fits
 
-pub overflow_sub-slot : goal.overflow_sub-slot
-overflow_sub-slot c = omega (arith, c.loop-at-test.true)
+pub returns-in_err-action-clause-leaves : goal.returns-in_err-action-clause-leaves
+returns-in_err-action-clause-leaves c =
+    let h : c.loop-number.at ≡ suc c.in-Some.slot = omega (arith, c.in-Some.ensures) in
+    rw c.from_residual.ensures (acting_ended _ _ _ _ _ c.loop-number.invariant h c.action_of.ensures.action c.in_err-action.was)
 
-pub action_of-action-requires : goal.action_of-action-requires
-action_of-action-requires c = omega (arith, c.loop-at.invariant.small)
-
-pub returns-in_default : goal.returns-in_default
-returns-in_default c =
-    let e = acting_ended _ _ _ _ _ _ _ _ c.loop-at.invariant c.loop-at-test.true c.action_of-action.ensures.action c.turn_of.ensures (record { stored = c.make.ensures.stack; written = c.make.ensures.glyphs; joined = c.make.ensures.homes }) c.in_default.is in
-    record { did = e.answers; stack = e.stored; glyphs = e.written; homes = e.joined; bounds = (omega arith, acting_since _ _ _ _ _ _ _ _ c.loop-at.invariant, c.loop-at.invariant.spent) }
-
-pub returns-then-last : goal.returns-then-last
-returns-then-last c =
-    let e = acting_stops _ _ _ _ _ _ _ _ c.loop-at.invariant c.loop-at-test.true c.action_of-action.ensures.action c.turn_of.ensures (record { stored = c.make.ensures.stack; written = c.make.ensures.glyphs; joined = c.make.ensures.homes }) c.in-On.is (stops_last c.loop-at.cycles c.if-last.true) in
-    record { did = e.answers; stack = e.stored; glyphs = e.written; homes = e.joined; bounds = (omega (arith, acting_left _ _ _ _ _ _ _ _ c.loop-at.invariant c.loop-at-test.true c.action_of-action.ensures.action c.turn_of.ensures (record { stored = c.make.ensures.stack; written = c.make.ensures.glyphs; joined = c.make.ensures.homes }) c.in-On.is), acting_since _ _ _ _ _ _ _ _ c.loop-at.invariant, c.loop-at.invariant.spent) }
-
-pub returns-then-cycles-gt-ACTIONS : goal.returns-then-cycles-gt-ACTIONS
-returns-then-cycles-gt-ACTIONS c =
-    let e = acting_stops _ _ _ _ _ _ _ _ c.loop-at.invariant c.loop-at-test.true c.action_of-action.ensures.action c.turn_of.ensures (record { stored = c.make.ensures.stack; written = c.make.ensures.glyphs; joined = c.make.ensures.homes }) c.in-On.is (stops_spent c.if-last.false c.if-cycles-gt-ACTIONS.true) in
-    record { did = e.answers; stack = e.stored; glyphs = e.written; homes = e.joined; bounds = (omega (arith, acting_left _ _ _ _ _ _ _ _ c.loop-at.invariant c.loop-at-test.true c.action_of-action.ensures.action c.turn_of.ensures (record { stored = c.make.ensures.stack; written = c.make.ensures.glyphs; joined = c.make.ensures.homes }) c.in-On.is), acting_since _ _ _ _ _ _ _ _ c.loop-at.invariant, c.loop-at.invariant.spent) }
-
-pub overflow_add-number : goal.overflow_add-number
-overflow_add-number c =
-    let n = acting_number _ _ _ _ _ _ _ _ c.loop-at.invariant c.loop-at-test.true c.action_of-action.ensures.action c.turn_of.ensures (record { stored = c.make.ensures.stack; written = c.make.ensures.glyphs; joined = c.make.ensures.homes }) c.in-On.is in
-    omega (arith, n)
-
-pub overflow_add-cycles : goal.overflow_add-cycles
-overflow_add-cycles c = omega (arith, c.if-cycles-gt-ACTIONS.false)
-
-pub loop-at-smaller : goal.loop-at-smaller
-loop-at-smaller c = omega (arith, c.if-cycles-gt-ACTIONS.false)
-
-pub loop-at-preserved : goal.loop-at-preserved
-loop-at-preserved c =
-    acting_goes _ _ _ _ _ _ _ _ c.loop-at.invariant c.loop-at-test.true c.action_of-action.ensures.action c.turn_of.ensures (record { stored = c.make.ensures.stack; written = c.make.ensures.glyphs; joined = c.make.ensures.homes }) c.in-On.is (stops_not c.if-last.false c.if-cycles-gt-ACTIONS.false) c.if-cycles-gt-ACTIONS.false c.action_of-action.ensures.sum c.make.auto.glyphs c.make.auto.homes
-
-pub shape_of-glyphs : goal.shape_of-glyphs
-shape_of-glyphs c = c.loop-at.invariant.long
-
-pub shape_of-homes : goal.shape_of-homes
-shape_of-homes c = c.loop-at.invariant.all
-
-pub returns : goal.returns
-returns c = let e = acting_out _ _ _ _ _ _ _ _ c.loop-at.invariant c.loop-at-test.false in
-    record { did = e.answers; stack = e.stored; glyphs = e.written; homes = e.joined; bounds = (c.loop-at.invariant.within, acting_since _ _ _ _ _ _ _ _ c.loop-at.invariant, c.loop-at.invariant.spent) }
+pub returns-clause-leaves : goal.returns-clause-leaves
+returns-clause-leaves c =
+    elim c.loop-number-test.branch [
+      | else-loop-number-test w ↦ absurd (omega (arith, c.loop-number.invariant.counted))
+      | then-loop-number-test+in_default w ↦
+          let z : c.loop-number.at ≡ 0 = omega (arith, w.in_default.ensures) in
+          rw (w.stack-is, w.glyphs-is, w.homes-is, w.at-is, w.cycles-is) (acting_out _ _ _ _ _ c.loop-number.invariant z)
+      | then-loop-number-test+in-Some+in_ok-action+then-turn w ↦
+          let h : c.loop-number.at ≡ suc w.in-Some.slot = omega (arith, w.in-Some.ensures) in
+          rw (w.stack-is, w.glyphs-is, w.homes-is, w.at-is, w.cycles-is)
+          (acting_stops _ _ _ _ _ c.loop-number.invariant h w.action_of.ensures.action w.in_ok-action.was w.turn_of-turn.ensures w.make.ensures
+          (elim w.then-turn.branch [
+            | then-turn-via-then-turn v ↦ rw v.if-turn.true
+            | then-turn-via-else-turn+then-cycles-gt-ACTIONS v ↦ rw (v.if-turn.false, lt-ltb 32 _ v.if-cycles-gt-ACTIONS.true)
+          ]))
+      | then-loop-number-test+in-Some+in_ok-action+else-turn+else-cycles-gt-ACTIONS+else-number-lt65535 w ↦
+          let h : c.loop-number.at ≡ suc w.in-Some.slot = omega (arith, w.in-Some.ensures) in
+          absurd
+          (acting_number _ _ _ _ _ c.loop-number.invariant h w.action_of.ensures.action w.in_ok-action.was w.turn_of-turn.ensures w.make.ensures (omega arith))
+    ]

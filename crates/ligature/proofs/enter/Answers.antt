@@ -1,30 +1,25 @@
-use Rattle.ligature.proofs.Entering.{entered-full, entered_bare, entered-acts}
-use mathlib.Core.Path.{sym, ◌∙◌}
-use native.Mathlib.Omega.{arith}
 use Rattle.line.specs.Line.{line_of}
-use mathlib.Core.Path.{ap}
-use mathlib.Core.Bool.{not}
+use Rattle.ligature.proofs.Entering.{Ready, push_none, push_full, push_room, entered_full, entered_bare, entered_acts}
 use Rattle.ligature.proofs.enter.Goals as goal
+use Rattle.ligature.proofs.enter.Goals.{then-is_set+in_ok-push, else-is_set}
 
-pub returns-then-overflows : goal.returns-then-overflows
-returns-then-overflows c =
-    let e = entered-full (line_of _ _ _ _) _ _ _ _ _ _ _ _ c.is_set-sets.ensures c.overflows.ensures c.if-overflows.true in
-    record { did = e.answers; places = e.placed; stack = e.stored; glyphs = e.written; homes = e.joined; bounds = (c.requires.0, omega arith, c.requires.1) }
+pub returns-in_err-push-clause-leaves : goal.returns-in_err-push-clause-leaves
+returns-in_err-push-clause-leaves c =
+    let o = push_full c.args.stack.now c.args.index c.args.glyph c.if-is_set.true c.push.ensures.full c.push.ensures.stack c.in_err-push.was in
+    rw (c.from_residual.ensures, o.1) (entered_full (line_of _ _ _ _) _ _ _ _ _ _ c.is_set.ensures o.0)
 
-pub push-deep-requires : goal.push-deep-requires
-push-deep-requires c =
-    (sym c.overflows.ensures ∙ c.if-overflows.false, c.requires.0)
+pub returns-then-not-is_set-clause-leaves : goal.returns-then-not-is_set-clause-leaves
+returns-then-not-is_set-clause-leaves c =
+    let ready : Ready c.args.stack.now c.args.index c.args.glyph c.is_set.result c.if-is_set.stack = elim c.if-is_set.branch [
+      | then-is_set+in_ok-push w ↦ push_room _ _ _ w.if-is_set.true w.push.ensures.full w.push.ensures.stack w.in_ok-push.was w.stack-is
+      | else-is_set w ↦ push_none _ _ _ w.if-is_set.false w.stack-is
+    ] in
+    entered_bare (line_of _ _ _ _) _ _ _ _ _ _ c.is_set.ensures ready c.is_set-2.ensures c.if-not-is_set.true
 
-pub returns-then-not-is_set : goal.returns-then-not-is_set
-returns-then-not-is_set c =
-    let e = entered_bare (line_of _ _ _ _) _ _ _ _ _ _ _ _ c.is_set-sets.ensures c.overflows.ensures c.if-overflows.false c.push-deep.ensures.depth c.push-deep.ensures.places c.push-deep.ensures.stack c.is_set.ensures (ap not c.if-not-is_set.true) in
-    record { did = e.answers; places = e.placed; stack = e.stored; glyphs = e.written; homes = e.joined; bounds = (c.push-deep.ensures.bound, omega arith, c.requires.1) }
-
-pub act-requires : goal.act-requires
-act-requires c =
-    omega (arith, c.push-deep.ensures.bound)
-
-pub returns : goal.returns
-returns c =
-    let e = entered-acts (line_of _ _ _ _) _ _ _ _ _ _ _ _ c.is_set-sets.ensures c.overflows.ensures c.if-overflows.false c.push-deep.ensures.depth c.push-deep.ensures.places c.push-deep.ensures.stack c.is_set.ensures (ap not c.if-not-is_set.false) c.one_number-number.ensures c.act.ensures.did c.act.ensures.stack c.act.ensures.glyphs c.act.ensures.homes in
-    record { did = e.answers; places = e.placed; stack = e.stored; glyphs = e.written; homes = e.joined; bounds = (omega (arith, c.push-deep.ensures.bound, c.act.ensures.bounds.0), c.act.ensures.bounds.1, c.act.ensures.bounds.2) }
+pub returns-clause-leaves : goal.returns-clause-leaves
+returns-clause-leaves c =
+    let ready : Ready c.args.stack.now c.args.index c.args.glyph c.is_set.result c.if-is_set.stack = elim c.if-is_set.branch [
+      | then-is_set+in_ok-push w ↦ push_room _ _ _ w.if-is_set.true w.push.ensures.full w.push.ensures.stack w.in_ok-push.was w.stack-is
+      | else-is_set w ↦ push_none _ _ _ w.if-is_set.false w.stack-is
+    ] in
+    entered_acts (line_of _ _ _ _) _ _ _ _ _ _ c.is_set.ensures ready c.is_set-2.ensures c.if-not-is_set.false c.one_number-number.ensures c.act.ensures.leaves

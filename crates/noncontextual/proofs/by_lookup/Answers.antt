@@ -1,16 +1,6 @@
-use native.Mathlib.Omega.{arith}
-use Rattle.noncontextual.proofs.Passes.{going_start, going_found, going_done, opened_inside}
+use Rattle.std.proofs.Common.{rules}
+use Rattle.noncontextual.proofs.Passes.{passed_each, opened_becomes, found_or}
 use Rattle.noncontextual.proofs.by_lookup.Goals as goal
 
-pub loop-place-init : goal.loop-place-init
-loop-place-init c = going_start _ _ _ _ _
-
-pub replace-requires : goal.replace-requires
-replace-requires c = (opened_inside _ c.open-opened.ensures, omega arith)
-
-pub loop-place-preserved : goal.loop-place-preserved
-loop-place-preserved c =
-    going_found _ _ _ _ _ c.open-opened.ensures c.loop-place.invariant c.loop-place-test.true c.replace.ensures c.replace.auto.glyphs
-
 pub returns : goal.returns
-returns c = going_done _ _ _ _ _ c.loop-place.invariant c.loop-place-test.false
+returns c = passed_each _ _ _ _ _ c.requires (search rules) (λ k h. let t = c.each.ensures.told k h in search (rules, found_or, opened_becomes)) c.each.ensures.kept

@@ -1,17 +1,17 @@
-use native.Mathlib.Omega.{arith}
+use Rattle.std.proofs.Common.{◌<◌, ◌≢◌, length, arith, get_or-set_other, get_or-set_same, below_more, refl}
 use Rattle.noncontextual.proofs.Memos.{nothing_remembered, still_remembers}
-use Rattle.noncontextual.proofs.Passes.{going_start, going_becomes, going_done}
 use Rattle.noncontextual.proofs.by_records.Goals as goal
 
 pub loop-place-init : goal.loop-place-init
-loop-place-init c = (going_start _ _ _ _ _, nothing_remembered)
-
-pub remembered-becomes-requires : goal.remembered-becomes-requires
-remembered-becomes-requires c =
-    (c.requires.0, c.loop-place.invariant.1)
+loop-place-init c = (λ k h. absurd (omega arith), λ k h. refl, nothing_remembered)
 
 pub loop-place-preserved : goal.loop-place-preserved
-loop-place-preserved c = (going_becomes _ _ _ _ _ c.loop-place.invariant.0 c.loop-place-test.true c.remembered-becomes.ensures.becomes, still_remembers c.loop-place.invariant.1 c.remembered-becomes.ensures.becomes (omega (arith, c.remembered-becomes.type_inv)) c.remembered-becomes.ensures.memo)
-
-pub returns : goal.returns
-returns c = going_done _ _ _ _ _ c.loop-place.invariant.0 c.loop-place-test.false
+loop-place-preserved c =
+    let place = c.loop-place.place in
+    let known = c.loop-place.invariant in (
+      below_more _ _
+          (λ k h. let ne : k ≢ place = omega arith in rw get_or-set_other (known.0 k h))
+          (let lt : place < length c.loop-place.glyphs = omega arith in rw (get_or-set_same, ← known.1 place (omega arith)) c.remembered.ensures.becomes),
+      λ k h. let ne : k ≢ place = omega arith in rw get_or-set_other (known.1 k (omega arith)),
+      still_remembers known.2 c.remembered.ensures.becomes c.remembered.type_inv c.remembered.ensures.memo,
+    )

@@ -1,11 +1,9 @@
-use Prim.Native.Nat.{◌-◌}
-use Rattle.tables.specs.Lookup.{lookup_at}
+use Rattle.std.proofs.Common.{◌≡◌, ℕ, ◌<◌, ◌≤◌, get_or}
 use Rattle.noncontextual.specs.Work.{becomes_by, Remembers}
-use Rattle.noncontextual.proofs.Passes.{Going}
 use Rattle.noncontextual.proofs.by_records.Given as goal
 
 abbrev pub invariant-loop-place : goal.invariant-loop-place
-invariant-loop-place l = Going (lookup_at l.body) l.initial.glyphs l.tags l.homes l.used l.glyphs l.place × Remembers (becomes_by l.body) l.memo
-
-abbrev pub decreases-loop-place : goal.decreases-loop-place
-decreases-loop-place l = l.used - l.place
+invariant-loop-place l =
+    ((k : ℕ) → k < l.place → get_or l.glyphs k 0 ≡ becomes_by l.body (get_or l.initial.glyphs k 0))
+    × ((k : ℕ) → l.place ≤ k → get_or l.glyphs k 0 ≡ get_or l.initial.glyphs k 0)
+    × Remembers (becomes_by l.body) l.memo

@@ -1,10 +1,6 @@
-use Prim.Native.Nat.{◌-◌, ◌^◌}
-use Rattle.pairs.specs.Pairs.{pair_number}
-use Rattle.pairs.proofs.Passes.{sized, Stretching}
+use Prim.Native.Nat.{◌^◌}
+use Rattle.pairs.proofs.Passes.{Stretching}
 use Rattle.pairs.proofs.add_each.Given as goal
 
 abbrev pub invariant-loop-place : goal.invariant-loop-place
-invariant-loop-place l = Stretching (pair_number l.bytes l.pairs) l.glyphs (sized l.bytes l.pairs) l.before l.from l.stop (2 ^ 61) l.initial.along l.along l.left l.place
-
-abbrev pub decreases-loop-place : goal.decreases-loop-place
-decreases-loop-place l = l.stop - l.place
+invariant-loop-place g l = Stretching (goal.F-post g l.number) l.glyphs l.before l.from l.stop (2 ^ 61) l.initial.along l.along l.left l.place

@@ -1,10 +1,7 @@
-use Prim.Native.Nat.{◌-◌}
-use lib.ListN.{length}
-use Rattle.reel.proofs.Adding.{Taking}
+use Prim.Native.Nat.{◌+◌}
+use mathlib.Core.Path.{◌≡◌}
+use Rattle.reel.specs.Parts.{place_of}
 use Rattle.reel.proofs.adds_up.Given as goal
 
-abbrev pub invariant-loop-i : goal.invariant-loop-i
-invariant-loop-i l = Taking l.sizes l.slice l.left l.i
-
-abbrev pub decreases-loop-i : goal.decreases-loop-i
-decreases-loop-i l = length l.sizes - l.i
+abbrev pub invariant-loop-size : goal.invariant-loop-size
+invariant-loop-size l = place_of l.sizes l.size-index + l.left ≡ l.slice

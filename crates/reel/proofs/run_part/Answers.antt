@@ -1,6 +1,12 @@
-use Rattle.reel.proofs.Calls.{part_ran}
+use Rattle.line.specs.Line.{Line}
+use Rattle.reel.proofs.Calls.{part_reply, part_left}
 use Rattle.reel.proofs.run_part.Goals as goal
 
 pub returns : goal.returns
 returns c =
-    record { reply = (part_ran _ _ _ _ _ _ _ _ _ c.run.ensures.reply c.run.ensures.glyphs c.run.ensures.tags c.run.ensures.homes).0; glyphs = (part_ran _ _ _ _ _ _ _ _ _ c.run.ensures.reply c.run.ensures.glyphs c.run.ensures.tags c.run.ensures.homes).1.0; tags = (part_ran _ _ _ _ _ _ _ _ _ c.run.ensures.reply c.run.ensures.glyphs c.run.ensures.tags c.run.ensures.homes).1.1.0; homes = (part_ran _ _ _ _ _ _ _ _ _ c.run.ensures.reply c.run.ensures.glyphs c.run.ensures.tags c.run.ensures.homes).1.1.1 }
+    record {
+      reply = part_reply _ _ _ _ _ _ _ _ _ c.run.ensures.reply;
+      glyphs = part_left _ _ _ _ _ _ _ _ _ _ _ _ (λ (l : Line). l.glyphs) c.run.ensures.glyphs;
+      tags = part_left _ _ _ _ _ _ _ _ _ _ _ _ (λ (l : Line). l.tags) c.run.ensures.tags;
+      homes = part_left _ _ _ _ _ _ _ _ _ _ _ _ (λ (l : Line). l.homes) c.run.ensures.homes;
+    }

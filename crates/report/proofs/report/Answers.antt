@@ -2,8 +2,8 @@ use mathlib.Core.Path.{sym, ◌∙◌}
 use Rattle.report.proofs.Calls.{refused_leaves, is_ready_lem, passed-leaves}
 use Rattle.report.proofs.report.Goals as goal
 
-pub returns-in-Refused : goal.returns-in-Refused
-returns-in-Refused c = record { answer = (refused_leaves _ _ c.refuse_report.ensures c.in-Refused.is).0; sums = (refused_leaves _ _ c.refuse_report.ensures c.in-Refused.is).1.0; largest = (refused_leaves _ _ c.refuse_report.ensures c.in-Refused.is).1.1.0; smallest = (refused_leaves _ _ c.refuse_report.ensures c.in-Refused.is).1.1.1.0; totals = (refused_leaves _ _ c.refuse_report.ensures c.in-Refused.is).1.1.1.1 }
+pub returns-in-Err : goal.returns-in-Err
+returns-in-Err c = record { answer = (refused_leaves _ _ c.refuse_report.ensures c.in-Err.is).0; sums = (refused_leaves _ _ c.refuse_report.ensures c.in-Err.is).1.0; largest = (refused_leaves _ _ c.refuse_report.ensures c.in-Err.is).1.1.0; smallest = (refused_leaves _ _ c.refuse_report.ensures c.in-Err.is).1.1.1.0; totals = (refused_leaves _ _ c.refuse_report.ensures c.in-Err.is).1.1.1.1 }
 
 pub write_page-requires : goal.write_page-requires
 write_page-requires c =

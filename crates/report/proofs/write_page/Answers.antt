@@ -21,12 +21,12 @@ pub sum_of-line_sum-requires : goal.sum_of-line_sum-requires
 sum_of-line_sum-requires c =
     sum_may _ _ _ _ _ _ c.loop-line.invariant c.loop-line-test.true
 
-pub largest_of-line_most-requires : goal.largest_of-line_most-requires
-largest_of-line_most-requires c =
+pub extreme_of-line_most-requires : goal.extreme_of-line_most-requires
+extreme_of-line_most-requires c =
     choose_may _ _ _ _ _ _ c.loop-line.invariant c.loop-line-test.true
 
-pub smallest_of-line_least-requires : goal.smallest_of-line_least-requires
-smallest_of-line_least-requires c =
+pub extreme_of-line_least-requires : goal.extreme_of-line_least-requires
+extreme_of-line_least-requires c =
     choose_may _ _ _ _ _ _ c.loop-line.invariant c.loop-line-test.true
 
 pub sum-total-requires : goal.sum-total-requires
@@ -37,12 +37,14 @@ pub loop-line-preserved : goal.loop-line-preserved
 loop-line-preserved c =
     filled_next _ _ _ _ _ _ c.loop-line.invariant c.loop-line-test.true
     c.sum_of-line_sum.ensures
-    c.largest_of-line_most.ensures
-    c.smallest_of-line_least.ensures
+    c.extreme_of-line_most.ensures
+    c.extreme_of-line_least.ensures
     c.sum-total.ensures
-    c.largest_beside-most.ensures
-    c.smallest_beside-least.ensures
+    c.extreme_beside-most.ensures
+    c.extreme_beside-least.ensures
     c.has_some-some.ensures
 
 pub returns : goal.returns
-returns c = record { sums = (filled_all _ _ _ _ _ _ c.loop-line.invariant c.loop-line-test.false).0; largest = (filled_all _ _ _ _ _ _ c.loop-line.invariant c.loop-line-test.false).1.0; smallest = (filled_all _ _ _ _ _ _ c.loop-line.invariant c.loop-line-test.false).1.1.0; totals = (filled_all _ _ _ _ _ _ c.loop-line.invariant c.loop-line-test.false).1.1.1 }
+returns c =
+    let all = filled_all _ _ _ _ _ _ c.loop-line.invariant c.loop-line-test.false in
+    record { sums = all.0; largest = all.1.0; smallest = all.1.1.0; totals = all.1.1.1 }

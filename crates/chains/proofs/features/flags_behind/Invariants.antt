@@ -1,9 +1,9 @@
+use mathlib.Core.Path.{◌≡◌}
 use Rattle.chains.specs.Features.{flags_behind}
-use Rattle.chains.proofs.Switching.{Switching}
 use Rattle.chains.proofs.features.flags_behind.Given as goal
 
-abbrev pub invariant-loop-list : goal.invariant-loop-list
-invariant-loop-list l = Switching l.table l.requests (flags_behind l.table l.initial.list l.initial.switched l.requests) l.list l.switched
+abbrev pub invariant-loop-feature : goal.invariant-loop-feature
+invariant-loop-feature l = flags_behind l.table l.list l.switched l.requests ≡ flags_behind l.table l.initial.list l.initial.switched l.requests
 
-abbrev pub decreases-loop-list : goal.decreases-loop-list
-decreases-loop-list l = l.list.left
+abbrev pub decreases-loop-feature : goal.decreases-loop-feature
+decreases-loop-feature l = l.list.left

@@ -10,50 +10,33 @@ returns-then-idle c =
     let e = next-idle _ _ _ _ _ _ _ c.idle.ensures _ _ c.if-idle.true in
     record { step = e.answers; memo = c.requires.2; glyphs = e.left }
 
-pub loop-left-init : goal.loop-left-init
-loop-left-init c =
+pub loop-entry-init : goal.loop-entry-init
+loop-entry-init c =
     running_start _ _ _ _ _ _ _ _ _ _ _ c.requires.2
 
 pub class_by-class-requires : goal.class_by-class-requires
 class_by-class-requires c =
-    (c.requires.1, c.loop-left.invariant.memory)
-
-pub shape_of-glyphs-in_default : goal.shape_of-glyphs-in_default
-shape_of-glyphs-in_default c =
-    omega (arith, c.loop-left.invariant.long)
+    (c.requires.1, c.loop-entry.invariant.memory)
 
 pub returns-in_default : goal.returns-in_default
 returns-in_default c =
-    let e = next-over _ _ _ _ _ _ _ c.idle.ensures c.if-idle.false c.begun-state.ensures (running_ended _ _ _ _ _ _ _ c.loop-left.invariant c.loop-left-test.true c.class_by-class.ensures.class c.entry_of.ensures c.in_default.is) in
+    let e = next-over _ _ _ _ _ _ _ c.idle.ensures c.if-idle.false c.begun-state.ensures (running_ended _ _ _ _ _ _ _ c.loop-entry.invariant (omega arith) c.class_by-class.ensures.class c.entry_of.ensures c.in_default.is) in
     record { step = e.answers; memo = c.class_by-class.ensures.memo; glyphs = e.left }
 
 pub act-acted-requires : goal.act-acted-requires
-act-acted-requires c = entry_payload _ _ _ _ _ c.entry_of.ensures c.in-At.is
-
-pub replace-requires : goal.replace-requires
-replace-requires c =
-    omega (arith, c.requires.0, c.loop-left.invariant.long)
-
-pub replace-requires-in-loop-left : goal.replace-requires-in-loop-left
-replace-requires-in-loop-left c =
-    omega (arith, c.requires.0, c.loop-left.invariant.long, c.replace.auto.glyphs)
-
-pub shape_of-glyphs-then-not-is_set : goal.shape_of-glyphs-then-not-is_set
-shape_of-glyphs-then-not-is_set c =
-    omega (arith, c.loop-left.invariant.long, c.replace.auto.glyphs, c.replace-in-loop-left.auto.glyphs)
+act-acted-requires c = entry_payload _ _ _ _ _ c.entry_of.ensures c.in-Some.is
 
 pub returns-then-not-is_set : goal.returns-then-not-is_set
 returns-then-not-is_set c =
-    let e = next-over _ _ _ _ _ _ _ c.idle.ensures c.if-idle.false c.begun-state.ensures (running_stops _ _ _ _ _ _ _ c.loop-left.invariant c.loop-left-test.true c.class_by-class.ensures.class c.entry_of.ensures c.in-At.is c.act-acted.ensures c.replace.ensures c.replace-in-loop-left.ensures c.is_set.ensures (ap not c.if-not-is_set.true)) in
+    let e = next-over _ _ _ _ _ _ _ c.idle.ensures c.if-idle.false c.begun-state.ensures (running_stops _ _ _ _ _ _ _ c.loop-entry.invariant (omega arith) c.class_by-class.ensures.class c.entry_of.ensures c.in-Some.is c.act-acted.ensures c.replace.ensures c.replace-in-loop-entry.ensures c.is_set.ensures (ap not c.if-not-is_set.true)) in
     record { step = e.answers; memo = c.class_by-class.ensures.memo; glyphs = e.left }
 
-pub loop-left-preserved : goal.loop-left-preserved
-loop-left-preserved c = search running_goes
-
-pub shape_of-glyphs : goal.shape_of-glyphs
-shape_of-glyphs c = omega (arith, c.loop-left.invariant.long)
+pub loop-entry-preserved : goal.loop-entry-preserved
+loop-entry-preserved c =
+    running_goes _ _ _ _ _ _ _ c.loop-entry.invariant (omega arith) c.class_by-class.ensures.class c.entry_of.ensures c.in-Some.is c.act-acted.ensures c.replace.ensures c.replace-in-loop-entry.ensures c.is_set.ensures
+    (omega arith) (ap not c.if-not-is_set.false) c.class_by-class.ensures.memo c.replace.auto.glyphs c.replace-in-loop-entry.auto.glyphs
 
 pub returns : goal.returns
 returns c =
-    let e = next-over _ _ _ _ _ _ _ c.idle.ensures c.if-idle.false c.begun-state.ensures (running_out _ _ _ _ _ _ _ c.loop-left.invariant c.loop-left-test.false) in
-    record { step = e.answers; memo = c.loop-left.invariant.memory; glyphs = e.left }
+    let e = next-over _ _ _ _ _ _ _ c.idle.ensures c.if-idle.false c.begun-state.ensures (running_out _ _ _ _ _ _ _ c.loop-entry.invariant (omega arith)) in
+    record { step = e.answers; memo = c.loop-entry.invariant.memory; glyphs = e.left }

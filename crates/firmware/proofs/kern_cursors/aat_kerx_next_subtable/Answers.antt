@@ -7,5 +7,5 @@ use Rattle.kerx.specs.Kerx.{kerx}
 use Rattle.firmware.proofs.kern_cursors.aat_kerx_next_subtable.Goals as goal
 
 pub returns : goal.returns
-returns c = let e = next-after kerx _ _ c.cursor_from-given.ensures c.next_subtable.ensures in
+returns c = let e = next-after kerx _ _ c.cursor_from.ensures c.next_subtable.ensures in
     record { answer = numbered reply_answer e c.put_next.ensures.answer; cursor = leaves reply_cursor _ e c.put_next.ensures.cursor; fields = leaves reply_fields _ e c.put_next.ensures.fields }

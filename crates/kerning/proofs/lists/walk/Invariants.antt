@@ -3,7 +3,6 @@ use Rattle.kerning.proofs.Walking.{Walking}
 use Rattle.kerning.proofs.lists.walk.Given as goal
 
 abbrev pub invariant-loop-left : goal.invariant-loop-left
-invariant-loop-left l = Walking l.bytes l.rule l.stride l.stack l.used (walk l.bytes l.rule l.stride l.stack l.used l.depth l.place) l.initial.along l.along l.left l.next
-
-abbrev pub decreases-loop-left : goal.decreases-loop-left
-decreases-loop-left l = l.left
+invariant-loop-left g l =
+    Walking l.bytes (g.R.EndRule.rule l.rule) l.stride l.stack l.used (walk l.bytes (g.R.EndRule.rule l.rule) l.stride l.stack l.used l.depth l.place)
+    l.initial.along l.along l.left l.next

@@ -1,10 +1,6 @@
-use Prim.Native.Nat.{◌-◌}
 use Rattle.line.specs.Changes.{numbers_from}
 use Rattle.line.proofs.Loops.{Pasting}
 use Rattle.line.proofs.edits.number.Given as goal
 
 abbrev pub invariant-loop-k : goal.invariant-loop-k
 invariant-loop-k l = Pasting l.initial.part l.at (numbers_from l.first l.count) l.count l.part l.k
-
-abbrev pub decreases-loop-k : goal.decreases-loop-k
-decreases-loop-k l = l.count - l.k

@@ -1,4 +1,3 @@
-use Prim.Native.Nat.{◌≤◌, ◌-◌}
 use mathlib.Core.Path.{◌≡◌}
 use lib.Dec.{eqb}
 use lib.ListN.{get_or}
@@ -6,7 +5,4 @@ use Rattle.laws.specs.Lists.{every}
 use Rattle.line.proofs.valid.in_order.Given as goal
 
 abbrev pub invariant-loop-p : goal.invariant-loop-p
-invariant-loop-p l = (l.p ≤ l.used) × (l.all ≡ every (λ i. eqb (get_or l.tags i 0) i) l.p)
-
-abbrev pub decreases-loop-p : goal.decreases-loop-p
-decreases-loop-p l = l.used - l.p
+invariant-loop-p l = l.all ≡ every (λ i. eqb (get_or l.tags i 0) i) l.p

@@ -1,9 +1,5 @@
 use Rattle.stored.proofs.Tests.{Housing}
-use Prim.Native.Nat.{◌-◌}
 use Rattle.stored.proofs.reading.housed.Given as goal
 
 abbrev pub invariant-loop-c : goal.invariant-loop-c
 invariant-loop-c l = Housing l.bytes l.used l.characters l.c
-
-abbrev pub decreases-loop-c : goal.decreases-loop-c
-decreases-loop-c l = l.characters - l.c

@@ -1,11 +1,7 @@
 use Rattle.stored.proofs.Written.{Filling}
 use Rattle.stored.specs.Record.{home_bytes}
 use lib.ListN.{length}
-use Prim.Native.Nat.{◌-◌}
 use Rattle.stored.proofs.writing.put_homes.Given as goal
 
 abbrev pub invariant-loop-c : goal.invariant-loop-c
 invariant-loop-c l = Filling l.initial.buffer l.at (home_bytes l.homes) (length l.homes) l.buffer l.c
-
-abbrev pub decreases-loop-c : goal.decreases-loop-c
-decreases-loop-c l = length l.homes - l.c

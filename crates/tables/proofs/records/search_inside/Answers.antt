@@ -6,25 +6,24 @@ use Rattle.tables.proofs.records.search_inside.Goals as goal
 
 pub loop-lo-init : goal.loop-lo-init
 unfolding searched
-loop-lo-init c = going_start _ _
-
-pub pair_at-pair-requires : goal.pair_at-pair-requires
-pair_at-pair-requires c = omega (arith, c.loop-lo.invariant.within)
+loop-lo-init c = (omega arith, going_start _ _)
 
 pub loop-lo-preserved-then-key-pair : goal.loop-lo-preserved-then-key-pair
-loop-lo-preserved-then-key-pair c =
-    going_left c.loop-lo.invariant c.loop-lo-test.true
-    (pair_left _ _ _ _ (omega (arith, c.loop-lo.invariant.within)) c.pair_at-pair.ensures c.if-key-pair.true)
+loop-lo-preserved-then-key-pair c = (
+  omega (arith, c.loop-lo.invariant.0),
+  going_left c.loop-lo.invariant.1 c.loop-lo-test.true (pair_left _ _ _ _ (omega (arith, c.loop-lo.invariant.0)) c.pair_at-pair.ensures c.if-key-pair.true),
+)
 
 pub loop-lo-preserved : goal.loop-lo-preserved
-loop-lo-preserved c =
-    going_right c.loop-lo.invariant c.loop-lo-test.true
-    (pair_right _ _ _ _ (omega (arith, c.loop-lo.invariant.within)) c.pair_at-pair.ensures c.if-pair-key.true)
+loop-lo-preserved c = (
+  c.loop-lo.invariant.0,
+  going_right c.loop-lo.invariant.1 c.loop-lo-test.true (pair_right _ _ _ _ (omega (arith, c.loop-lo.invariant.0)) c.pair_at-pair.ensures c.if-pair-key.true),
+)
 
 pub returns-else-pair-key : goal.returns-else-pair-key
 returns-else-pair-key c =
-    going_here c.loop-lo.invariant c.loop-lo-test.true
-    (pair_here _ _ _ _ (omega (arith, c.loop-lo.invariant.within)) c.pair_at-pair.ensures c.if-key-pair.false c.if-pair-key.false)
+    going_here c.loop-lo.invariant.1 c.loop-lo-test.true
+    (pair_here _ _ _ _ (omega (arith, c.loop-lo.invariant.0)) c.pair_at-pair.ensures c.if-key-pair.false c.if-pair-key.false)
 
 pub returns : goal.returns
-returns c = going_done c.loop-lo.invariant c.loop-lo-test.false
+returns c = going_done c.loop-lo.invariant.1 c.loop-lo-test.false

@@ -1,34 +1,24 @@
+use Rattle.std.proofs.Common.{rules}
+use mathlib.Core.Logic.{⊎_elim}
+use mathlib.Core.Path.{◌≡◌, sym, ◌∙◌}
 use Rattle.tables.specs.Lookup.{element_in}
-use native.Mathlib.Omega.{arith}
-use mathlib.Core.Path.{sym, ◌∙◌}
 use Rattle.tables.specs.Search.{side_of, side_of_record, searched}
-use Rattle.tables.proofs.Halving.{going_start, going_left, going_right, going_here, going_cut, going_done}
+use Rattle.tables.specs.declared.records.Keys.TheVariants.{Glyphs}
 use Rattle.tables.proofs.Wholeness.{records_lie, record_lies, sought_spot}
 use Rattle.tables.proofs.whole.sought.Goals as goal
 
-pub loop-lo-init : goal.loop-lo-init
-unfolding searched side_of side_of_record
-loop-lo-init c = going_start _ _
+pub halve-spot-requires : goal.halve-spot-requires
+halve-spot-requires c = λ i h. let lies = record_lies c.args.records.kind h (records_lie _ c.requires).inside in search rules
 
-pub side_of-side-requires : goal.side_of-side-requires
-side_of-side-requires c = record_lies c.args.kind (omega arith) (records_lie _ c.requires).inside
+pub returns-in-At : goal.returns-in-At
+unfolding searched side_of element_in
+returns-in-At c =
+    c.by_record.ensures
+    ∙ sought_spot _ c.requires _ (sym c.in-At.is ∙ c.halve-spot.ensures (side_of_record c.args.bytes.now 12 c.args.records.kind c.args.glyph) (λ i s h p. search rules))
 
-pub loop-lo-preserved-in-Left : goal.loop-lo-preserved-in-Left
-loop-lo-preserved-in-Left c = going_left c.loop-lo.invariant c.loop-lo-test.true (sym c.side_of-side.ensures ∙ c.in-Left.is)
-
-pub loop-lo-preserved : goal.loop-lo-preserved
-loop-lo-preserved c = going_right c.loop-lo.invariant c.loop-lo-test.true (sym c.side_of-side.ensures ∙ c.in-Right.is)
-
-pub returns-in-Here : goal.returns-in-Here
-unfolding element_in
-returns-in-Here c =
-    c.by_record.ensures ∙ sought_spot _ c.requires _ (going_here c.loop-lo.invariant c.loop-lo-test.true (sym c.side_of-side.ensures ∙ c.in-Here.is))
-
-pub returns-in-Cut : goal.returns-in-Cut
-unfolding element_in
-returns-in-Cut c =
-    sought_spot _ c.requires _ (going_cut c.loop-lo.invariant c.loop-lo-test.true (sym c.side_of-side.ensures ∙ c.in-Cut.is))
-
-pub returns : goal.returns
-unfolding element_in
-returns c = sought_spot _ c.requires _ (going_done c.loop-lo.invariant c.loop-lo-test.false)
+pub returns-in-Absent : goal.returns-in-Absent
+unfolding searched side_of element_in
+returns-in-Absent c =
+    let found : c.halve-spot.result ≡ searched c.args.bytes.now 12 (Glyphs c.args.records.kind) c.args.records.count c.args.glyph =
+    c.halve-spot.ensures (side_of_record c.args.bytes.now 12 c.args.records.kind c.args.glyph) (λ i s h p. search rules) in
+    ⊎_elim (λ e. sought_spot _ c.requires _ (sym e ∙ found)) (λ e. sought_spot _ c.requires _ (sym e ∙ found)) c.in-Absent.is

@@ -1,6 +1,0 @@
-use mathlib.Core.Path.{ap, ◌∙◌}
-use Rattle.answers.specs.Numbers.{number_of}
-use Rattle.firmware.proofs.aat_contextual_pass.Goals as goal
-
-pub returns : goal.returns
-returns c = record { answer = c.number.ensures ∙ ap number_of c.pass.ensures.answer; glyphs = c.pass.ensures.glyphs }

@@ -1,7 +1,0 @@
-use Rattle.answers.specs.Numbers.{number_of}
-use mathlib.Core.Path.{ap, ◌∙◌}
-use Rattle.firmware.proofs.aat_ligature_pass.Goals as goal
-
-pub returns : goal.returns
-returns c =
-    record { answer = c.number.ensures ∙ ap number_of c.pass.ensures.answer; glyphs = c.pass.ensures.glyphs; homes = c.pass.ensures.homes }

@@ -1,5 +1,0 @@
-use Rattle.firmware.proofs.cursors.put_subtable.Goals as goal
-
-pub returns : goal.returns
-returns c =
-    record { cursor = rw c.in-At.is (c.put_cursor.ensures); fields = rw c.in-At.is (rw c.order_number.ensures) }
