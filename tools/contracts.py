@@ -4,7 +4,7 @@ from dataclasses import dataclass
 from pathlib import Path
 
 HEAD = re.compile(
-    r'(?P<public>\bpub\s+)?(?P<kind>(?:\b(?:const|unsafe|extern(?:\s+"[^"]*")?)\s+)*)'
+    r'(?P<public>\bpub(?P<within>\([^)]*\))?\s+)?(?P<kind>(?:\b(?:const|unsafe|extern(?:\s+"[^"]*")?)\s+)*)'
     r"\bfn\s+(?P<name>\w+)\s*(?:<(?:[^<>()]|\([^()]*\)|(?<=-)>|<[^<>]*>)*>)?\s*\("
 )
 CLAUSE = re.compile(r"^\s*(?P<kind>requires|ensures)\b(?P<text>.*?)(?=^\s*(?:requires|ensures)\b|\Z)", re.M | re.S)
@@ -17,7 +17,8 @@ class Function:
     path: Path
     line: int
     name: str
-    public: bool
+    public: bool  # to other crates
+    shared: bool  # within its own
     exported: bool
     parameters: str
     answer: str  # its type, or nothing
@@ -63,7 +64,8 @@ def functions_in(path):
             path=path,
             line=text.count("\n", 0, found.start()) + 1,
             name=found["name"],
-            public=bool(found["public"]),
+            public=bool(found["public"]) and not found["within"],
+            shared=bool(found["within"]),
             exported="extern" in found["kind"],
             parameters=text[found.end() : closes],
             answer=" ".join(said[: CLAUSE.search(said).start() if clauses else None].replace("->", "").split()),
