@@ -62,6 +62,11 @@ slid_over from end to until u long slid =
       above = λ k h. slid.2 k 0 (omega arith);
     }
 
+-- groups of one size leave it where it stands
+pub slid_still : (xs : List ℕ) (from to until : ℕ) → from ≡ to → Filled (slid_at xs from to) to until xs xs
+slid_still xs from to until e =
+    record { long = refl; inside = λ k h i. ap (λ (n : ℕ). get_or xs n 0) (omega arith); below = λ k h. refl; above = λ k h. refl }
+
 -- what a group leaves at a place of it is what stood at a place of its own, turned where the verb flips it
 of_two : (xs : List ℕ) (at k p q n : ℕ) → (k ≡ at → p ≡ n) → ((k ≡ at → ⊥) → q ≡ n) → held_at (get_or xs p 0, get_or xs q 0) at k ≡ get_or xs n 0
 of_two xs at k p q n first second =

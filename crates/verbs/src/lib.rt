@@ -99,7 +99,9 @@ fn exchange(part: &mut [u16], end: usize, left: Group, right: Group)
     let right_size = size_of(right);
     let first = lift(part, 0, left);
     let last = lift(part, end - right_size, right);
-    part.copy_within(left_size..end - right_size, right_size);
+    if left_size != right_size {
+        part.copy_within(left_size..end - right_size, right_size);
+    }
     put(part, 0, right_size, last);
     put(part, end - left_size, left_size, first);
 }
