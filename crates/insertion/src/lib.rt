@@ -463,6 +463,7 @@ fn list_at(bytes: &[u8], insertion: Insertion) -> &[u8]
 // An insertion, made on the line; the used length afterwards.
 // kept: C lends a line slice by slice (`aat_insertion_pass`), and so it stands in the work of every crate.
 #[tactic(auto, using(crate::proofs::Edits::put_part, crate::proofs::Edits::part_half))]
+#[inline(always)]
 fn put(
     bytes: &[u8],
     glyphs: &mut [u16],

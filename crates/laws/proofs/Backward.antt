@@ -1,6 +1,6 @@
 -- Laws of `backward`: what stands where.
 use Prim.Native.Nat.{ℕ, suc, ◌-◌, ◌<◌, ◌≤◌}
-use mathlib.Core.Path.{◌≡◌, ◌∙◌, sym, ap}
+use mathlib.Core.Path.{◌≡◌, refl, ◌∙◌, sym, ap}
 use mathlib.Core.List.{List, [], ◌∷◌, reverse, reverse-cons}
 use mathlib.Core.Logic.{⊎_elim}
 use native.Mathlib.Nat.{not-suc-le-zero}
@@ -46,3 +46,8 @@ module _ {A : Type 0} (d : A) where
     backward_outside i h =
         get_d_behind (reverse (take n xs)) (drop n xs) d i (rw front h)
         ∙ rw front (get_or-drop n xs (i - n) d ∙ ap (λ (k : ℕ). get_or xs k d) (omega arith))
+
+-- none of them to turn
+pub backward_none : {A : Type 0} (n : ℕ) (xs : List A) → n ≡ 0 → xs ≡ backward n xs
+unfolding backward
+backward_none n xs e = rw e refl

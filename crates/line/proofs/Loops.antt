@@ -1,13 +1,13 @@
 -- The loops of the edits: what each turn leaves, and what is reached at the end.
-use Prim.Native.Nat.{ℕ, suc, ◌+◌, ◌-◌, ◌*◌, ◌/◌, ◌<◌, ◌≤◌, min}
-use mathlib.Core.Path.{◌≡◌, refl, ◌∙◌, sym, ap}
-use mathlib.Core.List.{List, reverse, ◌∷◌, ◌++◌, append-nil, append_assoc}
+use Prim.Native.Nat.{ℕ, zero, suc, ◌+◌, ◌-◌, ◌*◌, ◌/◌, ◌<◌, ◌≤◌, min}
+use mathlib.Core.Path.{◌≡◌, refl, ◌∙◌, sym, ap, ap₂}
+use mathlib.Core.List.{List, [], reverse, ◌∷◌, ◌++◌, append-nil, append_assoc}
 use mathlib.Core.Logic.{⊎_elim}
-use native.Mathlib.Nat.{zero-add}
+use native.Mathlib.Nat.{zero-add, suc-add}
 use native.Mathlib.Numerals.{add-one}
 use native.Mathlib.Omega.{arith}
 use lib.ListN.{length, get_or, take, drop, set, length-set, drop_of_length-le}
-use lib.Seq.{take-length, drop-length, take-take, drop-cons, get_or-set_same, get_or-set_other, get_or-drop, ext_get_or, take-append-le, drop_at, length-take-le, paste, paste-zero, paste-suc, slice}
+use lib.Seq.{take-nil, drop-nil, take-length, drop-length, take-take, drop-cons, get_or-set_same, get_or-set_other, get_or-drop, ext_get_or, take-append-le, drop_at, length-take-le, paste, paste-zero, paste-suc, slice}
 use Rattle.std.specs.List.{copy_within}
 use Rattle.std.proofs.lemmas.List.{drop-take}
 use borrow.Rule.Slice.PartMut.{mid_of, put_mid}
@@ -16,6 +16,7 @@ use Rattle.laws.specs.Choose.{if_eq}
 use Rattle.laws.proofs.Backward.{length-backward, backward-inside, backward_outside}
 use Rattle.laws.proofs.Lists.{length-tab, get_d_tab, get_d_behind}
 use Rattle.laws.proofs.Numbers.{lt-or-ge, eq-or-ne}
+use Rattle.laws.proofs.Parts.{part_is, part_put}
 use Rattle.parse.specs.Reads.{u16_at}
 use Rattle.line.specs.Steps.{raised}
 use Rattle.line.specs.Changes.{numbers_from, rehomed, spliced, emptied, handed, emptied_all, handed_all, glyphs_of}
@@ -97,13 +98,38 @@ rehome_done before from to p h =
     ∙ paste_over before (rehomed from to before) (length-rehomed from to before)
 
 -- what stands from a place to the used length, moved up
-raised_within : (at used count : ℕ) (xs : List ℕ) → at ≤ used → copy_within xs at used (at + count) ≡ raised at used count xs
+pub raised_within : (at used count : ℕ) (xs : List ℕ) → at ≤ used → copy_within xs at used (at + count) ≡ raised at used count xs
 unfolding raised
 raised_within at used count xs h =
     let e : at + (used - at) ≡ used = omega arith in
     let end : at + count + (used - at) ≡ used + count = omega arith in
     let middle : slice at used xs ≡ take (used - at) (drop at xs) = rw e at (drop-take at (used - at) xs) in
     rw (end, ← middle)
+
+-- the same in a part that begins at the place
+raised-behind : (at rest count : ℕ) (xs : List ℕ) → take at xs ++ raised 0 rest count (drop at xs) ≡ raised at (at + rest) count xs
+unfolding raised
+raised-behind zero rest count xs = rw (zero-add rest)
+raised-behind (suc at) rest count [] =
+    rw (
+      take-nil {A = ℕ} (0 + count),
+      take-nil {A = ℕ} (suc at + count),
+      take-nil {A = ℕ} rest,
+      take-nil {A = ℕ} (suc at + rest),
+      drop-nil {A = ℕ} (rest + count),
+      drop-nil {A = ℕ} (suc at + rest + count),
+    )
+raised-behind (suc at) rest count (x ∷ xs) =
+    rw (suc-add at rest, suc-add at count, suc-add (at + rest) count) (ap (λ (z : List ℕ). x ∷ z) (raised-behind at rest count xs))
+
+pub raised_part : (at used : ℕ) (xs : List ℕ) {count : ℕ} {part : List ℕ} → at ≤ used → count ≡ 1
+    → part ≡ raised 0 (used - at) 1 (mid_of at (length xs - at) xs) → put_mid at (length xs - at) xs part ≡ raised at used count xs
+raised_part at used xs {count} {part} h one e =
+    let all : at + (used - at) ≡ used = omega arith in
+    part_put at xs part
+    ∙ ap (λ (z : List ℕ). take at xs ++ z) (e ∙ ap (raised 0 (used - at) 1) (part_is at xs))
+    ∙ raised-behind at (used - at) 1 xs
+    ∙ ap₂ (λ (end n : ℕ). raised at end n xs) all (sym one)
 
 -- the gap filled: the insertion
 pub raised_filled : (at used : ℕ) (new xs : List ℕ) → at ≤ used → used + length new ≤ length xs
@@ -124,9 +150,8 @@ raised_filled at used new xs inside fits =
     (sym (append_assoc (take at xs ++ new) (slice at used xs) (drop (used + n) xs)))
 
 pub filled : (at used : ℕ) (new xs : List ℕ) {place count : ℕ} {wide after : List ℕ} → place ≡ min at used → length new ≡ count
-    → used + count ≤ length xs → wide ≡ copy_within xs place used (place + count) → after ≡ paste wide place new count → after ≡ spliced (min at used) used new xs
-filled at used new xs p n fits r q =
-    q ∙ rw (r, ← n, p, raised_within (min at used) used (length new) xs (omega arith)) (raised_filled (min at used) used new xs (omega arith) (omega arith))
+    → used + count ≤ length xs → wide ≡ raised place used count xs → after ≡ paste wide place new count → after ≡ spliced (min at used) used new xs
+filled at used new xs p n fits r q = q ∙ rw (r, ← n, p) (raised_filled (min at used) used new xs (omega arith) (omega arith))
 
 -- the first n turned round
 pub turned_part : (n : ℕ) (xs : List ℕ) → put_mid 0 n xs (reverse (mid_of 0 n xs)) ≡ backward n xs

@@ -5,6 +5,7 @@ ghost use Rattle.answers.specs.Limits.{room_limit};
 ghost use Rattle.laws.specs.Backward.{backward};
 ghost use Rattle.line.specs.Edits.{width_of};
 ghost use Rattle.line.specs.Changes.{windowed, spliced, numbers_from, written, emptied, rehomed, handed, joined_glyphs, joined_homes, glyphs_of};
+ghost use Rattle.line.specs.Steps.{raised};
 
 // The glyph of a place whose characters a ligature has taken.
 const DELETED: u16 = 0xFFFF;
@@ -21,14 +22,30 @@ pub fn write(glyphs: &mut [u16], used: usize, at: usize, glyph: u16)
 }
 
 // Turns the used part of the line round.
-#[tactic(auto, using(crate::proofs::Loops::turned_part))]
+#[tactic(auto, using(crate::proofs::Loops::turned_part, laws::proofs::Backward::backward_none))]
 pub fn reverse(glyphs: &mut [u16], tags: &mut [u16], used: usize)
     requires { (used ≤ length glyphs.old) × (used ≤ length tags.old) }
     ensures glyphs { glyphs.new ≡ backward used glyphs.old }
     ensures tags { tags.new ≡ backward used tags.old }
 {
+    if used == 0 {
+        return;
+    }
     glyphs[..used].reverse();
     tags[..used].reverse();
+}
+
+// What stands from `at` to the used length moves up `count` places. Where the distance is fixed and the moved ones begin the slice, compilers
+// make one move of memory of it.
+fn raise(part: &mut [u16], at: usize, used: usize, count: usize)
+    requires { (at ≤ used) × (used + count ≤ length part.old) }
+    ensures { part.new ≡ raised at used count part.old }
+{
+    if count == 1 {
+        part[at..].copy_within(..used - at, 1);
+    } else {
+        part.copy_within(at..used, at + count);
+    }
 }
 
 // Writes `count` numbers from `first` up, in order.
@@ -67,9 +84,9 @@ pub fn insert(glyphs: &mut [u16], tags: &mut [u16], used: usize, at: usize, new:
         return used;
     }
     let place = at.min(used);
-    glyphs.copy_within(place..used, place + count);
+    raise(glyphs, place, used, count);
     put(glyphs, place, new);
-    tags.copy_within(place..used, place + count);
+    raise(tags, place, used, count);
     number(tags, place, used, count);
     used + count
 }
