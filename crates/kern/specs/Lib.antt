@@ -1,4 +1,5 @@
 -- The kern table.
+pub mod Ends
 pub mod Heads
 pub mod Kern
 pub mod Manual

@@ -12,6 +12,7 @@ ghost use Rattle.kerning_lists.specs.Walk.{walk_answer, visited, heads_from};
 ghost use Rattle.kerning_lists.specs.Run.{contribution, contributions, used_part};
 ghost use Rattle.kern.specs.Heads.{old_subtable, new_subtable, list_of};
 ghost use Rattle.kern.specs.Kern.{kern};
+ghost use Rattle.kern.specs.Ends.{no_head};
 
 use answers::{Answer, Refusal};
 use kerning::choices::Choices;
@@ -58,6 +59,8 @@ struct Kern;
 
 impl Lists for Kern {
     ghost family = { kern };
+
+    ghost no_head = { no_head };
 
     #[tactic(auto, unfolding(crate::specs::Heads::list_of))]
     fn list_of(bytes: &[u8]) -> ListHead {

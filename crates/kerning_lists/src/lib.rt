@@ -2,7 +2,7 @@
 // subtables' own work.
 #![tactic(auto)]
 
-ghost use Rattle.std.specs.Prelude.{◌≡◌, ◌<◌, ◌≤◌, ◌^◌, length};
+ghost use Rattle.std.specs.Prelude.{◌≡◌, ◌<◌, ◌≤◌, ◌^◌, ℕ, Bool, [], None, length};
 ghost use Rattle.laws.specs.Backward.{backward};
 ghost use Rattle.answers.specs.Limits.{room_limit};
 ghost use Rattle.answers.specs.Refuse.{refuse};
@@ -61,6 +61,9 @@ pub struct Run {
 // What each of the two tables says for itself of its lists.
 pub trait Lists {
     ghost family: { Family };
+
+    // No bytes have no head.
+    ghost no_head: { (rtl : Bool) (version at : ℕ) → family.head_in rtl version at [] ≡ None };
 
     // The list at the start of a table's bytes.
     fn list_of(bytes: &[u8]) -> ListHead
@@ -122,10 +125,13 @@ pub fn list_bytes(table: &[u8], start: usize) -> &[u8]
     }
 }
 
-// The head at a place of the list.
+// The head at a place of the list. Past the end a branch says so: as the shorter of two lengths the place would wait for the head before it.
 pub fn head_at<T: Lists>(rtl: bool, bytes: &[u8], version: u16, at: usize) -> Option<Subtable>
     ensures { result ≡ head_at T.family rtl bytes.now version at }
 {
+    if bytes.len() <= at {
+        return None;
+    }
     T::head_in(rtl, version, at, parse::from(bytes, at))
 }
 
@@ -294,11 +300,14 @@ pub fn zero(along: &mut [i64])
 }
 
 // Turns the used adjustments round.
-#[tactic(auto, unfolding(laws::specs::Backward::backward))]
+#[tactic(auto, using(laws::proofs::Backward::backward_none), unfolding(laws::specs::Backward::backward))]
 pub fn turn(along: &mut [i64], used: usize)
     requires { used ≤ length along.old }
     ensures { along.new ≡ backward used along.old }
 {
+    if used == 0 {
+        return;
+    }
     along[..used].reverse();
 }
 

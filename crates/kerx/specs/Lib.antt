@@ -1,4 +1,5 @@
 -- The kerx table.
+pub mod Ends
 pub mod Heads
 pub mod Kerx
 pub mod Anchored

@@ -21,6 +21,7 @@ ghost use Rattle.kerx.specs.Indexed.{refuse_pairs, refuse_unindexed, machine_tes
 ghost use Rattle.kerx.specs.Lent.{Lent, visited_by, list_marks};
 ghost use Rattle.kerx.specs.Heads.{should_reverse, subtable_of, list_of};
 ghost use Rattle.kerx.specs.Kerx.{worked, kerx};
+ghost use Rattle.kerx.specs.Ends.{no_head};
 
 use anchor_machine::{AnchorState, AnchorStep, Anchoring};
 use answers::{Answer, Refusal};
@@ -73,6 +74,8 @@ struct Kerx;
 
 impl Lists for Kerx {
     ghost family = { kerx };
+
+    ghost no_head = { no_head };
 
     #[tactic(auto, unfolding(crate::specs::Heads::list_of))]
     fn list_of(bytes: &[u8]) -> ListHead {
