@@ -61,14 +61,21 @@ fn substitute_of(bytes: &[u8], number: u16, glyph: u16) -> Option<u16>
     }
     let list = parse::read_u32(bytes, 16)? as usize;
     let offset = parse::read_u32(bytes, list + number as usize * 4)? as usize;
-    lookup::lookup_at(parse::from(bytes, list + offset), glyph).ok()
+    // kept: by `ok` here and `unwrap_or` below the next lookup waits for what this one found, and entries that don't advance take twice as long.
+    let Ok(found) = lookup::lookup_at(parse::from(bytes, list + offset), glyph) else {
+        return None;
+    };
+    Some(found)
 }
 
 // The glyph of a place after its substitution.
 fn glyph_after(substitute: Option<u16>, was: u16) -> u16
     ensures { result ≡ glyph_after substitute was }
 {
-    substitute.unwrap_or(was)
+    let Some(glyph) = substitute else {
+        return was;
+    };
+    glyph
 }
 
 // The current glyph after the mark's substitution, which meets it where the mark is the step's own place.
