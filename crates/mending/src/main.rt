@@ -1,11 +1,12 @@
 // The mending as a program: reads a lookup table from standard input, mends it and prints what became of its records, and the new table.
 #![tactic(auto)]
 
-ghost use Rattle.std.specs.Prelude.{◌≤◌, length, IfOk};
+ghost use Rattle.std.specs.Prelude.{◌≤◌, length, IfOk, Some};
+ghost use Rattle.mending.specs.Hex.{text_of};
 
 use answers::{Answer, TABLE_LIMIT};
-use std::io;
 use std::io::Read;
+use std::{fmt, io};
 
 // The most records that a table counts.
 const MOST_RECORDS: usize = 65_535;
@@ -44,13 +45,22 @@ fn print_records(rt: &impl Print, numbers: &[u16]) -> io::Result<()> {
     Ok(())
 }
 
-// The new table in hex, on one line.
-fn print_table(rt: &impl Print, bytes: &[u8]) -> io::Result<()> {
-    for (index, word) in bytes.chunks_exact(2).enumerate() {
-        let separator = if index == 0 { "" } else { " " };
-        print!(rt; "{separator}{:02X}{:02X}", word[0], word[1])?;
+// A table in hex, on one line. It is printed as one value, since what is printed by words goes out by words.
+#[derive(Clone, Copy)]
+struct TableText<'a> {
+    bytes: &'a [u8],
+}
+
+impl<'a> fmt::Display for TableText<'a> {
+    ghost output = { λ table. Some (text_of table) };
+
+    fn fmt<W: fmt::Write>(&self, f: &mut fmt::Formatter<W>) -> fmt::Result {
+        for (index, word) in self.bytes.chunks_exact(2).enumerate() {
+            let separator = if index == 0 { "" } else { " " };
+            write!(f, "{separator}{:02X}{:02X}", word[0], word[1])?;
+        }
+        Ok(())
     }
-    println!(rt)
 }
 
 // How many bytes more there are, up to a part.
@@ -89,7 +99,10 @@ fn mend_table(rt: &impl Print, table: &[u8]) -> io::Result<()> {
     };
     let records = parse::read_u16(table, 4).unwrap_or(0);
     print_records(rt, &numbers[..records as usize])?;
-    print_table(rt, &buffer[..size.min(MOST_BYTES)])
+    let mended = TableText {
+        bytes: &buffer[..size.min(MOST_BYTES)],
+    };
+    println!(rt; "{mended}")
 }
 
 fn main(rt: HostRuntime) -> io::Result<()> {

@@ -1,0 +1,2 @@
+-- How a table is printed.
+pub mod Hex
