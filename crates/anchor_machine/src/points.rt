@@ -1,7 +1,8 @@
 // Where the points of glyphs are found: by the table itself, for a lone step, or by one that is opened once, for a pass.
 ghost use Rattle.std.specs.Prelude.{◌≡◌, List, ℕ};
 ghost use Rattle.tables.specs.declared.units.Reading.{Reading};
-ghost use Rattle.anchors.specs.Opened.{anchors_of, part_of, Placed};
+ghost use Rattle.anchors.specs.Anchors.{points_of};
+ghost use Rattle.anchors.specs.Opened.{anchors_of, part_of, place_of, Placed};
 ghost use Rattle.anchor_machine.specs.Machine.{written_by};
 ghost use Rattle.anchor_machine.specs.declared.Numbers.TheVariants.{At};
 
@@ -79,14 +80,19 @@ pub struct Opened<'a> {
 #[tactic(auto, using(anchors::proofs::Openings::placed))]
 fn place_of(reading: Reading, ankr: &[u8], anchors: Anchors, glyph: u16) -> usize
     requires { anchors ≡ anchors_of reading ankr.now }
-    ensures { Placed reading ankr.now glyph result }
+    ensures place { result ≡ place_of (points_of reading ankr.now glyph) }
+    ensures placed { Placed reading ankr.now glyph result }
 {
     opened::place_in(reading, ankr, anchors, glyph)
 }
 
 impl<'a> Opened<'a> {
     pub(crate) fn new(reading: Reading, ankr: &'a [u8]) -> Opened<'a>
-        ensures { (result.ankr.now ≡ ankr.now) × (result.reading ≡ reading) }
+        ensures ankr { result.ankr.now ≡ ankr.now }
+        ensures part { result.part.now ≡ part_of ankr.now }
+        ensures reading { result.reading ≡ reading }
+        ensures anchors { result.anchors ≡ anchors_of reading ankr.now }
+        ensures kept { (result.kept.glyph ≡ 0) × (result.kept.place ≡ place_of (points_of reading ankr.now 0)) }
     {
         let anchors = opened::open(reading, ankr);
         Opened {
@@ -118,8 +124,9 @@ impl<'a> Points for Opened<'a> {
     ) -> Option<Written> {
         let back = index.saturating_sub(state.mark);
         if let Anchors::Words { origin, array } = self.anchors {
-            let marked = opened::point_in(self.ankr, self.part, origin, array, state.glyph, mark);
-            let here = opened::point_in(self.ankr, self.part, origin, array, glyph, current);
+            let words = Some(array);
+            let marked = opened::point_in(self.ankr, self.part, origin, words, state.glyph, mark);
+            let here = opened::point_in(self.ankr, self.part, origin, words, glyph, current);
             return crate::offset(marked, here, back);
         }
         if self.kept.glyph != state.glyph as usize {

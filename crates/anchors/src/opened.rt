@@ -91,13 +91,13 @@ pub fn point_in(
     ankr: &[u8],
     part: &[u8],
     origin: u32,
-    array: Array,
+    opened: Option<Array>,
     glyph: u16,
     number: u16,
 ) -> Option<Point>
-    requires { LiesIn part.now (Some array) }
-    ensures { result ≡ point_by ankr.now origin number (found_in part.now (Some array) glyph) }
+    requires { LiesIn part.now opened }
+    ensures { result ≡ point_by ankr.now origin number (found_in part.now opened glyph) }
 {
-    let begins = opened::found_in(part, Some(array), glyph).ok()?;
+    let begins = opened::found_in(part, opened, glyph).ok()?;
     point_from(ankr, begins as usize + origin as usize + 4, number)
 }

@@ -8,8 +8,8 @@ pub loop-place-init : goal.loop-place-init
 loop-place-init c =
     record {
       going = going_start _ _ _ _ _ _ _ _ _ c.open-opened.ensures c.nothing_found-memo.ensures c.new-state.ensures;
-      table = c.new-points.ensures.0;
-      reading = c.new-points.ensures.1;
+      table = c.new-points.ensures.ankr;
+      reading = c.new-points.ensures.reading;
     }
 
 pub class_by-class-requires : goal.class_by-class-requires
