@@ -1,6 +1,9 @@
 // A line as the programs print it: its length, glyph and tag of each place, and the home of each character.
 #![tactic(auto)]
 
+ghost use Rattle.std.specs.Prelude.{Some};
+ghost use Rattle.printed.specs.Printed.{text_of};
+
 use std::fmt;
 
 // The first `used` places and the first `characters` homes of what is lent.
@@ -14,6 +17,8 @@ pub struct LineText<'a> {
 }
 
 impl<'a> fmt::Display for LineText<'a> {
+    ghost output = { λ line. Some (text_of line) };
+
     fn fmt<W: fmt::Write>(&self, f: &mut fmt::Formatter<W>) -> fmt::Result {
         writeln!(f, "length {}", self.used)?;
         let places = self.glyphs.iter().zip(self.tags.iter()).take(self.used);

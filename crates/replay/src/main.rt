@@ -3,7 +3,7 @@
 
 mod results;
 
-ghost use Rattle.std.specs.Prelude.{◌≤◌, length, IfOk};
+ghost use Rattle.std.specs.Prelude.{◌≡◌, ◌≤◌, length, if◌then◌else◌, IfOk};
 
 use answers::Refusal;
 use shaper::SHAPER_ROOM;
@@ -31,6 +31,10 @@ enum Case {
 }
 
 impl From<bool> for Case {
+    ghost use Rattle.replay.specs.declared.Case.TheVariants.{Same, Differs};
+
+    ghost from_gives = { λ same case. case ≡ (if same then Same else Differs) };
+
     fn from(same: bool) -> Case {
         if same { Case::Same } else { Case::Differs }
     }
@@ -45,6 +49,11 @@ struct Numbers {
 }
 
 impl From<Refusal> for Numbers {
+    ghost use Rattle.answers.specs.Numbers.{number_of};
+    ghost use Rattle.answers.specs.declared.Answer.TheVariants.{Refused};
+
+    ghost from_gives = { λ why numbers. (numbers.answer ≡ number_of (Refused why)) × (numbers.first ≡ 0) × (numbers.second ≡ 0) };
+
     fn from(why: Refusal) -> Numbers {
         Numbers {
             answer: u32::from(why),

@@ -59,6 +59,8 @@ pub fn stride_of(kind: Kind) -> u16
 
 // The format by its number.
 impl From<u16> for Format {
+    ghost from_gives = { λ number format. format ≡ format_of number };
+
     #[tactic(auto, unfolding(crate::specs::Records::format_of))]
     fn from(number: u16) -> Format
         ensures { result ≡ format_of number }

@@ -1,0 +1,2 @@
+-- How a line is printed.
+pub mod Printed
