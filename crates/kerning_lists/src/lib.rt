@@ -301,6 +301,7 @@ pub fn zero(along: &mut [i64])
 
 // Turns the used adjustments round.
 #[tactic(auto, using(laws::proofs::Backward::backward_none), unfolding(laws::specs::Backward::backward))]
+#[inline(always)]
 pub fn turn(along: &mut [i64], used: usize)
     requires { used ≤ length along.old }
     ensures { along.new ≡ backward used along.old }

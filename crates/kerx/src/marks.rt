@@ -18,6 +18,7 @@ pub fn zero(x: &mut [i32], y: &mut [i32], back: &mut [u16])
 
 // Turns all three round; each is as long as the used part of the line, or empty.
 #[tactic(auto, using(kerning_lists::proofs::Turns::backward_whole, laws::proofs::Backward::backward_none))]
+#[inline(always)]
 pub fn turn(x: &mut [i32], y: &mut [i32], back: &mut [u16])
     ensures x { x.new ≡ backward (length x.old) x.old }
     ensures y { y.new ≡ backward (length y.old) y.old }

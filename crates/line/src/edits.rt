@@ -23,6 +23,7 @@ pub fn write(glyphs: &mut [u16], used: usize, at: usize, glyph: u16)
 
 // Turns the used part of the line round.
 #[tactic(auto, using(crate::proofs::Loops::turned_part, laws::proofs::Backward::backward_none))]
+#[inline(always)]
 pub fn reverse(glyphs: &mut [u16], tags: &mut [u16], used: usize)
     requires { (used ≤ length glyphs.old) × (used ≤ length tags.old) }
     ensures glyphs { glyphs.new ≡ backward used glyphs.old }
