@@ -16,7 +16,7 @@ ghost use Rattle.kern.specs.Ends.{no_head};
 
 use answers::{Answer, Refusal};
 use kerning::choices::Choices;
-use kerning_lists::{Cursor, ListHead, Lists, NextSubtable, Run, Subtable};
+use kerning_lists::{Cursor, Ends, ListHead, Lists, NextSubtable, Run, Subtable};
 use tables::lookup::Why;
 
 // The old edition's bit for horizontal text, and the new one's for vertical text.
@@ -59,8 +59,6 @@ struct Kern;
 
 impl Lists for Kern {
     ghost family = { kern };
-
-    ghost no_head = { no_head };
 
     #[tactic(auto, unfolding(crate::specs::Heads::list_of))]
     fn list_of(bytes: &[u8]) -> ListHead {
@@ -125,6 +123,10 @@ impl Lists for Kern {
         let opened = pairs::ordered_kern(bytes, kern_machine::head_size(version));
         pairs::reply(bytes, opened, left, right)
     }
+}
+
+impl Ends for Kern {
+    ghost no_head = { no_head };
 }
 
 // The subtables of the list at `start`.

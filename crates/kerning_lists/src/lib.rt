@@ -62,9 +62,6 @@ pub struct Run {
 pub trait Lists {
     ghost family: { Family };
 
-    // No bytes have no head.
-    ghost no_head: { (rtl : Bool) (version at : ℕ) → family.head_in rtl version at [] ≡ None };
-
     // The list at the start of a table's bytes.
     fn list_of(bytes: &[u8]) -> ListHead
         ensures head { result ≡ family.list_of bytes.now }
@@ -101,6 +98,12 @@ pub trait Lists {
         ensures { result ≡ family.pair_by bytes.now version format left right };
 }
 
+// Lists that end with their bytes.
+pub trait Ends: Lists {
+    // No bytes have no head.
+    ghost no_head: { (rtl : Bool) (version at : ℕ) → Self.family.head_in rtl version at [] ≡ None };
+}
+
 // A number of a list's own head, 0 where it can't be read.
 pub fn u16_or_zero(bytes: &[u8], at: usize) -> u16
     ensures { result ≡ u16_or_zero bytes.now at }
@@ -125,12 +128,13 @@ pub fn list_bytes(table: &[u8], start: usize) -> &[u8]
     }
 }
 
-// The head at a place of the list. Past the end a branch says so: as the shorter of two lengths the place would wait for the head before it.
+// The head at a place of the list. Past the end it is that of no bytes, by a branch: as the shorter of two lengths the place would wait for the
+// head before it.
 pub fn head_at<T: Lists>(rtl: bool, bytes: &[u8], version: u16, at: usize) -> Option<Subtable>
     ensures { result ≡ head_at T.family rtl bytes.now version at }
 {
     if bytes.len() <= at {
-        return None;
+        return T::head_in(rtl, version, at, &[]);
     }
     T::head_in(rtl, version, at, parse::from(bytes, at))
 }
@@ -335,3 +339,6 @@ pub fn refuse_run(
     }
     Ok(())
 }
+
+#[cfg(test)]
+mod endless;

@@ -28,7 +28,7 @@ use answers::{Answer, Refusal};
 use kerning::choices::Choices;
 use kerning::heads;
 use kerning::heads::Unready;
-use kerning_lists::{Cursor, ListHead, Lists, NextSubtable, Run, Subtable};
+use kerning_lists::{Cursor, Ends, ListHead, Lists, NextSubtable, Run, Subtable};
 use pairs::PairTable;
 use tables::lookup::Why;
 use tables::units::Reading;
@@ -74,8 +74,6 @@ struct Kerx;
 
 impl Lists for Kerx {
     ghost family = { kerx };
-
-    ghost no_head = { no_head };
 
     #[tactic(auto, unfolding(crate::specs::Heads::list_of))]
     fn list_of(bytes: &[u8]) -> ListHead {
@@ -138,6 +136,10 @@ impl Lists for Kerx {
         };
         pairs::reply(bytes, opened, left, right)
     }
+}
+
+impl Ends for Kerx {
+    ghost no_head = { no_head };
 }
 
 // The subtables of the list at `start`.
