@@ -16,7 +16,7 @@ ghost use Rattle.kern.specs.Ends.{no_head};
 
 use answers::{Answer, Refusal};
 use kerning::choices::Choices;
-use kerning_lists::{Cursor, Ends, ListHead, Lists, NextSubtable, Run, Subtable};
+use kerning_lists::{Cursor, EndsWithBytes, ListHead, Lists, NextSubtable, Run, Subtable};
 use tables::lookup::Why;
 
 // The old edition's bit for horizontal text, and the new one's for vertical text.
@@ -125,7 +125,7 @@ impl Lists for Kern {
     }
 }
 
-impl Ends for Kern {
+impl EndsWithBytes for Kern {
     ghost no_head = { no_head };
 }
 

@@ -47,7 +47,7 @@ impl Lists for Endless {
 // The head of no bytes is the list's to say, whatever list it is.
 #[test]
 fn heads_are_asked_past_the_end(rt: HostRuntime) {
-    for at in [0, 1, 9] {
+    for at in [1, 9, usize::MAX] {
         let head = head_at::<Endless>(false, &[0], 0, at);
         assert_eq!(rt; head.map(|subtable| subtable.body), Some(at));
     }

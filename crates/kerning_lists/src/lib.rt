@@ -98,9 +98,8 @@ pub trait Lists {
         ensures { result ≡ family.pair_by bytes.now version format left right };
 }
 
-// Lists that end with their bytes.
-pub trait Ends: Lists {
-    // No bytes have no head.
+// Lists that end with their bytes: no bytes have no head.
+pub trait EndsWithBytes: Lists {
     ghost no_head: { (rtl : Bool) (version at : ℕ) → Self.family.head_in rtl version at [] ≡ None };
 }
 
@@ -128,8 +127,8 @@ pub fn list_bytes(table: &[u8], start: usize) -> &[u8]
     }
 }
 
-// The head at a place of the list. Past the end it is that of no bytes, by a branch: as the shorter of two lengths the place would wait for the
-// head before it.
+// The head at a place of the list; past the end, that of no bytes. A branch says which: the shorter of two lengths would have each place wait for
+// the head before it.
 pub fn head_at<T: Lists>(rtl: bool, bytes: &[u8], version: u16, at: usize) -> Option<Subtable>
     ensures { result ≡ head_at T.family rtl bytes.now version at }
 {

@@ -28,7 +28,7 @@ use answers::{Answer, Refusal};
 use kerning::choices::Choices;
 use kerning::heads;
 use kerning::heads::Unready;
-use kerning_lists::{Cursor, Ends, ListHead, Lists, NextSubtable, Run, Subtable};
+use kerning_lists::{Cursor, EndsWithBytes, ListHead, Lists, NextSubtable, Run, Subtable};
 use pairs::PairTable;
 use tables::lookup::Why;
 use tables::units::Reading;
@@ -138,7 +138,7 @@ impl Lists for Kerx {
     }
 }
 
-impl Ends for Kerx {
+impl EndsWithBytes for Kerx {
     ghost no_head = { no_head };
 }
 
